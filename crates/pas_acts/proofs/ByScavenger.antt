@@ -20,10 +20,9 @@ use Rattle.pas_steps.proofs.SpareRoom.{Spares}
 use Rattle.pas_steps.proofs.Parts.{part_of_own, part_of_others}
 use Rattle.pas_scavenger.specs.Passes.{PassSteps}
 use Rattle.pas_trace.specs.declared.plan.What.TheVariants.{Stop}
-use Rattle.pas_report.specs.Rooms.{records_in, room_of}
+use Rattle.pas_report.specs.Rooms.{records_in, room_of, Records}
 use Rattle.pas_report.specs.declared.record.Record.{Record}
 use Rattle.pas_report.specs.declared.record.Said.{Said}
-use Rattle.pas_report.specs.declared.records.Records.{Records}
 use Rattle.pas_cache.specs.Caches.{Cached, AtRest}
 use Rattle.pas_passes.specs.Answers.{AnswersTick, AnswersPass}
 use Rattle.pas_passes.specs.Records.{record_of, records_of_pass}

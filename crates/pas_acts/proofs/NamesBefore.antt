@@ -16,10 +16,9 @@ use Rattle.pas_answers.specs.Fit.{IsFitWhat, AreFit, IsBelow, AreBelow, cost_of_
 use Rattle.pas_answers.specs.Names.{block_named, names_held}
 use Rattle.pas_answers.specs.Replays.{at_start}
 use Rattle.pas_answers.specs.declared.names.Names.{Names}
-use Rattle.pas_acts.specs.NameBooks.{requests_in, room_for, name_asked, names_asked, names_of, ArePlaced, came_to, known_in, table, NamesAt}
+use Rattle.pas_acts.specs.NameBooks.{requests_in, room_for, name_asked, names_asked, names_of, ArePlaced, came_to, known_in, table, NamesAt, Requests}
 use Rattle.pas_acts.specs.Works.{KnowsNames}
 use Rattle.pas_acts.specs.declared.names.NameBook.{NameBook}
-use Rattle.pas_acts.specs.declared.names.Requests.{Requests}
 use Rattle.pas_acts.proofs.Noting.{is_same, not_before}
 
 -- ---- a phase and the rest

@@ -90,13 +90,11 @@ at_index [] i n d lt = absurd (omega (arith, lt))
 at_index (r ∷ items) zero n d lt = refl
 at_index (r ∷ items) (suc i) n d lt = at_index items i n d (omega (arith, lt))
 
-pub at_named : (items : List Request) (i n : ℕ) (r : Request) → i < length items → r ≡ get_or items i r → r.name ≡ n → Some (name_in r.meaning) ≡ request_at (map named_of items) i n
-at_named items i n r lt is same =
-    sym (at_index items i n r lt ∙ ap (λ (x : Request). if x.name == n then Some (name_in x.meaning) else None) (sym is) ∙ ap (λ (t : Bool). if t then Some (name_in r.meaning) else None) (eq-eqb r.name n same))
+pub at_named : (items : List Request) (i n : ℕ) (d : Request) → i < length items → (get_or items i d).name ≡ n → Some (name_in (get_or items i d).meaning) ≡ request_at (map named_of items) i n
+at_named items i n d lt same = sym (at_index items i n d lt ∙ ap (λ (t : Bool). if t then Some (name_in (get_or items i d).meaning) else None) (eq-eqb (get_or items i d).name n same))
 
-pub at_other : (items : List Request) (i n : ℕ) (r : Request) → i < length items → r ≡ get_or items i r → (r.name ≡ n → ⊥) → None ≡ request_at (map named_of items) i n
-at_other items i n r lt is other =
-    sym (at_index items i n r lt ∙ ap (λ (x : Request). if x.name == n then Some (name_in x.meaning) else None) (sym is) ∙ ap (λ (t : Bool). if t then Some (name_in r.meaning) else None) (ne_eqb r.name n other))
+pub at_other : (items : List Request) (i n : ℕ) (d : Request) → i < length items → ((get_or items i d).name ≡ n → ⊥) → None ≡ request_at (map named_of items) i n
+at_other items i n d lt other = sym (at_index items i n d lt ∙ ap (λ (t : Bool). if t then Some (name_in (get_or items i d).meaning) else None) (ne_eqb (get_or items i d).name n other))
 
 pub at_past : (items : List Request) (i n : ℕ) → length items ≤ i → request_at (map named_of items) i n ≡ None
 at_past [] i n le = refl

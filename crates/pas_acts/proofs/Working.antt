@@ -14,9 +14,8 @@ use Rattle.pas_steps.proofs.Parts.{part_of_own}
 use Rattle.pas_trace.specs.EveryPlan.{asked_after}
 use Rattle.pas_trace.specs.declared.plan.Op.{Op}
 use Rattle.pas_trace.specs.declared.plan.What.{What}
-use Rattle.pas_report.specs.Rooms.{records_in, room_of}
+use Rattle.pas_report.specs.Rooms.{records_in, room_of, Records}
 use Rattle.pas_report.specs.declared.record.Record.{Record}
-use Rattle.pas_report.specs.declared.records.Records.{Records}
 use Rattle.pas_cache.specs.Caches.{Cached, AtRest}
 use Rattle.pas_answers.specs.Acts.{Act, Operates, Settles, own_acts}
 use Rattle.pas_answers.specs.Answers.{having, Answer, answer_of, Progress, with_records, Named, settled, after_answer, after_settling, IsAnswered, records_of, said_by}

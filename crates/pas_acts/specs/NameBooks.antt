@@ -3,6 +3,7 @@
 use Rattle.std.specs.Prelude.{ℕ, zero, suc, ◌+◌, ◌<◌, ◌≡◌, ◌==◌, if◌then◌else◌, List, [], ◌∷◌, ◌++◌, map, slice_index_or, Option, None, Some}
 use Rattle.pas_profile.specs.declared.profile.Profile.{Profile}
 use Rattle.pas_profile.specs.declared.name.Name.{Name}
+use Rattle.pas_profile.specs.Rooms.{Holding}
 use Rattle.pas_trace.specs.EveryPlan.{AreSound}
 use Rattle.pas_trace.specs.declared.plan.What.{What}
 use Rattle.pas_trace.specs.declared.plan.Op.{Op}
@@ -14,16 +15,18 @@ use Rattle.pas_answers.specs.Fit.{AreBelow}
 use Rattle.pas_answers.specs.Names.{name_in, block_named, names_held}
 use Rattle.pas_acts.specs.declared.names.NameBook.{NameBook}
 use Rattle.pas_acts.specs.declared.names.Request.{Request}
-use Rattle.pas_acts.specs.declared.names.Requests.{Requests}
 
 -- ---- a thread's own requests
 -- the name of a request, with what it came to
 abbrev pub named_of : Request → Named
 named_of r = named r.name (name_in r.meaning)
 
+abbrev pub Requests : Type 0
+Requests = Holding Request
+
 -- the requests in order, and for how many there is room
 abbrev pub requests_in : Requests → List Named
-requests_in requests = map named_of requests.items.items
+requests_in requests = map named_of requests.items
 
 abbrev pub room_for : Requests → ℕ
 room_for requests = requests.bound

@@ -1,27 +1,21 @@
 //! What the names of a trace stand for in a phase: kept once, for all threads, but for each thread's own requests.
-ghost use Rattle.std.specs.Prelude.{◌≡◌, ◌≤◌, ◌<◌, ◌^◌, vec_len, vec_capacity};
+ghost use Rattle.std.specs.Prelude.{◌≡◌, ◌<◌, ◌^◌, vec_len};
 ghost use Rattle.pas_answers.specs.Names.{names_held};
 
 use pas_answers::names::{Meaning, Names};
-use pas_profile::{Name, NoMemory};
+use pas_profile::{Name, NoMemory, Room};
 use pas_trace::{Op, What};
 use std::alloc::Global;
 
 /// A request of a thread: its name, and what it came to. 24 bytes.
 #[derive(Clone, Copy, Drop)]
-pub(crate) struct Request {
+pub struct Request {
     name: u32,
     meaning: Meaning,
 }
 
 /// A thread's own requests of a phase, in order. There is room for a fixed number, so that adding one takes no memory.
-#[derive(Drop)]
-pub struct Requests {
-    items: Vec<Request>,
-    bound: usize,
-    ghost reserved: { bound ≤ vec_capacity items },
-    ghost within: { vec_len items ≤ bound },
-}
+pub type Requests = Room<Request>;
 
 /// What the names stood for when the phase began, and for each name that is asked for in the phase its place among those that its thread asks for in
 /// it. All threads of a phase share it. 20 bytes a name.
@@ -59,58 +53,29 @@ impl Counts {
     }
 }
 
-impl Requests {
-    ghost use Rattle.std.specs.Prelude.{◌≡◌, ◌++◌, ◌∷◌, [], IfOk, length};
+impl Request {
+    ghost use Rattle.std.specs.Prelude.{◌≡◌, map};
     ghost use Rattle.pas_answers.specs.Answers.{named};
-    ghost use Rattle.pas_acts.specs.NameBooks.{requests_in, room_for, request_at};
+    ghost use Rattle.pas_acts.specs.NameBooks.{named_of, request_at};
 
-    /// Room for so many requests.
-    pub fn try_new(alloc: Global, bound: usize) -> Result<Requests, NoMemory>
-        ensures empty { IfOk result (λ requests. requests_in requests ≡ []) }
-        ensures room { IfOk result (λ requests. room_for requests ≡ bound) }
+    /// The request of this name, which came to this block.
+    #[inline]
+    pub fn of(name: u32, block: Option<Name>) -> Request
+        ensures { named_of result ≡ named name block }
     {
-        match Vec::with_capacity(alloc, bound) {
-            Ok(items) => Ok(Requests { items, bound }),
-            Err(_) => Err(NoMemory),
+        Request {
+            name,
+            meaning: Meaning::of(block),
         }
-    }
-
-    /// Room as `try_new` gives it, of which the memory for the first `touched` requests, or for all, was touched. One write for each of these.
-    pub fn try_new_touched(
-        alloc: Global,
-        bound: usize,
-        touched: usize,
-    ) -> Result<Requests, NoMemory>
-        ensures empty { IfOk result (λ requests. requests_in requests ≡ []) }
-        ensures room { IfOk result (λ requests. room_for requests ≡ bound) }
-    {
-        let mut requests = Requests::try_new(alloc, bound)?;
-        for _ in 0..bound.min(touched) {
-            requests.push(0, None);
-        }
-        requests.items.clear();
-        Ok(requests)
-    }
-
-    /// Moves this room into the memory of another, where that is large enough. What both held is forgotten, and the memory that is left is let go. Takes no memory.
-    pub fn move_into(&mut self, other: Requests)
-        ensures empty { requests_in self.new ≡ [] }
-        ensures room { room_for self.new ≡ room_for self.old }
-    {
-        let Requests { items, bound: _ } = other;
-        if items.capacity() >= self.bound {
-            self.items = items;
-        }
-        self.items.clear();
     }
 
     /// What the request at this place came to, where it has the name.
     #[inline]
-    fn at(&self, place: usize, name: u32) -> Option<Option<Name>>
-        ensures { result ≡ request_at (requests_in self.now) place name }
+    fn at(requests: &[Request], place: usize, name: u32) -> Option<Option<Name>>
+        ensures { result ≡ request_at (map named_of requests.now) place name }
     {
-        if place < self.items.len() {
-            let request = self.items[place];
+        if place < requests.len() {
+            let request = requests[place];
             if request.name == name {
                 Some(request.meaning.block())
             } else {
@@ -119,19 +84,6 @@ impl Requests {
         } else {
             None
         }
-    }
-
-    /// Adds a request at the end. There must be room for one.
-    #[inline]
-    pub fn push(&mut self, name: u32, block: Option<Name>)
-        requires { length (requests_in self.old) < room_for self.old }
-        ensures added { requests_in self.new ≡ requests_in self.old ++ named name block ∷ [] }
-        ensures room { room_for self.new ≡ room_for self.old }
-    {
-        self.items.push_reserved(Request {
-            name,
-            meaning: Meaning::of(block),
-        });
     }
 }
 
@@ -219,12 +171,13 @@ impl NameBook {
         ensures empty { requests_in requests.new ≡ [] }
         ensures bound { room_for requests.new ≡ room_for requests.old }
     {
-        let count = requests.items.len();
+        let made = requests.as_slice();
+        let count = made.len();
         for done in 0..count {
-            let Request { name, meaning } = requests.items[count - 1 - done];
+            let Request { name, meaning } = made[count - 1 - done];
             self.set_name(name, meaning);
         }
-        requests.items.clear();
+        requests.clear();
     }
 
     /// What the name stands for to the thread with these requests: what its own request came to, or what the book says. Takes one look at its place.
@@ -233,7 +186,7 @@ impl NameBook {
         requires { ArePlaced self.now 0 (names_of (requests_in requests.now)) }
         ensures { result ≡ known_in self.now requests.now name }
     {
-        match requests.at(self.place(name) as usize, name) {
+        match Request::at(requests.as_slice(), self.place(name) as usize, name) {
             Some(block) => block,
             None => self.names.get(name),
         }

@@ -9,7 +9,7 @@ ghost use Rattle.pas_acts.specs.NameBooks.{requests_in, room_for, names_of, name
 ghost use Rattle.pas_acts.specs.Works.{keeps, Later, ThreadAt, Works};
 
 use crate::gate::Gate;
-use crate::names::{NameBook, Requests};
+use crate::names::{NameBook, Request, Requests};
 use pas_answers::answer_meant;
 use pas_cache::ThreadCache;
 use pas_large::NoIndex;
@@ -38,7 +38,7 @@ fn keep(requests: &mut Requests, what: What, came: Option<Name>)
     ensures room { room_for requests.new ≡ room_for requests.old }
 {
     match what {
-        What::Alloc { name, .. } => requests.push(name, came),
+        What::Alloc { name, .. } => requests.push(Request::of(name, came)),
         _ => {}
     }
 }

@@ -2,8 +2,7 @@
 ghost use Rattle.std.specs.Prelude.{◌≡◌, ◌<◌, ℕ, List, [], ◌∷◌, length};
 ghost use Rattle.pas_profile.specs.declared.profile.Profile.{Profile as TheProfile};
 ghost use Rattle.pas_cache.specs.Caches.{cached};
-ghost use Rattle.pas_report.specs.Rooms.{records_in, room_of};
-ghost use Rattle.pas_report.specs.declared.records.Records.{Records as TheRecords};
+ghost use Rattle.pas_report.specs.Rooms.{records_in, room_of, Records as TheRecords};
 ghost use Rattle.pas_utility.specs.Outcomes.{places_of};
 ghost use Rattle.pas_answers.specs.Acts.{Act, Ticks, MakesPass, ReadsEpoch};
 ghost use Rattle.pas_answers.specs.Answers.{Progress};

@@ -11,7 +11,7 @@ use Rattle.pas_steps.specs.declared.step.Made.{Made}
 use Rattle.pas_steps.specs.declared.step.Step.TheVariants.{Tick}
 use Rattle.pas_steps.proofs.Parts.{part_of_own, part_of_others}
 use Rattle.pas_core.specs.Stamps.{AllStamped, AllKeepToEnds}
-use Rattle.pas_core.proofs.StampedEnds.{stamps_are_ends}
+use Rattle.pas_core.proofs.Stamps.{stamps_are_ends}
 use Rattle.pas_report.specs.Lines.{CanShow}
 use Rattle.pas_report.specs.Rests.{AreStamped}
 use Rattle.pas_report.proofs.Showable.{AreOfRegion}
@@ -28,6 +28,7 @@ use Rattle.pas_scavenger.specs.Passes.{passing}
 use Rattle.pas_passes.specs.Records.{records_of_pass}
 use Rattle.pas_answers.specs.Acts.{Act, Operates, Settles, Ticks, MakesPass, ReadsEpoch, StopsIdle, MarksPhase, Wakes, MarksClose, Ends, acts_of}
 use Rattle.pas_answers.specs.Answers.{Progress, having, with_records, records_of, said_by, stopped, epoch_look, IsStopped, after_answer, after_settling, after_wake, after_reading, after_tick, after_pass, after_stop, Follows}
+use Rattle.pas_answers.specs.Refusals.{AreRefusalsTrue}
 use Rattle.pas_answers.specs.Replays.{at_start, phases_of, IsReplay}
 use Rattle.pas_answers.specs.Ways.{Way, IsOneOrder, arranged}
 use Rattle.pas_answers.proofs.Parts.{Each, same_parts, legal_part, of_front, of_rest}
@@ -136,9 +137,10 @@ can_be_shown {way} {plan} {whole} {records} is =
     let said = are_shown way plan.profile (acts_of plan.profile.threads (phases_of plan)) is.told whole is.said is.answers is.one_order is.legal in
     subst (λ (rs : List Record). All CanShow rs) (sym is.records_are) (all_shown (arranged way plan.profile.threads is.said) (each_arranged way plan.profile.threads is.said said))
 
-pub replays : (way : Way) (plan : Plan) (told whole : Whole) (said records : List Record) → IsValid plan.profile → Follows plan.profile (acts_of plan.profile.threads (phases_of plan)) at_start told said
-    → IsOneOrder way told whole → records ≡ arranged way plan.profile.threads said → Legal plan.profile whole → ((k : ℕ) → HasNothing (part k whole)) → IsReplay way plan whole records
-replays way plan told whole said records valid answers one_order records_are legal nothing = record {
+pub replays : (way : Way) (plan : Plan) (told whole : Whole) (said records : List Record) → IsValid plan.profile → (answers : Follows plan.profile (acts_of plan.profile.threads (phases_of plan)) at_start told said)
+    → IsOneOrder way told whole → records ≡ arranged way plan.profile.threads said → Legal plan.profile whole → ((k : ℕ) → HasNothing (part k whole))
+    → AreRefusalsTrue way plan.profile (acts_of plan.profile.threads (phases_of plan)) at_start told said answers → IsReplay way plan whole records
+replays way plan told whole said records valid answers one_order records_are legal nothing refusals = record {
   told = told;
   said = said;
   answers = answers;
@@ -150,4 +152,5 @@ replays way plan told whole said records valid answers one_order records_are leg
   deeds = λ k page d of knows. known_directory plan.profile whole k page d valid legal of knows;
   stamps = stamps_are way plan.profile (acts_of plan.profile.threads (phases_of plan)) told whole said answers one_order legal valid;
   marks = true_marks plan.profile whole valid legal nothing;
+  refusals = refusals;
 }

@@ -4,7 +4,7 @@ use Rattle.pas_profile.specs.declared.name.Name.{Name}
 use Rattle.pas_steps.specs.Desks.{Standing}
 use Rattle.pas_trace.specs.declared.plan.What.{What}
 use Rattle.pas_trace.specs.declared.plan.What.TheVariants.{Free}
-use Rattle.pas_report.specs.declared.records.Records.{Records}
+use Rattle.pas_report.specs.Rooms.{Records}
 use Rattle.pas_cache.specs.Caches.{Cached}
 use Rattle.pas_answers.specs.Answers.{Named, standing_for}
 use Rattle.pas_answers.specs.Names.{block_named, names_held}

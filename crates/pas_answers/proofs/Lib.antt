@@ -8,5 +8,6 @@ pub mod KnownNames
 mod Parts
 mod Shown
 mod Tidy
+pub mod TrueRefusals
 pub mod Consequences
 pub mod SingleActs

@@ -11,10 +11,9 @@ use Rattle.pas_steps.specs.Lists.{Whole}
 use Rattle.pas_steps.specs.Desks.{Standing, triples, CanCall, Adds}
 use Rattle.pas_steps.proofs.Frames.{events_split}
 use Rattle.pas_trace.specs.declared.plan.What.{What}
-use Rattle.pas_report.specs.Rooms.{records_in, room_of}
+use Rattle.pas_report.specs.Rooms.{records_in, room_of, Records}
 use Rattle.pas_report.specs.declared.record.Record.{Record}
 use Rattle.pas_report.specs.declared.record.Said.{Said}
-use Rattle.pas_report.specs.declared.records.Records.{Records}
 use Rattle.pas_cache.specs.Caches.{Cached, AtRest}
 use Rattle.pas_answers.specs.Answers.{records_of, said_by}
 use Rattle.pas_answers.specs.Calls.{PerformsMeant, MayAnswer, AnswersMeant}

@@ -173,6 +173,7 @@ performs_given {σ} {σ'} {answer} c c' name heap size align block call is meant
       calls = call.calls;
       few = λ v rest agreed. given_few σ.seat.profile σ.seat.actor cost c c' call.steps v call.log_is (subst (λ a. MakesAtMost σ.seat.profile (AtRest σ.seat.profile c) (events_for cost a) call.steps) is call.few σ.seat.actor v rest agreed);
       answered = λ v l stood rest names means known. record {
+        rest = rest;
         answer = Ok block;
         serves = subst (λ a. ServesRequest σ.seat.profile (wanted_for σ.seat.profile heap size align) None c c' call.steps a) is call.change;
         kinds = call.kinds;
@@ -204,6 +205,7 @@ performs_refused {σ} {σ'} {answer} c c' name heap size align room call is mean
       calls = call.calls;
       few = λ v rest agreed. refused_few σ.seat.profile σ.seat.actor cost c c' call.steps v (some_cost size) call.log_is (subst (λ a. MakesAtMost σ.seat.profile (AtRest σ.seat.profile c) (events_for cost a) call.steps) is call.few σ.seat.actor v rest agreed);
       answered = λ v l stood rest names means known. record {
+        rest = rest;
         answer = Err room;
         serves = subst (λ a. ServesRequest σ.seat.profile (wanted_for σ.seat.profile heap size align) None c c' call.steps a) is call.change;
         kinds = call.kinds;

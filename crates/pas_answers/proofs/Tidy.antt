@@ -27,7 +27,7 @@ use Rattle.pas_free_log.specs.declared.noting.EndedRun.{EndedRun}
 use Rattle.pas_free_log.specs.Flushes.{Settled, AfterEnd, EntrySteps, EntriesSteps}
 use Rattle.pas_free_log.specs.declared.ending.Outcome.{Outcome}
 use Rattle.pas_free_log.specs.declared.ending.Outcome.TheVariants.{Ended, Refused}
-use Rattle.pas_free_log.proofs.Tries.{not_live}
+use Rattle.pas_free_log.proofs.OneEntry.{not_live, count_some, guess_is, not_ended}
 use Rattle.pas_cache.specs.Caches.{Cached}
 use Rattle.pas_cache.specs.Changes.{EmptiesLog, EmptiesFull}
 use Rattle.pas_steps.specs.Kinds.{Kinds, Only, kind_of, look_kind, is_in, apart, LookEpoch, Putting, Ending, Stamping, Ticking, looking, returning, place_of, unstamping}
@@ -40,8 +40,6 @@ use Rattle.pas_answers.specs.Answers.{Having, Answer, standing_for, IsFreed, IsF
 use Rattle.pas_report.proofs.Showable.{AreOfRegion}
 use Rattle.pas_answers.proofs.Parts.{of_front, of_back}
 use Rattle.pas_profile.proofs.Runs.{to_meet, met_by}
-use Rattle.pas_free_log.proofs.Pages.{count_some}
-use Rattle.pas_free_log.proofs.OneEntry.{guess_is, not_ended}
 
 -- ---- tidy views: all steps kept to ends, and nothing is unstamped
 abbrev pub KeptPart : View → Type 0

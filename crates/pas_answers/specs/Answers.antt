@@ -25,7 +25,7 @@ use Rattle.pas_trace.specs.declared.plan.What.{What}
 use Rattle.pas_trace.specs.declared.plan.What.TheVariants.{Alloc, Free, Raw, Flush, Stop, Tick, Pass, Idle}
 use Rattle.pas_report.specs.declared.record.Record.{Record}
 use Rattle.pas_report.specs.declared.record.Said.{Said}
-use Rattle.pas_cache.specs.Caches.{Cached}
+use Rattle.pas_cache.specs.Caches.{Cached, AtRest}
 use Rattle.pas_cache.specs.Changes.{EmptiesLog, StopsEach}
 use Rattle.pas_steps.specs.Kinds.{Only}
 use Rattle.pas_cache.specs.Kinds.{allocating, releasing}
@@ -134,9 +134,10 @@ RefusalEnds Route.Large d es = AllByRecursion (IsDeedOf d) es
 abbrev pub RequestEnds : ℕ → Wanted → View → List Made → Result Block NoRoom → Type 0
 RequestEnds k wanted v steps served = MatchResult served (IsGiven k wanted v steps) (λ room. RefusalEnds wanted.route wanted.directory (events_by k v steps))
 
--- Actor k's cache serves the request, or refuses it with the evidence of its search. There is no index that names a run of pages for it. Only a flush
--- stamps pages, and none is made. From then on the name stands for the block, or for nothing.
+-- Actor k is at rest with its cache, which serves the request, or refuses it with the evidence of its search. There is no index that names a run of pages for
+-- it. Only a flush stamps pages, and none is made. From then on the name stands for the block, or for nothing.
 pub record IsServed (f : Profile) (k : ℕ) (r : Request) (before : Having) (after : Answer) : Type 0 where
+  pub rest : AtRest f before.cache before.view
   pub answer : Result Block NoRoom
   pub serves : ServesRequest f (wanted_by f r) None before.cache after.cache after.steps answer
   pub kinds : Only allocating after.steps

@@ -1,6 +1,7 @@
 pub mod Acts
 pub mod Answers
 pub mod Ways
+pub mod Refusals
 pub mod Replays
 pub mod Fit
 pub mod Names

@@ -18,6 +18,7 @@ use Rattle.pas_report.specs.declared.record.Record.{Record}
 use Rattle.pas_cache.specs.Caches.{Cached}
 use Rattle.pas_answers.specs.Acts.{acts_of}
 use Rattle.pas_answers.specs.Answers.{Caches, Progress, Follows}
+use Rattle.pas_answers.specs.Refusals.{AreRefusalsTrue}
 use Rattle.pas_answers.specs.Ways.{Way, IsOneOrder, arranged}
 
 -- the phases of a plan, as lists of operations
@@ -40,7 +41,7 @@ at_start = record { names = []; caches = empty_caches; epoch = 0; list = []; rec
 -- steps and cache, which stand in `told` in the order of the acts with their records in `said`. The list has of each actor the same part as `told`, and the records
 -- are those of the pieces, in the order of this way. The list is legal, and at its end all actors have nothing and owe nothing. Its visible events are a run
 -- of the allocator's machine, whose pages have the deeds that the threads know. The stamp of each page is the greatest epoch of an end there, and the
--- marks of the pages are true.
+-- marks of the pages are true. In the order of the text a request was refused only where nothing could serve it, for the true reason.
 pub record IsReplay (way : Way) (plan : Plan) (whole : Whole) (records : List Record) : Type 0 where
   pub told : Whole
   pub said : List Record
@@ -53,6 +54,7 @@ pub record IsReplay (way : Way) (plan : Plan) (whole : Whole) (records : List Re
   pub deeds : (k page : ℕ) (d : Directory) → IsDirectoryOf plan.profile d → KnowsDeed page d (part k whole) → deed_in (visible whole) page ≡ Some d
   pub stamps : AreStamped plan.profile whole
   pub marks : AreTrueMarks plan.profile whole
+  pub refusals : AreRefusalsTrue way plan.profile (acts_of plan.profile.threads (phases_of plan)) at_start told said answers
 
 -- the plan was replayed with these records, and the state has the words after its list
 pub record Shows (way : Way) (plan : Plan) (records : List Record) (state : State) : Type 0 where

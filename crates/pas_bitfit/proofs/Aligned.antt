@@ -13,9 +13,7 @@ sixteens_all : passes_below is_sixteens 4097 ≡ true
 sixteens_all = refl
 
 or_last : (x y z : Bool) → (x || not y || z) ≡ true → x ≡ false → y ≡ true → z ≡ true
-or_last true y z h hx hy = cc
-or_last false true z h hx hy = h
-or_last false false z h hx hy = cc
+or_last x y z h hx hy = grind arith
 
 pub sixteens : (align : ℕ) → IsAlignment align → align % 16 ≡ 0
 sixteens align is =

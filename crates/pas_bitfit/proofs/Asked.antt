@@ -1,5 +1,5 @@
 -- A block of the room and the alignment that were asked for.
-use Rattle.std.proofs.Common.{◌≡◌, ℕ, ◌/◌, ◌%◌, ◌≤◌, Bool, List, Ok, Err, Result, ap, ◌∙◌, arith, MatchResult}
+use Rattle.std.proofs.Common.{◌≡◌, ℕ, ◌%◌, ◌≤◌, Bool, List, Ok, Err, Result, ap, ◌∙◌, arith, MatchResult}
 use Rattle.pas_profile.specs.Classes.{IsAlignment}
 use Rattle.pas_profile.specs.Runs.{address_of}
 use Rattle.pas_profile.specs.declared.directory.Directory.{Directory}

@@ -1,14 +1,11 @@
 -- The end of one block more.
-use Rattle.std.proofs.Common.{◌≡◌, ℕ, ◌+◌, ◌↔◌, IsTrue, Bool, true, false, ◌||◌, refl, ap, sym, ◌∙◌, arith, inl, inr, subst}
+use Rattle.std.proofs.Common.{◌≡◌, ℕ, ◌+◌, ◌↔◌, IsTrue, Bool, true, ◌||◌, ap, sym, ◌∙◌, arith, inl, inr, subst}
+use Rattle.std.proofs.Math.Bool.{or-true}
 use Rattle.std.proofs.lemmas.Bool.{cases_eq, cases_Bool}
 use Rattle.pas_profile.specs.declared.word.Word.TheVariants as Word
 use Rattle.pas_steps.specs.States.{word_in}
 use Rattle.pas_steps.specs.declared.state.State.{State}
 use Rattle.pas_bitfit.specs.Ends.{ends_with, IsEnd}
-
-or_true : (t : Bool) → (t || true) ≡ true
-or_true true = refl
-or_true false = refl
 
 pub one_more : (state : State) (page n x : ℕ) (was now : Bool) → now ≡ (ends_with (word_in state (Word.Life page n)) n x || was) → IsTrue was ↔ IsEnd state page n x → IsTrue now ↔ IsEnd state page (n + 1) x
 one_more state page n x was now is so_far = (
@@ -18,6 +15,6 @@ one_more state page n x was now is so_far = (
   ],
   λ e. is ∙ elim (cases_eq e.0 n) [
     | inl same ↦ ap (λ t. t || was) (subst (λ k. ends_with (word_in state (Word.Life page k)) k x ≡ true) same e.2)
-    | inr ne ↦ ap (λ t. ends_with (word_in state (Word.Life page n)) n x || t) (so_far.1 (e.0, let lt = e.1 in omega (arith, lt, ne), e.2)) ∙ or_true (ends_with (word_in state (Word.Life page n)) n x)
+    | inr ne ↦ ap (λ t. ends_with (word_in state (Word.Life page n)) n x || t) (so_far.1 (e.0, let lt = e.1 in omega (arith, lt, ne), e.2)) ∙ or-true (ends_with (word_in state (Word.Life page n)) n x)
   ],
 )

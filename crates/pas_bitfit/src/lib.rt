@@ -3,6 +3,7 @@
 
 mod allocating;
 mod ending;
+pub mod laws;
 mod wanted;
 
 pub use allocating::alloc;

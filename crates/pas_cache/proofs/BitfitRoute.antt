@@ -1,7 +1,6 @@
 -- A bit-fit request: the actor is at rest with the cache as it was.
-use Rattle.std.proofs.Common.{◌≡◌, ℕ, ◌+◌, ◌-◌, Option, None, Some, ◌*◌, ◌/◌, ◌%◌, ◌≤◌, ◌==◌, Bool, true, false, if◌then◌else◌, List, [], ◌∷◌, ◌++◌, length, Ok, Err, Result, refl, ap, sym, ◌∙◌, subst, arith, length-append}
-use Rattle.std.specs.Prelude.{All, MatchResult, max, nat_le, not}
-use Rattle.std.specs.List.{list_any}
+use Rattle.std.proofs.Common.{◌≡◌, ℕ, ◌+◌, ◌-◌, ◌*◌, ◌/◌, ◌%◌, ◌≤◌, ◌==◌, Bool, true, false, if◌then◌else◌, List, [], ◌++◌, length, Ok, Err, Result, refl, ap, sym, ◌∙◌, subst, arith, length-append}
+use Rattle.std.specs.Prelude.{All, MatchResult, max}
 use Rattle.std.proofs.lemmas.Bool.{eqb-true}
 use Rattle.pas_profile.specs.Profiles.{IsPage}
 use Rattle.pas_profile.specs.Requests.{is_shared, kind_of_class, kind_of_route, route_in, room_in}
@@ -29,7 +28,6 @@ use Rattle.pas_search.specs.Searches.{MaySearch, IsRefused, SearchRoom, search_s
 use Rattle.pas_search.specs.Serving.{right_of}
 use Rattle.pas_search.specs.Telling.{IsTold}
 use Rattle.pas_steps.specs.Lists.{Whole}
-use Rattle.pas_segregated.specs.Stops.{home_of}
 use Rattle.pas_segregated.specs.declared.slots.Slots.{Slots}
 use Rattle.pas_choice.specs.Allocates.{GaveBlock, IsGiven}
 use Rattle.pas_bitfit.specs.Allocates.{bitfit_directory, run_for, IsOfRequest, IsAllocated, Allocates}
@@ -164,7 +162,7 @@ with_request f heap room align searched after (Err why) refused fits = refused
 pub bitfit_call : {σ : Standing} {c : Cached} {spare : ℕ} (heap : ℕ) → CanCall σ (MayAllocate σ.seat.profile c spare) → CanCall σ (SearchRoom σ.seat.profile (bitfit_directory heap) 2 spare)
 bitfit_call {σ} {c} heap can = record { view = can.view; whole = can.whole; stood = can.stood; met = record { may = may_search_bitfit σ.seat.profile can.view heap c.locals can.met.rest.locals; room = can.met.room } }
 
-bitfit_wanted : (f : Profile) (heap size align : ℕ) → route_in f size align ≡ Route.Bitfit → record { directory = bitfit_directory heap; route = Route.Bitfit; room = room_in f size align; align = align } ≡ wanted_for f heap size align
+pub bitfit_wanted : (f : Profile) (heap size align : ℕ) → route_in f size align ≡ Route.Bitfit → record { directory = bitfit_directory heap; route = Route.Bitfit; room = room_in f size align; align = align } ≡ wanted_for f heap size align
 bitfit_wanted f heap size align route = ap (λ (r : Route). record { directory = record { heap = heap; kind = kind_of_route (is_shared f heap) r }; route = r; room = room_in f size align; align = align }) (sym route)
 
 pub bitfit_allocates : {σ σ' : Standing} (size align heap : ℕ) (tells : Bool) (c : Cached) (answer : Result Block NoRoom) → route_in σ.seat.profile size align ≡ Route.Bitfit → Allocates heap (room_in σ.seat.profile size align) align tells σ σ' answer → Serves (wanted_for σ.seat.profile heap size align) tells c c σ σ' answer

@@ -8,7 +8,7 @@ use Rattle.pas_steps.specs.Desks.{triples}
 use Rattle.pas_steps.specs.declared.step.Made.{Made}
 use Rattle.pas_steps.specs.Kinds.{Only}
 use Rattle.pas_core.proofs.OneActorWords.{free_stays, offered_stays, deed_same}
-use Rattle.pas_search.specs.Telling.{HasNoFit}
+use Rattle.pas_core.specs.Fits.{HasNoFit}
 use Rattle.pas_cache.specs.Kinds.{releasing}
 use Rattle.pas_steps.specs.Evidence.{Readings, IsAntitone}
 use Rattle.pas_core.specs.Rights.{free_of_page}

@@ -13,9 +13,9 @@ use Rattle.pas_profile.specs.declared.word.Word.TheVariants as Word
 use Rattle.pas_bits.specs.Masks.{is_set}
 use Rattle.pas_profile.proofs.Runs.{to_run}
 use Rattle.pas_steps.specs.Agreement.{Agreed}
-use Rattle.pas_steps.specs.Calls.{Effect, Kept, Lost, now, later, Does, grain_fate}
+use Rattle.pas_steps.specs.Calls.{Effect, Kept, Lost, now, Does}
 use Rattle.pas_steps.specs.Desks.{made}
-use Rattle.pas_steps.specs.Views.{View, Gives, Stays, known_deed, knows_backed}
+use Rattle.pas_steps.specs.Views.{View, known_deed, knows_backed}
 use Rattle.pas_steps.specs.declared.step.Made.{Made}
 use Rattle.pas_steps.specs.declared.step.Step.TheVariants.{Look, Give}
 use Rattle.pas_steps.proofs.Calls.{does_then, does_as, does_step}

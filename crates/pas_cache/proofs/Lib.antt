@@ -14,3 +14,5 @@ pub mod Budget
 mod BitfitRoute
 mod PagesRoute
 mod Settled
+pub mod Alone
+mod Opened

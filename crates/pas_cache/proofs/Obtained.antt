@@ -17,7 +17,8 @@ use Rattle.pas_steps.specs.declared.step.Made.{Made}
 use Rattle.pas_steps.proofs.Adding.{adds_under, triples_append, agreed_later}
 use Rattle.pas_steps.proofs.Called.{call_none}
 use Rattle.pas_steps.proofs.Unknown.{room_after}
-use Rattle.pas_search.specs.Telling.{HasNoFit, IsTold}
+use Rattle.pas_core.specs.Fits.{HasNoFit}
+use Rattle.pas_search.specs.Telling.{IsTold}
 use Rattle.pas_segregated.specs.Masks.{start_of}
 use Rattle.pas_segregated.specs.Refills.{Filling, Refills}
 use Rattle.pas_rights.specs.PutsBack.{BackSteps}
@@ -184,7 +185,7 @@ obtains_refilled {σ} {σ1} {σ2} fill tells locals fewer answer is cached one n
         adds = adds_under two.adds (λ v l stood met. may_search σ1.seat.profile v fill fewer there none met);
         leads = record { from = λ v met agreed. rests_refilled σ1.seat.profile fill fewer there none ys v met agreed answer (refill_of fill tells answer two) };
       });
-      how = inr (record { before = xs; place = one.change; gives_back = one.kinds; searched = ys; refill = refill; steps_are = refl });
+      how = inr (record { before = xs; place = one.change; gives_back = one.kinds; rests = one.calls.leads; searched = ys; refill = refill; steps_are = refl });
       found_for = found_by fill f ys answer refill;
       place = place;
       few = λ n v h agreed. refill_few fill f ys xs answer refill one.kinds n v (may_search f (xs ++ v) fill fewer is none (one.calls.leads.from v h (agreed_later f v ys xs agreed))) agreed;

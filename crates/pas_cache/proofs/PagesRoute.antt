@@ -1,8 +1,8 @@
 -- A request for whole pages: the actor is at rest with the cache as it was.
-use Rattle.std.proofs.Common.{◌≡◌, ℕ, ◌+◌, ◌-◌, ◌*◌, ◌/◌, ◌%◌, ◌<◌, ◌≤◌, ◌==◌, ◌||◌, Bool, true, false, if◌then◌else◌, List, [], ◌∷◌, ◌++◌, length, Option, None, Some, Ok, Err, Result, ◌⊎◌, inl, inr, refl, ap, sym, ◌∙◌, subst, arith, length-append, append_assoc, true≢false}
-use Rattle.std.specs.Prelude.{All, MatchResult, min, max, not}
-use Rattle.std.specs.List.{AllByRecursion, list_any}
-use Rattle.std.proofs.lemmas.Bool.{eqb-true, cases_Bool, and_parts, leb-false, false_from_ne_true}
+use Rattle.std.proofs.Common.{◌≡◌, ℕ, ◌+◌, ◌-◌, ◌*◌, ◌/◌, ◌%◌, ◌<◌, ◌≤◌, ◌==◌, ◌||◌, Bool, true, false, List, [], ◌∷◌, ◌++◌, length, Option, Ok, Err, Result, ◌⊎◌, inl, inr, refl, ap, sym, ◌∙◌, subst, arith, length-append, append_assoc, true≢false}
+use Rattle.std.specs.Prelude.{All, MatchResult, min, max}
+use Rattle.std.specs.List.{AllByRecursion}
+use Rattle.std.proofs.lemmas.Bool.{eqb-true, cases_Bool, and_parts, false_from_ne_true}
 use Rattle.std.proofs.lemmas.List.Elements.{All-head, All-tail}
 use Rattle.std.proofs.Math.Nat.{zero-mod}
 use Rattle.pas_profile.specs.Classes.{IsAlignment}
@@ -22,17 +22,16 @@ use Rattle.pas_bitfit.proofs.Aligned.{stands_aligned}
 use Rattle.pas_steps.specs.Agreement.{Agreed}
 use Rattle.pas_steps.specs.Desks.{Standing, CanCall, triples}
 use Rattle.pas_steps.specs.Events.{events_by}
-use Rattle.pas_steps.specs.Frames.{IsScan}
 use Rattle.pas_steps.specs.Kinds.{Backing, returning, looking, kind_of, is_in, Only}
 use Rattle.pas_steps.specs.Unknown.{unknown_pages}
-use Rattle.pas_steps.specs.Views.{View, known_deed, epoch_of}
+use Rattle.pas_steps.specs.Views.{View, known_deed}
 use Rattle.pas_steps.specs.declared.step.Made.{Made}
 use Rattle.pas_steps.specs.declared.step.Step.{Step}
 use Rattle.pas_steps.specs.declared.step.Step.TheVariants.{Deed}
 use Rattle.pas_steps.proofs.Adding.{agreed_first, agreed_later, adds_under}
 use Rattle.pas_steps.proofs.Apart.{only_both, only_within, events_same}
 use Rattle.pas_steps.proofs.Frames.{events_append}
-use Rattle.pas_steps.proofs.Past.{always_map, always_pair}
+use Rattle.pas_steps.proofs.Past.{always_pair}
 use Rattle.pas_steps.proofs.Unknown.{unknown_stays}
 use Rattle.pas_large.specs.Allocates.{GaveLarge, IsServedNamed, IsScanned, AllocatesLarge}
 use Rattle.pas_large.proofs.Outcomes.{MadeOf, IsGivenRun, IsRefusedRun, HasEnded, ended}
@@ -261,7 +260,7 @@ pages_allocates {σ} {σ'} size align heap n found tells c answer is some alignm
           };
         };
       };
-      change = record { cache = refl; tried = a.tried; rest = a.rest; old = a.old; outcome = subst (λ k. IsServedNamed f d k found a.tried a.rest answer ⊎ IsScanned f d k found a.tried a.rest answer) (sym count) a.outcome; steps_are = refl };
+      change = record { cache = refl; tried = a.tried; rest = a.rest; old = a.old; returns = a.returns; outcome = subst (λ k. IsServedNamed f d k found a.tried a.rest answer ⊎ IsScanned f d k found a.tried a.rest answer) (sym count) a.outcome; steps_are = refl };
       kinds = subst (Only allocating) (sym same) (kinds f heap n e.got e.after answer e.outcome e.kinds);
       short = (let short = a.few in let missed = ap (missed_steps found) count in omega (arith, short, count, missed));
       few = λ k v met agreed.

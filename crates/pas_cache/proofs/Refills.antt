@@ -1,16 +1,15 @@
 -- Slots come by a refill.
-use Rattle.std.proofs.Common.{◌≡◌, Bool, ℕ, ◌+◌, ◌*◌, ◌<◌, ◌==◌, true, false, ◌||◌, List, [], ◌∷◌, ◌++◌, Ok, Err, Result, None, refl, ap, sym, ◌∙◌, subst, arith, true≢false}
+use Rattle.std.proofs.Common.{◌≡◌, Bool, ℕ, ◌==◌, true, false, List, [], ◌∷◌, ◌++◌, Ok, Err, Result, None, refl, ap, sym, ◌∙◌, subst, true≢false}
 use Rattle.std.specs.Prelude.{All, MatchResult, not}
 use Rattle.std.specs.List.{cons_option, list_any}
 use Rattle.std.specs.Result.{result_ok}
 use Rattle.std.proofs.lemmas.Bool.{eq-eqb, eqb-true, and_parts, and_from, or_parts, or_from, false_from_ne_true}
 use Rattle.std.proofs.lemmas.List.Elements.{All-head, All-tail}
 use Rattle.pas_profile.specs.Classes.{IsClass}
-use Rattle.pas_profile.specs.Directories.{IsKind, kind_number, deed_word_of}
+use Rattle.pas_profile.specs.Directories.{IsKind, deed_word_of}
 use Rattle.pas_profile.specs.Requests.{is_shared, kind_of_class}
 use Rattle.pas_profile.specs.Profiles.{IsDirectoryOf}
 use Rattle.pas_profile.specs.declared.directory.Directory.{Directory}
-use Rattle.pas_profile.specs.declared.directory.Kind.{Kind as TheKind}
 use Rattle.pas_profile.specs.declared.directory.Kind.TheVariants as Kind
 use Rattle.pas_profile.specs.declared.event.NoRoom.{NoRoom}
 use Rattle.pas_profile.specs.declared.profile.Profile.{Profile}

@@ -275,7 +275,7 @@ filling_for f size align heap class admitted route =
     record { directory = directory; class = known; home = refl; fewer = fewer_slots class }
 
 -- a request of a class wants pages of the class's home
-wanted_is : (f : Profile) (heap class size align : ℕ) → route_in f size align ≡ Route.Class class → class_wanted (class_home f heap class) class align ≡ wanted_for f heap size align
+pub wanted_is : (f : Profile) (heap class size align : ℕ) → route_in f size align ≡ Route.Class class → class_wanted (class_home f heap class) class align ≡ wanted_for f heap size align
 wanted_is f heap class size align route = ap (λ (r : Route). record { directory = record { heap = heap; kind = kind_of_route (is_shared f heap) r }; route = r; room = room_by r (max size 1); align = align }) (sym route)
 
 -- the directory that the table of heaps tells is that home

@@ -1,8 +1,10 @@
 pub mod Kinds
 pub mod Locals
+pub mod Contents
 pub mod Caches
 pub mod Changes
 pub mod Names
 pub mod Serves
+pub mod Refusals
 pub mod Parts
 pub mod Calls

@@ -15,7 +15,8 @@ use Rattle.pas_cache.specs.Kinds.{releasing, allocating}
 use Rattle.pas_steps.specs.Unknown.{HasRoom}
 use Rattle.pas_bits.specs.Masks.{HasMember}
 use Rattle.pas_segregated.specs.Stops.{home_of}
-use Rattle.pas_search.specs.Telling.{HasNoFit, IsTrueReason}
+use Rattle.pas_core.specs.Fits.{HasNoFit}
+use Rattle.pas_search.specs.Telling.{IsTrueReason}
 use Rattle.pas_segregated.specs.Refills.{Filling}
 use Rattle.pas_segregated.specs.declared.slots.Slots.{Slots}
 use Rattle.pas_cache.specs.Locals.{covers, local_for, others_than, IsLocal, RestsWith}

@@ -18,13 +18,15 @@ use Rattle.pas_steps.specs.Events.{events_by}
 use Rattle.pas_steps.specs.Agreement.{Agreed}
 use Rattle.pas_steps.specs.Lists.{Whole}
 use Rattle.pas_steps.specs.declared.step.Made.{Made}
-use Rattle.pas_search.specs.Kinds.{AreSearch}
+use Rattle.pas_search.specs.Kinds.{AreSearch, ReturnsDuly}
 use Rattle.pas_steps.specs.Evidence.{Readings, IsAntitone}
 use Rattle.pas_search.specs.Searches.{search_steps, IsRefused}
-use Rattle.pas_search.specs.Telling.{HasNoFit, IsTrueReason}
+use Rattle.pas_core.specs.Fits.{HasNoFit}
+use Rattle.pas_search.specs.Telling.{IsTrueReason}
 use Rattle.pas_bits.specs.Masks.{HasMember}
 use Rattle.pas_steps.specs.Calls.{Leads}
 use Rattle.pas_steps.specs.Kinds.{Only}
+use Rattle.pas_steps.specs.Past.{Always}
 use Rattle.pas_cache.specs.Kinds.{releasing}
 use Rattle.pas_segregated.specs.Takes.{NoSlot, TookSlots}
 use Rattle.pas_choice.specs.Choices.{TookChosen}
@@ -36,7 +38,7 @@ use Rattle.pas_bitfit.specs.Allocates.{run_for, IsAllocated}
 use Rattle.pas_bitfit.specs.Runs.{NoneFits}
 use Rattle.pas_bits.specs.declared.mask.Mask4.{Mask4}
 use Rattle.pas_segregated.specs.declared.slots.Slots.{Slots}
-use Rattle.pas_cache.specs.Locals.{local_for, others_than}
+use Rattle.pas_cache.specs.Locals.{local_for, others_than, RestsWith}
 use Rattle.pas_steps.specs.Unknown.{unknown_pages}
 use Rattle.pas_cache.specs.Caches.{Cached}
 use Rattle.pas_cache.specs.Changes.{GivesSlot, IsTakenOut, IsShortened}
@@ -86,6 +88,7 @@ pub record ServesPages (f : Profile) (wanted : Wanted) (found : Option ℕ) (c c
   pub tried : List Made
   pub rest : List Made
   pub old : Only claiming_old tried
+  pub returns : Always ReturnsDuly tried
   pub outcome : IsServedNamed f wanted.directory (pages_of wanted) found tried rest answer ⊎ IsScanned f wanted.directory (pages_of wanted) found tried rest answer
   pub steps_are : steps ≡ rest ++ tried
 
@@ -145,11 +148,12 @@ pub record IsRefill (fill : Filling) (f : Profile) (steps : List Made) (found : 
   pub outcome : MatchResult found (GivesSlots fill f searched after) (λ room. IsRefused fill.no_fit f fill.directory searched room × (after ≡ []))
   pub steps_are : steps ≡ after ++ searched
 
--- then the refill is made
+-- Place is made, after which the actor is at rest with what is left. Then the refill is made.
 pub record Fetches (fill : Filling) (f : Profile) (locals fewer : List Slots) (steps : List Made) (found : Result Slots NoRoom) : Type 0 where
   pub before : List Made
   pub place : MakesPlace fill.directory.heap fill.class locals fewer before
   pub gives_back : Only releasing before
+  pub rests : Leads f (RestsWith f locals) (λ v w. RestsWith f fewer w) before
   pub searched : List Made
   pub refill : IsRefill fill f searched found
   pub steps_are : steps ≡ searched ++ before

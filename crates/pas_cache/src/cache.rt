@@ -1,7 +1,4 @@
 //! The cache of a thread.
-ghost use Rattle.std.specs.Prelude.{All};
-ghost use Rattle.pas_free_log.specs.Noted.{AreRanges};
-ghost use Rattle.pas_cache.specs.Locals.{HasOneEach, IsFormed};
 
 use arrayvec::ArrayVec;
 use pas_free_log::{EndedRun, FreeLog};
@@ -10,6 +7,7 @@ use pas_profile::limits::{MOST_LOCALS, MOST_LOGGED};
 use pas_segregated::Slots;
 use pas_steps::Desk;
 use pas_utility::CacheSeat;
+use std::marker::Model;
 
 /// What a thread keeps between its requests: at most 32 local allocators, one for each pair of heap and class, at most 64 names of blocks that it
 /// freed, and at most 64 runs of large blocks that it ended.
@@ -24,9 +22,17 @@ pub struct ThreadCache {
     /// The runs of large blocks that ended, in order, until they are handed on.
     pub(crate) noted: ArrayVec<EndedRun, MOST_LOGGED>,
     pub(crate) idle_since: u64,
-    ghost one_each: { HasOneEach locals.items },
-    ghost formed: { All IsFormed locals.items },
-    ghost ranges: { AreRanges noted.items },
+}
+
+impl Model for ThreadCache {
+    ghost use Rattle.pas_utility.specs.Seats.{thread_of};
+    ghost use Rattle.pas_cache.specs.Contents.{CacheOf, IsKept};
+
+    ghost Value = { CacheOf };
+
+    ghost view = { λ cache. record { thread = thread_of cache.seat; contents = record { locals = cache.locals.items; log = cache.log; noted = cache.noted.items; idle_since = cache.idle_since } } };
+
+    ghost invariant = { λ cache. IsKept cache.locals.items cache.noted.items };
 }
 
 impl ThreadCache {

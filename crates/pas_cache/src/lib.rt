@@ -6,6 +6,7 @@ mod freeing;
 mod giving;
 mod giving_up;
 mod large;
+pub mod laws;
 mod moving;
 mod obtaining;
 mod refilling;

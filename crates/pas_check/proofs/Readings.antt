@@ -1,5 +1,5 @@
 -- THE LINE of a record is read as that record. So no two records whose numbers fit have one line.
-use Rattle.std.proofs.Common.{◌≡◌, ℕ, zero, suc, ◌+◌, ◌-◌, ◌^◌, ◌<◌, ◌==◌, Bool, true, false, List, [], ◌∷◌, ◌++◌, length, drop, codes, refl, ap, sym, ◌∙◌, arith}
+use Rattle.std.proofs.Common.{◌≡◌, ℕ, ◌^◌, ◌<◌, ◌==◌, Bool, true, false, List, [], ◌∷◌, ◌++◌, length, drop, codes, refl, ap, sym, ◌∙◌, arith}
 use Rattle.std.specs.Fmt.{decimal}
 use Rattle.pas_profile.specs.Classes.{IsClass, class_size}
 use Rattle.pas_profile.specs.Requests.{kind_of_route}

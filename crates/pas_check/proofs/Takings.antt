@@ -16,7 +16,7 @@ use Rattle.pas_machine.specs.State.{deed_in, backed_in}
 use Rattle.pas_machine.specs.Reasons.{IsFirst}
 use Rattle.pas_machine.specs.declared.fault.Illegal.{Illegal}
 use Rattle.pas_machine.specs.declared.machine.Machine.{Machine}
-use Rattle.pas_machine.proofs.Refusals.{never_of}
+use Rattle.pas_machine.proofs.Verdicts.{never_of}
 use Rattle.pas_report.specs.Lines.{line_of, line_of_event}
 use Rattle.pas_report.specs.declared.record.Record.{Record}
 use Rattle.pas_check.specs.Calls.{event_in, IsStepped, MayAnswer, EntryTaken, PreparingTaken}

@@ -30,7 +30,7 @@ use Rattle.pas_search.specs.Searches.{MaySearch, SearchRoom, FromOffered, ByDeed
 use Rattle.pas_search.specs.Serving.{right_of}
 use Rattle.pas_search.specs.Telling.{IsLowestOffered, IsLowestBare}
 use Rattle.pas_search.specs.declared.serving.Served.{Served}
-use Rattle.pas_choice.specs.Allocates.{IsRunOf, GaveBlock, IsGiven, AllocatesRun}
+use Rattle.pas_choice.specs.Allocates.{IsRunOf, GaveBlock, AllocatesRun}
 use Rattle.pas_choice.specs.Choices.{Choice, choosing}
 use Rattle.pas_choice.specs.declared.choosing.Run.{Run}
 use Rattle.pas_search.proofs.Found.{KeepsNew, found_call, left_after}

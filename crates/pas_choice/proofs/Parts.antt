@@ -1,5 +1,5 @@
 -- A page of which a part is taken, or that is left since nothing fits.
-use Rattle.std.proofs.Common.{◌≡◌, ℕ, ◌+◌, ◌*◌, ◌/◌, ◌%◌, ◌<◌, ◌≤◌, ◌==◌, Bool, true, false, ◌&&◌, if◌then◌else◌, List, [], ◌∷◌, ◌++◌, length, None, Some, refl, ap, sym, ◌∙◌, subst, arith, inl, append_assoc, length-append}
+use Rattle.std.proofs.Common.{◌≡◌, ℕ, ◌+◌, ◌*◌, ◌/◌, ◌%◌, ◌<◌, ◌==◌, true, false, ◌&&◌, if◌then◌else◌, List, [], ◌∷◌, ◌++◌, None, Some, refl, ap, sym, ◌∙◌, subst, arith, inl, append_assoc, length-append}
 use Rattle.std.proofs.lemmas.Bool.{eqb-true, and_from, and_parts, and_right}
 use Rattle.pas_profile.specs.declared.directory.Directory.{Directory}
 use Rattle.pas_bits.specs.declared.mask.Mask4.{Mask4}
@@ -11,14 +11,15 @@ use Rattle.pas_rights.specs.Puts.{masked}
 use Rattle.pas_rights.specs.PutsBack.{taking_grains}
 use Rattle.pas_rights.specs.Takes.{HasRight, taken, takes, TakesMask}
 use Rattle.pas_rights.specs.Words.{words}
+use Rattle.pas_rights.proofs.Hints.{hints_none}
 use Rattle.pas_rights.proofs.Looks.{looks_only, looks_on, looks_held, looks_free, looks_know, looks_read}
 use Rattle.pas_rights.proofs.Takes.{MayTakeAll, takes_only, takes_on, takes_keep, takes_few, takes_known}
 use Rattle.pas_rights.proofs.Words.{bit_of, bit_on, keeps_by, since_kept}
 use Rattle.pas_steps.specs.Calls.{Calls, Leads, Gained, Kept, nothing, Does}
-use Rattle.pas_steps.specs.Desks.{Standing, CanCall, Makes, made}
+use Rattle.pas_steps.specs.Desks.{Standing, CanCall, Makes}
 use Rattle.pas_steps.specs.Evidence.{ShowsHere, KeptHere}
 use Rattle.pas_steps.specs.Frames.{IsOnPage, GivesUp}
-use Rattle.pas_steps.specs.Kinds.{LookFree, Taking, Only}
+use Rattle.pas_steps.specs.Kinds.{Kinds, LookFree, Taking, Only}
 use Rattle.pas_steps.specs.Past.{Since}
 use Rattle.pas_steps.specs.Views.{View, has_right, known_free}
 use Rattle.pas_steps.specs.declared.step.Made.{Made}
@@ -29,8 +30,12 @@ use Rattle.pas_steps.proofs.Called.{call_then, next_call}
 use Rattle.pas_steps.proofs.Calls.{does_after_nothing, does_as, does_idly}
 use Rattle.pas_steps.proofs.Past.{always_both}
 use Rattle.pas_search.specs.Serving.{MayServe, GotBefore, ReadsNoneHeld, ServesPage}
+use Rattle.pas_search.proofs.Returns.{keeps_marks}
 use Rattle.pas_search.proofs.Pages.{on_page, Prepares, leaves_page, keeps_page, once_read}
 use Rattle.pas_choice.specs.Choices.{Choice, IsUnfit, IsChosen, choosing}
+
+abbrev looking_and_taking : Kinds
+looking_and_taking = LookFree ∷ Taking ∷ []
 
 module _ {Found : Type 0} (choice : Choice Found) (page : ℕ) (d : Directory) {σ σ1 : Standing} (free : Mask4) (reads : ReadsPage page σ σ1 free) where
   abbrev looked : List Made
@@ -76,6 +81,8 @@ module _ {Found : Type 0} (choice : Choice Found) (page : ℕ) (d : Directory) {
     keeps = keeps_by page (LookFree ∷ []) looked refl looked_only;
     read = looked_read;
     held = unheld;
+    hints = hints_none (LookFree ∷ []) looked refl looked_only;
+    marks = λ some. keeps_marks (LookFree ∷ []) page looked refl looked_only;
   }
 
   pub leaves_unfit : {σ2 : Standing} → IsUnfit choice (is_set free) → Leaves page d σ1 σ2 → ServesPage (choosing choice) page d σ σ2 None
@@ -103,6 +110,9 @@ module _ {Found : Type 0} (choice : Choice Found) (page : ℕ) (d : Directory) {
       ts_only : Only (Taking ∷ []) ts
       ts_only = takes_only page (words grains) (words took.answers) 4
 
+      all_only : Only looking_and_taking (ts ++ looked)
+      all_only = only_both looking_and_taking ts looked (only_within (Taking ∷ []) looking_and_taking ts refl ts_only) (only_within (LookFree ∷ []) looking_and_taking looked refl looked_only)
+
       take_call : Calls σ σ2 (MayServe page d) (Does (taken (on_page page (choice.kept found)))) (ts ++ looked)
       take_call = call_then (Does (taken (on_page page (choice.kept found)))) look_call (takes_known page grains got took) may_take (λ v met a b.
           does_as (taken (on_page page (choice.kept found))) (does_after_nothing (taken (masked page grains)) a.0 b) (λ g. inl (ap (λ t. if (page == g / 256) && t then Gained else Kept) (is.exactly (g % 256) (omega arith)))) (λ q. refl) (λ q h. h))
@@ -117,6 +127,8 @@ module _ {Found : Type 0} (choice : Choice Found) (page : ℕ) (d : Directory) {
         read = λ before got word lt. subst (Since (ShowsHere page word (is_set free)) (KeptHere page)) (sym (append_assoc ts looked before))
             (since_kept (ShowsHere page word (is_set free)) page ts (looked ++ before) (takes_keep page (words grains) (words took.answers) 4) (rights_same (LookFree ∷ []) refl page looked before looked_only ∙ got.right) (looked_read before got word lt));
         held = record { from = λ v met agreed. unheld.from v met (agreed_later σ.seat.profile v ts looked agreed) };
+        hints = hints_none looking_and_taking (ts ++ looked) refl all_only;
+        marks = λ some. keeps_marks looking_and_taking page (ts ++ looked) refl all_only;
       }
 
       pub keeps_chosen : {σ3 : Standing} (a : ℕ) → Makes σ2 σ3 (Back page) a → ServesPage (choosing choice) page d σ σ3 (Some found)

@@ -1,37 +1,270 @@
--- The answer of each legal step agrees with its actor's view.
-use Rattle.std.proofs.Common.{◌≡◌, ℕ, ◌+◌, ◌*◌, ◌/◌, ◌%◌, ◌^◌, ◌<◌, ◌≤◌, true, false, Option, Some, None, ap, sym, ◌∙◌, subst, arith}
-use Rattle.std.proofs.lemmas.Bool.{false≢true, leb-true, and_from, false_from_ne_true}
-use Rattle.pas_profile.specs.Classes.{has_bit}
-use Rattle.pas_profile.specs.Directories.{number_of}
-use Rattle.pas_profile.specs.Lives.{live_word, is_live, turn_of, grains_of}
-use Rattle.pas_profile.specs.Profiles.{IsValid}
-use Rattle.pas_profile.proofs.Codecs.{is_live-live_word, grains_of-live_word}
+-- The answer of each legal step agrees with its actor's view, since what an actor read once is so for good.
+use Rattle.std.proofs.Common.{ℕ, ◌==◌, List, [], ◌∷◌, inl, inr, ◌≡◌, ◌≢◌, ◌+◌, ◌*◌, ◌/◌, ◌<◌, ◌≤◌, Bool, true, false, ◌&&◌, Some, refl, ap, sym, ◌∙◌, subst, arith, ◌^◌, if◌then◌else◌, Option, None, ◌%◌}
 use Rattle.pas_profile.specs.declared.profile.Profile.{Profile}
+use Rattle.pas_steps.specs.Past.{Once}
+use Rattle.pas_steps.specs.Lists.{Triple, Whole, part, Legal, word_after, visible, IsNext}
+use Rattle.pas_steps.specs.declared.step.Made.{Made}
+use Rattle.std.proofs.lemmas.Bool.{cond_both, false≢true, eqb-true, and_parts, leb-true, and_from, false_from_ne_true}
+use Rattle.pas_profile.specs.Directories.{deed_word_of, kind_number, number_of}
+use Rattle.pas_profile.specs.Lives.{live_word, is_live, turn_of, grains_of}
+use Rattle.pas_profile.specs.Profiles.{IsValid, IsDirectoryOf}
+use Rattle.pas_profile.specs.declared.directory.Directory.{Directory}
 use Rattle.pas_profile.specs.declared.name.Name.{Name}
 use Rattle.pas_profile.specs.declared.word.Word.{Word}
-use Rattle.pas_profile.specs.Runs.{grain_of, in_run, length_of}
-use Rattle.pas_machine.specs.State.{Live, live_in, gives_in, ends_in}
-use Rattle.pas_steps.specs.Effects.{free_word_at, life_word_at, target}
-use Rattle.pas_steps.specs.Views.{holds, known_deed}
+use Rattle.pas_profile.proofs.Codecs.{kind_number_lt, deed_word_of-positive, is_live-live_word, grains_of-live_word}
+use Rattle.pas_profile.specs.Runs.{in_run, meets_page, address_of, grain_of, length_of}
+use Rattle.pas_machine.specs.State.{Live, live_in, deed_in, backed_in, gives_in, ends_in}
+use Rattle.pas_machine.specs.Machine.{Bears, Run}
+use Rattle.pas_steps.specs.Effects.{life_word_at, target, free_word_at}
+use Rattle.pas_steps.specs.Views.{ends_on, EndedOn, EndedOnBoth, epoch_of, reads_life, IsLiveRead, ReadLive, reads_backed, ReadBacked, holds, known_deed}
 use Rattle.pas_steps.specs.Allowed.{IsStepOf}
-use Rattle.pas_steps.specs.Lists.{Triple, Whole, part, visible, word_after, IsNext, Legal}
-use Rattle.pas_steps.specs.Agreement.{IsDeedWord, heap_recorded, AgreesDeed, AgreesFree, AgreesLife, AgreesEnd, AgreesBacked, AgreesParked, AgreesEmpty, AgreesEligible, AgreesEpoch, AgreesStamp, Agrees}
+use Rattle.pas_steps.specs.Agreement.{heap_recorded, IsDeedWord, AgreesDeed, AgreesFree, AgreesLife, AgreesEnd, AgreesBacked, AgreesParked, AgreesEmpty, AgreesEligible, AgreesEpoch, AgreesStamp, Agrees}
 use Rattle.pas_steps.specs.declared.step.Step.{Step}
-use Rattle.pas_steps.specs.declared.step.Step.TheVariants.{Look, Deed, Back, Take, Put, Give, End, EndSized, TakeRight, Offer, Park, Unpark, Stamp, Hint, Unback, Unhint}
-use Rattle.pas_core.specs.Good.{Held, is_free, is_covered_by, covers, IsPlacedOnce, IsLifeOf}
+use Rattle.pas_steps.specs.declared.step.Step.TheVariants.{End, EndSized, Look, Back, Give, Unback, Deed, Take, Put, TakeRight, Offer, Park, Unpark, Stamp, Hint, Unhint}
+use Rattle.pas_core.specs.Good.{word_of_deed, IsLifeOf, Held, is_free, is_covered_by, covers, IsPlacedOnce}
+use Rattle.pas_core.proofs.DeedWords.{deed_kept, known_is, deed_words}
+use Rattle.pas_core.proofs.Deeds.{deed_of, directory_is_of, backed_of}
+use Rattle.pas_core.proofs.Stamps.{IsFound, end_finds, epoch_known, epoch_small, stamp_small, stamp_known}
+use Rattle.pas_core.proofs.Placed.{lists_borne}
+use Rattle.pas_profile.proofs.Runs.{IsMet, met, first_of_run}
+use Rattle.pas_profile.specs.declared.name.Block.{Block}
+use Rattle.pas_profile.specs.declared.event.Event.{Event}
+use Rattle.pas_steps.specs.Events.{event_of, with_event}
+use Rattle.pas_core.specs.Given.{WasGiven}
+use Rattle.pas_core.proofs.Lives.{look_is, word_is, life_of, life_is_known, live_is_live, one_more, turn_small}
+use Rattle.pas_core.proofs.MachineRuns.{runs, one_backed}
+use Rattle.std.proofs.lemmas.Option.{same_Some}
+use Rattle.pas_steps.proofs.Flags.{was_set}
+use Rattle.pas_profile.specs.Classes.{has_bit}
 use Rattle.pas_core.proofs.Grains.{is_held_by-true, placed_once}
-use Rattle.pas_core.proofs.Lives.{life_is_known, live_is_live, life_of}
 use Rattle.pas_core.specs.Rights.{parked_bit, empty_bit, eligible_bit}
-use Rattle.pas_core.proofs.DeedWords.{known_is, deed_words}
 use Rattle.pas_core.proofs.Knowledge.{deeds_known, backed_small, backed_known}
 use Rattle.pas_core.proofs.Rights.{right_not_offered, right_not_parked, offered_is_known, offered_page, parked_page, hinted_page, free_known}
-use Rattle.pas_core.proofs.Epochs.{epoch_known, epoch_small, stamp_small}
-use Rattle.pas_core.proofs.Stamps.{stamp_known}
-use Rattle.pas_core.proofs.Turns.{turn_small}
-use Rattle.pas_core.proofs.WasRead.{read_backed, read_again}
-use Rattle.pas_core.proofs.EndedBlocks.{end_within, ended_has_deed, ended_has_heap}
-use Rattle.pas_profile.proofs.Runs.{first_of_run}
 use Rattle.pas_steps.proofs.Ranged.{guess_fits}
+
+-- ==== What a step of an actor told once is so for good, where every later step keeps it.
+
+-- what holds before a step that tells it, and is kept by each step, holds after every list whose part has such a step
+pub since_once : (f : Profile) (k : ℕ) (P : Made → List Made → Type 0) (Q : Whole → Type 0) → ((t : Triple) (l : Whole) → Legal f (t ∷ l) → P t.made (part k l) → Q l) → ((t : Triple) (l : Whole) → Legal f (t ∷ l) → Q l → Q (t ∷ l))
+    → (l : Whole) → Legal f l → Once P (part k l) → Q l
+since_once f k P Q told kept [] legal h = absurd h
+since_once f k P Q told kept (t ∷ l) legal h =
+    let old = since_once f k P Q told kept l legal.1 in kept t l legal (cond_both (t.actor == k) (t.made ∷ part k l) (part k l) (λ v. Once P v → Q l) (λ own once. elim once [ inl now ↦ told t l legal now | inr earlier ↦ old earlier ]) (λ other. old) h)
+
+-- ==== The pages of a block that an actor ended: they have deeds, all of one heap, and lie in the region.
+
+-- ---- where it lay
+-- a block that ends lies in the region
+pub end_within : (f : Profile) (l : Whole) → IsValid f → Legal f l → (name : Name) (guess a : ℕ) → IsStepOf f (End name guess) → a ≡ word_after l (life_word_at (grain_of name)) → a ≡ live_word name.turn guess → (256 ≤ grain_of name) × (grain_of name + guess ≤ 256 * (f.pages + 1))
+end_within f l valid legal name guess a of is hit = let at : IsFound f l name guess = end_finds f l valid legal name guess a of is hit in (at.first, at.last)
+
+-- ---- the deeds of its pages
+-- the page has a deed of the heap
+record IsOfHeap (l : Whole) (page heap : ℕ) : Type 0 where
+  a_deed : word_after l (Word.Deed page) ≢ 0
+  heap_is : heap_recorded (word_after l (Word.Deed page)) ≡ heap
+
+recorded : (f : Profile) (d : Directory) → IsValid f → IsDirectoryOf f d → heap_recorded (deed_word_of d) ≡ d.heap
+recorded f d valid of =
+    let kind : kind_number d.kind < 23 = kind_number_lt d.kind of.kind in
+    let low = of.heap in let heaps = valid.heaps in
+    omega (arith, kind, low, heaps)
+
+borne_heap : (f : Profile) (l : Whole) → IsValid f → Legal f l → (heap page : ℕ) → Bears f (visible l) heap page → IsOfHeap l page heap
+borne_heap f l valid legal heap page bears =
+    let word : word_after l (Word.Deed page) ≡ deed_word_of bears.directory = deed_of f l legal page ∙ ap word_of_deed bears.deed in
+    record {
+      a_deed = λ z. deed_word_of-positive bears.directory (sym word ∙ z);
+      heap_is = ap heap_recorded word ∙ recorded f bears.directory valid (directory_is_of f l legal page bears.directory bears.deed) ∙ bears.of_heap;
+    }
+
+-- the pages of a live block of so many grains have deeds of its heap
+live_heap : (f : Profile) (l : Whole) → IsValid f → Legal f l → (address guess page : ℕ) (b : Live) → live_in (visible l) address ≡ Some b → length_of b.block ≡ guess → 0 < guess → meets_page (address / 16) guess page ≡ true → IsOfHeap l page b.block.heap
+live_heap f l valid legal address guess page b lives n some meets =
+    let at : IsMet (address / 16) guess page = met (address / 16) guess page some meets in
+    let here : in_run (address / 16) (length_of b.block) at.grain ≡ true = ap (λ m. in_run (address / 16) m at.grain) n ∙ at.of_run in
+    subst (λ p. IsOfHeap l p b.block.heap) at.of_page (borne_heap f l valid legal b.block.heap (at.grain / 256) (lists_borne f l valid legal address b lives at.grain here))
+
+-- the heap of a block that ended, for each page of its run
+record HasEnded (l : Whole) (s : Step) (a : ℕ) : Type 0 where
+  heap : ℕ
+  pages : (page : ℕ) → ends_on s a page ≡ true → IsOfHeap l page heap
+
+no_end : (l : Whole) (s : Step) (a : ℕ) → ((page : ℕ) → ends_on s a page ≡ false) → HasEnded l s a
+no_end l s a none = record { heap = 0; pages = λ page h. absurd (false≢true (sym (none page) ∙ h)) }
+
+end_pages : (f : Profile) (l : Whole) → IsValid f → Legal f l → (name : Name) (guess a : ℕ) → IsStepOf f (End name guess) → a ≡ word_after l (life_word_at (grain_of name)) → (t : Bool) → (a == live_word name.turn guess) ≡ t → HasEnded l (End name guess) a
+end_pages f l valid legal name guess a of is true e =
+    let at : IsFound f l name guess = end_finds f l valid legal name guess a of is (eqb-true a (live_word name.turn guess) e) in
+    let some = of.3 in
+    record {
+      heap = at.block.block.heap;
+      pages = λ page h. live_heap f l valid legal (address_of name) guess page at.block at.lives at.grains_are (omega (arith, some)) (and_parts (a == live_word name.turn guess) (meets_page (grain_of name) guess page) h).1;
+    }
+end_pages f l valid legal name guess a of is false e =
+    no_end l (End name guess) a (λ page. ap (λ b. b && meets_page (grain_of name) guess page) e)
+
+has_ended : (f : Profile) (l : Whole) → IsValid f → Legal f l → (s : Step) (a : ℕ) → IsStepOf f s → a ≡ word_after l (target s) → HasEnded l s a
+has_ended f l valid legal (End name guess) a of is = end_pages f l valid legal name guess a of is (a == live_word name.turn guess) refl
+has_ended f l valid legal (EndSized name room) a of is =
+    let at : HasEnded l (End name (room / 16)) a = end_pages f l valid legal name (room / 16) a of.0 is (a == live_word name.turn (room / 16)) refl in
+    record { heap = at.heap; pages = at.pages }
+has_ended f l valid legal s a of is = no_end l s a (λ page. refl)
+
+-- a page of a block that an actor once ended has a deed
+pub ended_has_deed : (f : Profile) (l : Whole) → IsValid f → Legal f l → (k page : ℕ) → EndedOn (part k l) page → word_after l (Word.Deed page) ≢ 0
+ended_has_deed f l valid legal k page =
+    since_once f k (λ m before. ends_on m.step m.answer page ≡ true) (λ l. word_after l (Word.Deed page) ≢ 0)
+    (λ t l legal h.
+    let next : IsNext f l t = legal.0 in
+    let at : HasEnded l t.made.step t.made.answer = has_ended f l valid legal.1 t.made.step t.made.answer next.of_region next.answer_is in
+    let of : IsOfHeap l page at.heap = at.pages page h in
+    of.a_deed)
+    (λ t l legal ne. λ z. ne (sym (deed_kept l t page ne) ∙ z)) l legal
+
+-- both pages have deeds of one heap
+record AreOfOne (l : Whole) (page other : ℕ) : Type 0 where
+  a_deed : word_after l (Word.Deed page) ≢ 0
+  other_deed : word_after l (Word.Deed other) ≢ 0
+  heaps_are : heap_recorded (word_after l (Word.Deed page)) ≡ heap_recorded (word_after l (Word.Deed other))
+
+kept_one : (t : Triple) (l : Whole) (page other : ℕ) → AreOfOne l page other → AreOfOne (t ∷ l) page other
+kept_one t l page other h =
+    let p : word_after (t ∷ l) (Word.Deed page) ≡ word_after l (Word.Deed page) = deed_kept l t page h.a_deed in
+    let q : word_after (t ∷ l) (Word.Deed other) ≡ word_after l (Word.Deed other) = deed_kept l t other h.other_deed in
+    record {
+      a_deed = λ z. h.a_deed (sym p ∙ z);
+      other_deed = λ z. h.other_deed (sym q ∙ z);
+      heaps_are = ap heap_recorded p ∙ h.heaps_are ∙ ap heap_recorded (sym q);
+    }
+
+-- two pages of one block that an actor once ended have deeds of one heap
+pub ended_has_heap : (f : Profile) (l : Whole) → IsValid f → Legal f l → (k page other : ℕ) → EndedOnBoth (part k l) page other → heap_recorded (word_after l (Word.Deed page)) ≡ heap_recorded (word_after l (Word.Deed other))
+ended_has_heap f l valid legal k page other h =
+    let both : AreOfOne l page other = since_once f k (λ m before. (ends_on m.step m.answer page ≡ true) × (ends_on m.step m.answer other ≡ true)) (λ l. AreOfOne l page other)
+    (λ t l legal h.
+    let next : IsNext f l t = legal.0 in
+    let at : HasEnded l t.made.step t.made.answer = has_ended f l valid legal.1 t.made.step t.made.answer next.of_region next.answer_is in
+    let p : IsOfHeap l page at.heap = at.pages page h.0 in
+    let q : IsOfHeap l other at.heap = at.pages other h.1 in
+    record { a_deed = p.a_deed; other_deed = q.a_deed; heaps_are = p.heap_is ∙ sym q.heap_is })
+    (λ t l legal one. kept_one t l page other one) l legal h in
+    both.heaps_are
+
+-- ==== What an actor read once of a page or a block is so for good: a page that was backed has a deed, and a block that lived has its length.
+
+-- ---- a backed page has a deed
+deed_more : (x : Bool) (d : Directory) (old : Option Directory) → old ≢ None → (if x then Some d else old) ≢ None
+deed_more x d old h = grind arith
+
+back_has : (x : Bool) (q p : ℕ) (es : List Event) (old : Bool) → (q == p) ≡ x → deed_in es q ≢ None → (old ≡ true → deed_in es p ≢ None) → (if x then true else old) ≡ true → deed_in es p ≢ None
+back_has true q p es old e here before h = subst (λ n. deed_in es n ≢ None) (eqb-true q p e) here
+back_has false q p es old e here before h = before h
+
+backed_deed : (f : Profile) (es : List Event) → Run f es → (p : ℕ) → backed_in es p ≡ true → deed_in es p ≢ None
+backed_deed f [] run p h = absurd (false≢true h)
+backed_deed f (Event.Deed k q d ∷ es) run p h = deed_more (q == p) d (deed_in es p) (backed_deed f es run.1 p h)
+backed_deed f (Event.Back k q ∷ es) run p h = back_has (q == p) q p es (backed_in es p) refl run.0.1 (backed_deed f es run.1 p) h
+backed_deed f (Event.Unback k q e ∷ es) run p h = backed_deed f es run.1 p (was_set (q == p) (backed_in es p) h)
+backed_deed f (e ∷ es) run p h = backed_deed f es run.1 p h
+
+pub some_deed : (o : Option Directory) → o ≢ None → word_of_deed o ≢ 0
+some_deed None h = absurd (h refl)
+some_deed (Some d) h = deed_word_of-positive d
+
+-- the deed word of a page whose backed word is 1
+backed_has_deed : (f : Profile) (l : Whole) → IsValid f → Legal f l → (p : ℕ) → word_after l (Word.Backed p) ≡ 1 → word_after l (Word.Deed p) ≢ 0
+backed_has_deed f l valid legal p h =
+    let some : word_of_deed (deed_in (visible l) p) ≢ 0 = some_deed (deed_in (visible l) p) (backed_deed f (visible l) (runs f l valid legal) p (one_backed (backed_in (visible l) p) (sym h ∙ backed_of f l legal p))) in
+    λ z. some (sym (deed_of f l legal p) ∙ z)
+
+-- ---- a page that was read as backed
+backed_word : (l : Whole) (a q p : ℕ) → a ≡ word_after l (Word.Backed q) → (q == p) ≡ true → a ≡ word_after l (Word.Backed p)
+backed_word l a q p is e = is ∙ ap (λ n. word_after l (Word.Backed n)) (eqb-true q p e)
+
+backed_read : (l : Whole) (s : Step) (a p : ℕ) → a ≡ word_after l (target s) → reads_backed s p ≡ true → a ≡ word_after l (Word.Backed p)
+backed_read l (Look (Word.Backed q)) a p is h = backed_word l a q p is h
+backed_read l (Back q) a p is h = backed_word l a q p is h
+backed_read l (Unback q) a p is h = backed_word l a q p is h
+backed_read l s a p is h = absurd (false≢true h)
+
+-- a page that an actor once read as backed has a deed
+pub read_backed : (f : Profile) (l : Whole) → IsValid f → Legal f l → (k p : ℕ) → ReadBacked (part k l) p → word_after l (Word.Deed p) ≢ 0
+read_backed f l valid legal k p =
+    since_once f k (λ m before. (reads_backed m.step p ≡ true) × (m.answer ≡ 1)) (λ l. word_after l (Word.Deed p) ≢ 0)
+    (λ t l legal h. let next : IsNext f l t = legal.0 in backed_has_deed f l valid legal.1 p (sym (backed_read l t.made.step t.made.answer p next.answer_is h.0) ∙ h.1))
+    (λ t l legal ne. λ z. ne (sym (deed_kept l t p ne) ∙ z)) l legal
+
+-- ---- a block that was read as live
+life_read : (l : Whole) (s : Step) (a g : ℕ) → a ≡ word_after l (target s) → reads_life s g ≡ true → a ≡ word_after l (life_word_at g)
+life_read l (Look word) a g is h = look_is l (Look word) a g is h
+life_read l (Give block) a g is h = word_is l a (grain_of block.name) g is h
+life_read l (End name guess) a g is h = word_is l a (grain_of name) g is h
+life_read l (EndSized name room) a g is h = word_is l a (grain_of name) g is h
+life_read l s a g is h = absurd (false≢true h)
+
+-- a block of so many grains was given at the grain, with this turn
+record WasThere (l : Whole) (g turn grains : ℕ) : Type 0 where
+  block : Block
+  address : address_of block.name ≡ 16 * g
+  turn_is : block.name.turn ≡ turn
+  grains_are : length_of block ≡ grains
+  given : WasGiven (visible l) block
+
+there : (f : Profile) (l : Whole) (g word turn grains gives ends : ℕ) (live : Option Live) → live_in (visible l) (16 * g) ≡ live → gives_in (visible l) (16 * g) ≡ gives → IsLifeOf f g word live gives ends
+    → is_live word ≡ true → turn_of word ≡ turn → grains_of word ≡ grains → WasThere l g turn grains
+there f l g word turn grains gives ends None is gave life alive t n = let w = life.word_is in let few = life.few in let big : 2 ^ 63 ≤ word = leb-true (2 ^ 63) word alive in absurd (omega (arith, w, few, big))
+there f l g word turn grains gives ends (Some b) is gave life alive t n =
+    let w = life.word_is in let few = life.few in let short = life.short in let own = life.turn in let one = life.gives_are in
+    let at : address_of b.block.name ≡ 16 * g = life.address in
+    record {
+      block = b.block;
+      address = at;
+      turn_is = own ∙ omega (arith, w, few, t);
+      grains_are = omega (arith, w, few, short, n);
+      given = record {
+        earlier = subst (λ x. b.block.name.turn < gives_in (visible l) x) (sym at) (omega (arith, own, one, gave));
+        same = λ b' live turn. let e : Some b ≡ Some b' = sym is ∙ ap (live_in (visible l)) (sym at) ∙ live in ap (λ (x : Live). x.block) (sym (same_Some b b' e));
+      };
+    }
+
+event_kept : (f : Profile) (o : Option Event) (es : List Event) (block : Block) → Run f (with_event o es) → WasGiven es block → WasGiven (with_event o es) block
+event_kept f None es block run given = given
+event_kept f (Some e) es block run given = one_more f e es block run.0 given
+
+was_there : (f : Profile) (l : Whole) → IsValid f → Legal f l → (k g turn grains : ℕ) → ReadLive (part k l) g turn grains → WasThere l g turn grains
+was_there f l valid legal k g turn grains =
+    since_once f k (λ m before. IsLiveRead m g turn grains) (λ l. WasThere l g turn grains)
+    (λ t l legal read.
+    let next : IsNext f l t = legal.0 in
+    let word : t.made.answer ≡ word_after l (life_word_at g) = life_read l t.made.step t.made.answer g next.answer_is read.reads in
+    there f l g (word_after l (life_word_at g)) turn grains (gives_in (visible l) (16 * g)) (ends_in (visible l) (16 * g)) (live_in (visible l) (16 * g)) refl refl (life_of f l valid legal.1 g)
+    (ap is_live (sym word) ∙ read.live) (ap turn_of (sym word) ∙ read.turn_is) (ap grains_of (sym word) ∙ read.grains_are))
+    (λ t l legal was. record {
+      block = was.block;
+      address = was.address;
+      turn_is = was.turn_is;
+      grains_are = was.grains_are;
+      given = event_kept f (event_of t.actor (epoch_of (part t.actor l)) t.made.step t.made.answer) (visible l) was.block (runs f (t ∷ l) valid legal) was.given;
+    }) l legal
+
+same_grains : (f : Profile) (g word : ℕ) (live : Option Live) (gives ends : ℕ) (block : Block) → IsLifeOf f g word live gives ends → ((b : Live) → live ≡ Some b → b.block.name.turn ≡ block.name.turn → b.block ≡ block)
+    → is_live word ≡ true → turn_of word ≡ block.name.turn → grains_of word ≡ length_of block
+same_grains f g word None gives ends block life same alive t = let w = life.word_is in let few = life.few in let big : 2 ^ 63 ≤ word = leb-true (2 ^ 63) word alive in absurd (omega (arith, w, few, big))
+same_grains f g word (Some b) gives ends block life same alive t =
+    let w = life.word_is in let few = life.few in let short = life.short in
+    let e : ends ≡ block.name.turn = omega (arith, w, few, t) in
+    let n : grains_of word ≡ length_of b.block = omega (arith, w, few, short) in
+    n ∙ ap length_of (same b refl (life.turn ∙ e))
+
+-- a block that an actor once read as live, and that still lives, has the length that it had then
+pub read_again : (f : Profile) (l : Whole) → IsValid f → Legal f l → (k g grains : ℕ) → is_live (word_after l (life_word_at g)) ≡ true → ReadLive (part k l) g (turn_of (word_after l (life_word_at g))) grains → grains_of (word_after l (life_word_at g)) ≡ grains
+read_again f l valid legal k g grains alive read =
+    let was : WasThere l g (turn_of (word_after l (life_word_at g))) grains = was_there f l valid legal k g (turn_of (word_after l (life_word_at g))) grains read in
+    same_grains f g (word_after l (life_word_at g)) (live_in (visible l) (16 * g)) (gives_in (visible l) (16 * g)) (ends_in (visible l) (16 * g)) was.block (life_of f l valid legal g)
+    (λ b is turn. was.given.same b (ap (live_in (visible l)) was.address ∙ is) turn) alive (sym was.turn_is) ∙ was.grains_are
+
+-- ==== The answer of each legal step agrees with its actor's view.
 
 -- ---- where a grain is that is held
 held_place : (l : Whole) (k g : ℕ) (at : IsPlacedOnce l g) → holds (part k l) g ≡ true → at.place ≡ Held k

@@ -1,6 +1,6 @@
--- The life words are those of the machine, and what actors know of them is true.
-use Rattle.std.proofs.Common.{◌≡◌, ◌≢◌, ℕ, ◌+◌, ◌-◌, ◌*◌, ◌/◌, ◌%◌, ◌^◌, ◌<◌, ◌≤◌, ◌==◌, Bool, true, false, ◌&&◌, if◌then◌else◌, List, [], ◌∷◌, Option, Some, None, refl, ap, sym, ◌∙◌, subst, arith, inl, inr}
-use Rattle.std.proofs.lemmas.Bool.{false≢true, eqb-true, eq-eqb, cases_eq, and_parts, le-leb, cond_both}
+-- Life words: the blocks that live, those that were given, and their turns.
+use Rattle.std.proofs.Common.{◌≡◌, ◌≢◌, ℕ, ◌+◌, ◌-◌, ◌*◌, ◌/◌, ◌%◌, ◌^◌, ◌<◌, ◌≤◌, ◌==◌, Bool, true, false, ◌&&◌, if◌then◌else◌, List, [], ◌∷◌, Option, Some, None, refl, ap, sym, ◌∙◌, subst, arith, inl, inr, ◌++◌, length, zero, suc}
+use Rattle.std.proofs.lemmas.Bool.{false≢true, eqb-true, eq-eqb, cases_eq, and_parts, le-leb, cond_both, eqb-false}
 use Rattle.pas_profile.specs.Layouts.{same_word}
 use Rattle.pas_profile.specs.Lives.{live_word, is_live, turn_of}
 use Rattle.pas_profile.specs.Profiles.{IsValid}
@@ -13,7 +13,7 @@ use Rattle.pas_profile.specs.declared.event.Why.{Why}
 use Rattle.pas_profile.specs.Runs.{in_run, address_of, grain_of, length_of}
 use Rattle.pas_machine.specs.State.{Live, live_in, gives_in, ends_in}
 use Rattle.pas_steps.specs.Effects.{life_word_at, target, new_value}
-use Rattle.pas_steps.specs.Views.{View, Move, Stays, Gets, Gives, Ends, grain_move, held_after, holds, epoch_of, looks_at_life, life_after, known_life}
+use Rattle.pas_steps.specs.Views.{View, Move, Stays, Gets, Gives, Ends, grain_move, held_after, holds, epoch_of, looks_at_life, life_after, known_life, given_after, given_count}
 use Rattle.pas_steps.specs.Events.{event_of, end_event, with_event, reason_of, sized_reason, sized_event}
 use Rattle.pas_steps.specs.Allowed.{Allowed, IsStepOf, IsBlockOf}
 use Rattle.pas_steps.specs.Lists.{Whole, word_after, part, visible, IsNext, Legal}
@@ -26,6 +26,11 @@ use Rattle.pas_core.proofs.Deeds.{event_if, end_if}
 use Rattle.pas_core.proofs.DeedWords.{looked}
 use Rattle.pas_profile.proofs.Runs.{first_of_run}
 use Rattle.std.proofs.lemmas.Bool.Decides.{nat_tests}
+use Rattle.pas_machine.specs.Machine.{Admits, Run}
+use Rattle.pas_core.specs.Given.{WasGiven}
+use Rattle.pas_machine.specs.Totals.{sum_below}
+
+-- ==== The life words are those of the machine, and what actors know of them is true.
 
 -- a test told in another way
 as_test : {A : Type 0} (y x : Bool) (P : A → Type 0) (new old : A) → y ≡ x → P (if x then new else old) → P (if y then new else old)
@@ -303,3 +308,150 @@ pub life_at : (f : Profile) (l : Whole) → IsValid f → Legal f l → (address
 life_at f l valid legal address aligned =
     let e : 16 * (address / 16) ≡ address = omega (arith, aligned) in
     subst (λ x. IsLifeOf f (address / 16) (word_after l (life_word_at (address / 16))) (live_in (visible l) x) (gives_in (visible l) x) (ends_in (visible l) x)) e (life_of f l valid legal (address / 16))
+
+-- ==== What callers need of the blocks that were given: names keep their blocks, and there are no more gives than events.
+
+-- ---- a block that was given stays so
+given_live : (x : Bool) (live : Option Live) (new : Live) (block : Block) → (x ≡ true → new.block.name.turn ≡ block.name.turn → ⊥) → ((b : Live) → live ≡ Some b → b.block.name.turn ≡ block.name.turn → b.block ≡ block)
+    → (b : Live) → (if x then Some new else live) ≡ Some b → b.block.name.turn ≡ block.name.turn → b.block ≡ block
+given_live true live new block other old b is turn = absurd (other refl (ap (λ y. y.block.name.turn) (same_Some new b is) ∙ turn))
+given_live false live new block other old b is turn = old b is turn
+
+ended_live : (x : Bool) (live : Option Live) (block : Block) → ((b : Live) → live ≡ Some b → b.block.name.turn ≡ block.name.turn → b.block ≡ block) → (b : Live) → (if x then None else live) ≡ Some b → b.block.name.turn ≡ block.name.turn → b.block ≡ block
+ended_live true live block old b is turn = cc
+ended_live false live block old b is turn = old b is turn
+
+pub one_more : (f : Profile) (e : Event) (es : List Event) (block : Block) → Admits f es e → WasGiven es block → WasGiven (e ∷ es) block
+one_more f (Event.Give k new) es block admits given = record {
+  earlier = let more = cond_both (address_of new.name == address_of block.name) (gives_in es (address_of block.name) + 1) (gives_in es (address_of block.name)) (λ n. (gives_in es (address_of block.name)) ≤ n) (λ here. omega arith) (λ other. omega arith) in let old = given.earlier in omega (arith, more, old);
+  same = given_live (address_of new.name == address_of block.name) (live_in es (address_of block.name)) (record { actor = k; block = new }) block
+      (λ x turn. let next : new.name.turn ≡ gives_in es (address_of block.name) = admits.turn ∙ ap (gives_in es) (eqb-true (address_of new.name) (address_of block.name) x) in let old = given.earlier in absurd (omega (arith, next, turn, old))) given.same;
+}
+one_more f (Event.End k name e) es block admits given = record { earlier = given.earlier; same = ended_live (address_of name == address_of block.name) (live_in es (address_of block.name)) block given.same }
+one_more f s es block admits given = record { earlier = given.earlier; same = given.same }
+
+-- a block that was given stays so, whatever comes after it
+pub given_kept : (f : Profile) (more es : List Event) (block : Block) → Run f (more ++ es) → WasGiven es block → WasGiven (more ++ es) block
+given_kept f [] es block run given = given
+given_kept f (e ∷ more) es block run given = one_more f e (more ++ es) block run.0 (given_kept f more es block run.1 given)
+
+-- the block of a give was given
+pub new_block : (f : Profile) (k : ℕ) (block : Block) (es : List Event) → Admits f es (Event.Give k block) → WasGiven (Event.Give k block ∷ es) block
+new_block f k block es admits =
+    let here : (address_of block.name == address_of block.name) ≡ true = eq-eqb (address_of block.name) (address_of block.name) refl in
+    record {
+      earlier = let one : gives_in (Event.Give k block ∷ es) (address_of block.name) ≡ gives_in es (address_of block.name) + 1 = ap (λ x. if x then gives_in es (address_of block.name) + 1 else gives_in es (address_of block.name)) here in
+          let turn = admits.turn in omega (arith, one, turn);
+      same = λ b is turn.
+          let one : Some (record { actor = k; block = block }) ≡ Some b = sym (ap (λ x. if x then Some (record { actor = k; block = block }) else live_in es (address_of block.name)) here) ∙ is in
+          ap (λ y. y.block) (sym (same_Some (record { actor = k; block = block }) b one));
+    }
+
+-- ---- no more gives than events
+-- how many blocks these events gave, at whatever address
+abbrev pub gives_counted : Event → ℕ → ℕ
+gives_counted (Event.Give k block) n = n + 1
+gives_counted s n = n
+
+abbrev pub count_gives : List Event → ℕ
+count_gives [] = 0
+count_gives (e ∷ es) = gives_counted e (count_gives es)
+
+-- the gives at one address are some of all
+pub gives_few : (es : List Event) (address : ℕ) → gives_in es address ≤ count_gives es
+gives_few [] address = omega arith
+gives_few (Event.Give k block ∷ es) address = cond_both (address_of block.name == address) (gives_in es address + 1) (gives_in es address) (λ n. n ≤ (count_gives es) + 1) (λ here. omega (arith, gives_few es address)) (λ other. omega (arith, gives_few es address))
+gives_few (e ∷ es) address = gives_few es address
+
+-- each give is an event
+counted_few : (e : Event) (n m : ℕ) → n ≤ m → gives_counted e n ≤ m + 1
+counted_few (Event.Deed k p d) n m h = omega (arith, h)
+counted_few s n m h = omega (arith, h)
+
+counts_few : (es : List Event) → count_gives es ≤ length es
+counts_few [] = omega arith
+counts_few (e ∷ es) = let rest = counted_few e (count_gives es) (length es) (counts_few es) in omega (arith, rest)
+
+-- a step adds as many gives as its event is
+pub count_step : (k e : ℕ) (s : Step) (a : ℕ) (es : List Event) → count_gives (with_event (event_of k e s a) es) ≡ given_after s (count_gives es)
+count_step k e (Deed page directory) a es = event_if (λ x. count_gives x ≡ count_gives es) (a == 0) (Event.Deed k page directory) es refl refl
+count_step k e (Back page) a es = event_if (λ x. count_gives x ≡ count_gives es) (a == 0) (Event.Back k page) es refl refl
+count_step k e (End name guess) a es = end_if (λ x. count_gives x ≡ count_gives es) (a == live_word name.turn guess) (is_live a && (turn_of a == name.turn)) (Event.End k name e) (Event.Reject k name (reason_of name a)) es (λ hit. refl) refl refl
+count_step k e (EndSized name room) a es = end_if (λ x. count_gives x ≡ count_gives es) (a == live_word name.turn (room / 16)) false (Event.End k name e) (Event.Reject k name (sized_reason name room a)) es (λ hit. refl) refl refl
+count_step k e s a es = refl
+
+-- no address was given more often than there are events
+pub turns_few : (es : List Event) (address : ℕ) → gives_in es address ≤ length es
+turns_few es address = let some = gives_few es address in let few = counts_few es in omega (arith, some, few)
+
+-- ==== Turns are small: each actor gives at most 2 ^ 32 blocks.
+
+-- ---- an actor gives at most 2 ^ 32 blocks
+few_next : (f : Profile) (v : View) (s : Step) → Allowed f v s → given_count v ≤ 2 ^ 32 → given_after s (given_count v) ≤ 2 ^ 32
+few_next f v (Give block) allowed h = let few = allowed.few in omega (arith, few)
+few_next f v s allowed h = h
+
+given_small : (f : Profile) (l : Whole) → Legal f l → (k : ℕ) → given_count (part k l) ≤ 2 ^ 32
+given_small f [] legal k = omega arith
+given_small f (t ∷ l) legal k =
+    let next : IsNext f l t = legal.0 in
+    let before : (j : ℕ) → given_count (part j l) ≤ 2 ^ 32 = given_small f l legal.1 in
+    cond_both (t.actor == k) (t.made ∷ part k l) (part k l) (λ v. given_count v ≤ 2 ^ 32)
+    (λ own. subst (λ j. given_after t.made.step (given_count (part j l)) ≤ 2 ^ 32) (eqb-true t.actor k own) (few_next f (part t.actor l) t.made.step next.allowed (before t.actor))) (λ other. before k)
+
+-- ---- all gives are the sum of those of the actors
+-- a step adds this many gives
+more_given : (s : Step) (n : ℕ) → given_after s n ≡ n + given_after s 0
+more_given (Look word) n = omega arith
+more_given s n = omega arith
+
+sum_grows : (n : ℕ) (v w : ℕ → ℕ) → ((k : ℕ) → v k ≤ w k) → sum_below n v ≤ sum_below n w
+sum_grows zero v w h = omega arith
+sum_grows (suc n) v w h = omega (arith, sum_grows n v w h, h n)
+
+rises_last : (t : Bool) (n j c : ℕ) (v w : ℕ → ℕ) → (j == n) ≡ t → ((k : ℕ) → v k ≤ w k) → v j + c ≤ w j → j < suc n → (j < n → sum_below n v + c ≤ sum_below n w) → sum_below n v + v n + c ≤ sum_below n w + w n
+rises_last true n j c v w e grows here low rest =
+    let at : v n + c ≤ w n = subst (λ i. v i + c ≤ w i) (eqb-true j n e) here in
+    omega (arith, sum_grows n v w grows, at)
+rises_last false n j c v w e grows here low rest = let ne = eqb-false j n e in let before = rest (omega (arith, low, ne)) in omega (arith, before, grows n)
+
+-- more at one number makes the sum that much greater
+sum_rises : (n j c : ℕ) (v w : ℕ → ℕ) → ((k : ℕ) → v k ≤ w k) → v j + c ≤ w j → j < n → sum_below n v + c ≤ sum_below n w
+sum_rises zero j c v w grows here low = absurd (omega (arith, low))
+sum_rises (suc n) j c v w grows here low = rises_last (j == n) n j c v w refl grows here low (λ other. sum_rises n j c v w grows here other)
+
+sum_small : (n : ℕ) (v : ℕ → ℕ) → ((k : ℕ) → v k ≤ 2 ^ 32) → sum_below n v ≤ n * 2 ^ 32
+sum_small zero v h = omega arith
+sum_small (suc n) v h = omega (arith, sum_small n v h, h n)
+
+-- the visible gives are at most those of all actors
+all_gives : (f : Profile) (l : Whole) → Legal f l → count_gives (visible l) ≤ sum_below (f.threads + 1) (λ k. given_count (part k l))
+all_gives f [] legal = omega arith
+all_gives f (t ∷ l) legal =
+    let next : IsNext f l t = legal.0 in
+    let actor : t.actor < f.threads + 1 = let low = next.actor in omega (arith, low) in
+    let is : count_gives (visible (t ∷ l)) ≡ given_after t.made.step (count_gives (visible l)) = count_step t.actor (epoch_of (part t.actor l)) t.made.step t.made.answer (visible l) in
+    let more : given_after t.made.step (count_gives (visible l)) ≡ count_gives (visible l) + given_after t.made.step 0 = more_given t.made.step (count_gives (visible l)) in
+    let rises : sum_below (f.threads + 1) (λ k. given_count (part k l)) + given_after t.made.step 0 ≤ sum_below (f.threads + 1) (λ k. given_count (part k (t ∷ l)))
+    = sum_rises (f.threads + 1) t.actor (given_after t.made.step 0) (λ k. given_count (part k l)) (λ k. given_count (part k (t ∷ l))) (λ k. cond_both (t.actor == k) (t.made ∷ part k l) (part k l) (λ v. given_count (part k l) ≤ given_count v) (λ own. omega (arith, more_given t.made.step (given_count (part k l)))) (λ other. omega arith))
+    (subst (λ b. given_count (part t.actor l) + given_after t.made.step 0 ≤ given_count (if b then t.made ∷ part t.actor l else part t.actor l)) (sym (eq-eqb t.actor t.actor refl)) (omega (arith, more_given t.made.step (given_count (part t.actor l))))) actor in
+    omega (arith, all_gives f l legal.1, is, more, rises)
+
+-- ---- turns
+-- no address was given more often than all actors give
+gives_small : (f : Profile) (l : Whole) → IsValid f → Legal f l → (address : ℕ) → gives_in (visible l) address < 2 ^ 37
+gives_small f l valid legal address =
+    let threads = valid.threads in
+    let all : sum_below (f.threads + 1) (λ k. given_count (part k l)) ≤ (f.threads + 1) * 2 ^ 32 = sum_small (f.threads + 1) (λ k. given_count (part k l)) (given_small f l legal) in
+    omega (arith, threads, all, all_gives f l legal, gives_few (visible l) address)
+
+ends_below : (f : Profile) (g word : ℕ) (live : Option Live) (gives ends : ℕ) → IsLifeOf f g word live gives ends → ends ≤ gives
+ends_below f g word None gives ends h = let is = h.gives_are in omega (arith, is)
+ends_below f g word (Some b) gives ends h = let is = h.gives_are in omega (arith, is)
+
+-- the turn of each life word is small
+pub turn_small : (f : Profile) (l : Whole) → IsValid f → Legal f l → (g : ℕ) → turn_of (word_after l (life_word_at g)) < 2 ^ 37
+turn_small f l valid legal g =
+    let life : IsLifeOf f g (word_after l (life_word_at g)) (live_in (visible l) (16 * g)) (gives_in (visible l) (16 * g)) (ends_in (visible l) (16 * g)) = life_of f l valid legal g in
+    let ends : ends_in (visible l) (16 * g) ≤ gives_in (visible l) (16 * g) = ends_below f g (word_after l (life_word_at g)) (live_in (visible l) (16 * g)) (gives_in (visible l) (16 * g)) (ends_in (visible l) (16 * g)) life in
+    omega (arith, turn_is f g (word_after l (life_word_at g)) (live_in (visible l) (16 * g)) (gives_in (visible l) (16 * g)) (ends_in (visible l) (16 * g)) life, ends, gives_small f l valid legal (16 * g))

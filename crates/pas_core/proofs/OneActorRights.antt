@@ -1,5 +1,5 @@
--- Laws of one actor alone: where the right of a page is before and after the steps of one actor, where the whole list is legal.
-use Rattle.std.proofs.Common.{◌≡◌, ◌≢◌, ℕ, ◌/◌, ◌%◌, ◌==◌, Bool, true, false, ◌&&◌, if◌then◌else◌, List, [], ◌∷◌, ◌++◌, refl, ap, sym, ◌∙◌, subst, inl, inr, true≢false}
+-- Laws of one actor alone: rights, and its search.
+use Rattle.std.proofs.Common.{◌≡◌, ◌≢◌, ℕ, ◌/◌, ◌%◌, ◌==◌, Bool, true, false, ◌&&◌, if◌then◌else◌, List, [], ◌∷◌, ◌++◌, refl, ap, sym, ◌∙◌, subst, inl, inr, true≢false, arith, Result, Ok, Err}
 use Rattle.std.proofs.lemmas.Bool.{cases_Bool, cases_eq, eq-eqb, eqb-true, false≢true, and_parts, cond_both}
 use Rattle.pas_profile.specs.Classes.{has_bit}
 use Rattle.pas_profile.specs.Directories.{deed_word_of, deed_word_numbered, number_of}
@@ -18,15 +18,24 @@ use Rattle.pas_steps.specs.Past.{Once, Always}
 use Rattle.pas_steps.specs.declared.step.Step.{Step}
 use Rattle.pas_steps.specs.declared.step.Made.{Made}
 use Rattle.pas_steps.specs.declared.step.Step.TheVariants.{Deed, TakeRight, Offer, Park, Unpark}
+use Rattle.pas_steps.proofs.Adding.{triples_append}
 use Rattle.pas_steps.proofs.Frames.{right_own, right_of_own, lacks_now}
 use Rattle.pas_steps.proofs.Kept.{deed_stays}
 use Rattle.pas_steps.proofs.Parts.{part_of_own, part_of_others}
-use Rattle.pas_core.specs.Rights.{eligible_bit, parked_bit}
+use Rattle.pas_core.specs.Rights.{eligible_bit, parked_bit, AllRest}
 use Rattle.pas_core.proofs.DeedWords.{known_is, deed_kept, numbered_ne}
 use Rattle.pas_core.proofs.Spots.{Spot, Nowhere, With, Offered, InParked, is_with, is_offered, is_parked, spot_after, spot_of, Suits, DeedFits, IsSpotted, step_suits, spotted}
 use Rattle.pas_core.proofs.Rights.{one_has_right, offered_has_deed, offered_spot, own_eligible, is_on_offer}
 use Rattle.pas_core.proofs.Nexts.{agrees_next}
-use Rattle.pas_steps.specs.Evidence.{ReadsEligible, ReadsParked, ZeroHere, OneHere, ParkedHere, LacksAfter, KeptHere}
+use Rattle.pas_steps.specs.Evidence.{ReadsEligible, ReadsParked, ZeroHere, OneHere, ParkedHere, LacksAfter, KeptHere, Readings, IsAntitone, UnfitHere, HeldHere}
+use Rattle.pas_profile.specs.declared.event.NoRoom.{NoRoom}
+use Rattle.pas_profile.specs.declared.event.NoRoom.TheVariants.{NoSpace, Held}
+use Rattle.pas_steps.proofs.Past.{once_map}
+use Rattle.pas_core.specs.Fits.{IsOfferedFit, IsBarePage, HasNoFit}
+use Rattle.pas_core.specs.Alone.{ShowsOffered, ShowsBare, ShowsNone, ShowsHeld, ShowsAnswer, SearchesAlone, IsPlainAnswer}
+use Rattle.pas_core.proofs.OneActorGrains.{LendsNone, unfit_entry, fit_entry, deed_quiet, deed_exit, deed_none}
+
+-- ==== Laws of one actor alone: where the right of a page is before and after the steps of one actor, where the whole list is legal.
 
 -- ---- a page whose right the call false≢true (got_if had stays it).1 was
 stays_put : (k : ℕ) (w : Way) (o : Spot) → had_after w false ≡ false → Suits k w o → (o ≡ With k → ⊥) → spot_after k w o ≡ o
@@ -137,6 +146,10 @@ pub legal_before : (f : Profile) (k : ℕ) (xs : List Made) (l : Whole) → Lega
 legal_before f k [] l legal = legal
 legal_before f k (x ∷ xs) l legal = legal_before f k xs l legal.1
 
+-- with the earlier ones of its steps alone
+pub legal_earlier : (f : Profile) (k : ℕ) (ys xs : List Made) (l : Whole) → Legal f (triples k (ys ++ xs) ++ l) → Legal f (triples k xs ++ l)
+legal_earlier f k ys xs l legal = legal_before f k ys (triples k xs ++ l) (subst (Legal f) (sym (triples_append k ys xs l)) legal)
+
 -- the deed of a page that is offered to a directory
 pub offered_deed : (f : Profile) (l : Whole) (d : Directory) (p : ℕ) → IsDirectoryOf f d → Legal f l → eligible_bit l (number_of d) p ≡ true → word_after l (Word.Deed p) ≡ deed_word_of d
 offered_deed f l d p of legal bit = offered_has_deed f l legal (number_of d) p bit ∙ numbered d of.kind
@@ -175,3 +188,77 @@ not_in_hands f k l d p xs of legal lacks once deed not_offered not_parked =
       | inl same ↦ true≢false (sym (ap (λ x. has_right (part x w) p) same ∙ has) ∙ ap (λ v. has_right v p) (part_of_own k xs l) ∙ lacks)
       | inr ne ↦ had_then f k l p j xs legal ne once (sym (ap (λ v. has_right v p) (part_of_others j k xs l ne)) ∙ has)
     ]
+
+-- ==== One actor alone goes on with one search, after a list at whose end all are at rest.
+
+-- a page that was got and left isn't one whose right the call never had
+unfit_lacks : (no_fit : Readings → Type 0) (p : ℕ) (xs : List Made) → Once (UnfitHere no_fit p) xs → Always (LacksAfter p) xs → ⊥
+unfit_lacks no_fit p [] h lacks = h
+unfit_lacks no_fit p (m ∷ more) (inl u) lacks = true≢false (sym u.kept ∙ lacks_now p more lacks.1)
+unfit_lacks no_fit p (m ∷ more) (inr h) lacks = unfit_lacks no_fit p more h lacks.1
+
+-- a deed that was made was on a page without one
+deed_made : (f : Profile) (k : ℕ) (l : Whole) (d : Directory) (p : ℕ) (xs : List Made) → Legal f (triples k xs ++ l) → Once (λ m before. (m.step ≡ Deed p d) × (m.answer ≡ 0)) xs → word_after l (Word.Deed p) ≡ 0
+deed_made f k l d p [] legal h = absurd h
+deed_made f k l d p (m ∷ xs) legal (inl z) = deed_none k l p xs (sym (legal.0.answer_is ∙ ap (λ s. word_after (triples k xs ++ l) (target s)) z.0) ∙ z.1)
+deed_made f k l d p (m ∷ xs) legal (inr h) = deed_made f k l d p xs legal.1 h
+
+module _ (no_fit : Readings → Type 0) (f : Profile) (d : Directory) (k : ℕ) (l : Whole) (xs : List Made) (valid : IsValid f) (of : IsDirectoryOf f d) (fewer : IsAntitone no_fit)
+    (rest : AllRest f l) (legal : Legal f (triples k xs ++ l)) (lends : LendsNone xs) where
+  abbrev w : Whole
+  w = triples k xs ++ l
+
+  first : Legal f l
+  first = legal_before f k xs l legal
+
+  -- ---- a page that serves could before the search
+  offered_fits : (page : ℕ) → ShowsOffered no_fit f d (part k l) page xs → IsOfferedFit no_fit f d l page
+  offered_fits page shows =
+      let read = one_told f k l d page xs legal shows.offered in record {
+        of_region = shows.of_region;
+        offered = (spotted f l first page).eligible (number_of d) ∙ ap (is_offered (number_of d)) (sym (spot_same f k l page read.0 read.1 (rest.rights page k) read.2))
+            ∙ sym ((spotted f (triples k read.0 ++ l) read.1 page).eligible (number_of d)) ∙ read.3;
+        fits = fit_entry no_fit f k l page shows.readings xs fewer valid legal lends shows.fits shows.read shows.none_held;
+      }
+
+  bare_page : (page : ℕ) → ShowsBare f d page xs → IsBarePage f l page
+  bare_page page shows = record { of_region = shows.of_region; no_deed = deed_made f k l d page xs legal shows.made }
+
+  -- ---- where none serves, none could
+  none_serves : ShowsNone no_fit f d xs → HasNoFit no_fit f d l
+  none_serves shows = record {
+    offered = λ page fit. let high = fit.of_region.1 in elim (shows.searched page fit.of_region.0 (omega (arith, high))) [
+      | inl u ↦ fit.fits (unfit_entry no_fit f k l page xs fewer legal lends u)
+      | inr z ↦ true≢false (sym fit.offered ∙ (spotted f l first page).eligible (number_of d) ∙ zero_told f k l d page xs legal (rest.rights page k) z.0 z.1)
+    ];
+    bare = λ page bare. let high = bare.of_region.1 in deed_exit f k l page xs legal (shows.deeds page bare.of_region.0 (omega (arith, high))) (deed_quiet f k l page xs legal shows.quiet ∙ bare.no_deed);
+  }
+
+  -- ---- no page is in another's hands
+  nobody_holds : (page : ℕ) → ShowsNone no_fit f d xs → ShowsHeld f d (part k l) page xs → ⊥
+  nobody_holds page none shows =
+      let high = shows.of_region.1 in
+      let lacks : has_right (part k l) page ≡ false = rest.rights page k in
+      let same = spot_same f k l page xs legal lacks shows.lacked in
+      let at = spotted f w legal page in
+      let known : known_deed (part k w) page ≡ deed_word_of d = ap (λ v. known_deed v page) (part_of_own k xs l) ∙ shows.of_directory in
+      let deed : word_after w (Word.Deed page) ≡ deed_word_of d = sym (known_is (known_deed (part k w) page) (word_after w (Word.Deed page)) (at.known k) (λ z. deed_word_of-positive d (sym known ∙ z))) ∙ known in
+      let not_offered : is_offered (number_of d) (spot_of l page) ≡ false = elim (none.searched page shows.of_region.0 (omega (arith, high))) [
+        | inl u ↦ absurd (unfit_lacks no_fit page xs u shows.lacked)
+        | inr z ↦ zero_told f k l d page xs legal lacks z.0 z.1
+      ] in
+      let not_parked : is_parked (spot_of l page) ≡ false = parked_told f k l page false xs legal lacks shows.lacked (once_map (HeldHere d page) (ParkedHere false page) xs (λ m before h. h.0) shows.held) in
+      let with = in_hands (spot_of w page) (word_after w (Word.Deed page)) at.deed (λ z. deed_word_of-positive d (sym deed ∙ z))
+      (sym (own_eligible f w legal page d of deed) ∙ at.eligible (number_of d) ∙ ap (is_offered (number_of d)) same ∙ not_offered) (ap is_parked same ∙ not_parked) in
+      true≢false (sym ((spotted f l first page).has with.0 ∙ ap (is_with with.0) (sym same ∙ with.1) ∙ is_with_own with.0) ∙ rest.rights page with.0)
+
+  plain : (answer : Result ℕ NoRoom) → ShowsAnswer no_fit f d (part k l) xs answer → IsPlainAnswer no_fit f d l answer
+  plain (Ok page) (inl shows) = record { not_held = λ p bad. absurd cc; none_fits = λ bad. absurd cc; no_space = λ none. absurd (none.offered page (offered_fits page shows)) }
+  plain (Ok page) (inr shows) = record { not_held = λ p bad. absurd cc; none_fits = λ bad. absurd cc; no_space = λ none. absurd (none.bare page (bare_page page shows)) }
+  plain (Err NoSpace) shows = record { not_held = λ p bad. absurd cc; none_fits = λ is. none_serves shows; no_space = λ none. refl }
+  plain (Err (Held page)) shows = absurd (nobody_holds page shows.0 shows.1)
+
+-- after rest a search alone finds what there is
+pub plain_answer : (no_fit : Readings → Type 0) (f : Profile) (d : Directory) (k : ℕ) (l : Whole) (xs : List Made) (answer : Result ℕ NoRoom) → IsValid f → IsDirectoryOf f d → IsAntitone no_fit → AllRest f l
+    → SearchesAlone no_fit f d k l xs answer → IsPlainAnswer no_fit f d l answer
+plain_answer no_fit f d k l xs answer valid of fewer rest search = plain no_fit f d k l xs valid of fewer rest search.legal search.lends_none answer search.shows

@@ -1,35 +1,161 @@
--- The stamps: what is known of them is true, and the epoch of each end on a page is at most the page's stamp, or the page is unstamped for the
--- actor that made the end.
-use Rattle.std.proofs.Common.{◌≡◌, ℕ, ◌+◌, ◌*◌, ◌/◌, ◌%◌, ◌≤◌, ◌==◌, ◌⊎◌, Bool, true, false, ◌&&◌, if◌then◌else◌, max, List, [], ◌∷◌, Option, Some, None, refl, ap, sym, ◌∙◌, subst, arith, inl, inr}
-use Rattle.std.proofs.lemmas.Bool.{false≢true, eqb-true, eq-eqb, and_parts, and_from, false_from_ne_true, cond_both}
-use Rattle.pas_profile.specs.Classes.{has_bit}
-use Rattle.pas_profile.specs.Layouts.{same_word}
+-- Epochs, stamps, and the ends that stamps tell of.
+use Rattle.std.proofs.Common.{◌≡◌, ℕ, ◌+◌, ◌^◌, ◌<◌, ◌≤◌, ◌==◌, max, [], ◌∷◌, Option, arith, ◌/◌, ◌*◌, Some, None, refl, sym, ◌∙◌, ◌%◌, ◌⊎◌, Bool, true, false, ◌&&◌, if◌then◌else◌, List, ap, subst, inl, inr}
+use Rattle.std.specs.Int.{bit_not, w64}
+use Rattle.std.proofs.lemmas.Nat.{and_le_l, or_lt}
+use Rattle.pas_profile.specs.Directories.{deed_word_of}
+use Rattle.pas_profile.specs.Layouts.{opening, same_word}
 use Rattle.pas_profile.specs.Lives.{live_word, is_live, turn_of}
-use Rattle.pas_profile.specs.Profiles.{IsValid}
+use Rattle.pas_profile.specs.Profiles.{IsValid, IsDirectoryOf}
 use Rattle.pas_profile.specs.declared.profile.Profile.{Profile}
+use Rattle.pas_profile.specs.declared.directory.Directory.{Directory}
+use Rattle.pas_profile.specs.declared.word.Word.{Word}
+use Rattle.pas_profile.specs.Runs.{address_of, length_of, grain_of, in_run, meets_page}
+use Rattle.pas_steps.specs.Effects.{target, new_value, life_word_at, in_mask}
+use Rattle.pas_bits.specs.PageVectors.{page_mask}
+use Rattle.pas_steps.specs.Views.{epoch_after, known_epoch, or_zero, epoch_of, View, Move, Stays, Gets, Puts, Gives, Ends, held_after, holds, holds_all, stamp_after, known_stamp, unstamped_after, is_unstamped, ends_on}
+use Rattle.pas_steps.specs.Allowed.{IsStepOf, Allowed, HoldsOn, MayPutNow, MayGiveNow}
+use Rattle.pas_steps.specs.Lists.{Triple, Whole, part, word_after, IsNext, Legal, visible}
+use Rattle.pas_steps.specs.declared.step.Step.{Step}
+use Rattle.pas_steps.specs.declared.step.Step.TheVariants.{Look, Deed, Back, Take, Put, Give, End, EndSized, TakeRight, Offer, Park, Unpark, Stamp, Hint, Tick, Unhint, Unback}
+use Rattle.pas_core.proofs.Grains.{give_short, one_holder}
+use Rattle.pas_bits.proofs.PageVectors.{page_mask_lt}
+use Rattle.pas_core.proofs.DeedWords.{next_value, looked}
+use Rattle.std.proofs.lemmas.Bool.{cond_both, false≢true, eqb-true, eq-eqb, and_parts, and_from, false_from_ne_true, cases_Bool}
+use Rattle.pas_profile.proofs.Codecs.{kind_number_lt}
 use Rattle.pas_profile.specs.declared.name.Name.{Name}
+use Rattle.pas_machine.specs.State.{Live, live_in, gives_in, ends_in, touches, epoch_in}
+use Rattle.pas_core.specs.Good.{IsLifeOf}
+use Rattle.pas_core.proofs.Lives.{life_at}
+use Rattle.pas_steps.proofs.Ranged.{guess_fits}
+use Rattle.pas_profile.specs.Classes.{has_bit}
 use Rattle.pas_profile.specs.declared.name.Block.{Block}
 use Rattle.pas_profile.specs.declared.event.Event.{Event}
-use Rattle.pas_profile.specs.declared.word.Word.{Word}
-use Rattle.pas_profile.specs.Runs.{in_run, meets_page, address_of, grain_of, length_of}
-use Rattle.pas_machine.specs.State.{live_in, touches, epoch_in}
-use Rattle.pas_steps.specs.Effects.{in_mask, life_word_at, target}
-use Rattle.pas_steps.specs.Views.{View, Move, Stays, Gets, Puts, Gives, Ends, held_after, holds, holds_all, or_zero, known_epoch, epoch_after, epoch_of, stamp_after, known_stamp, unstamped_after, is_unstamped, ends_on}
 use Rattle.pas_steps.specs.Events.{event_of, with_event, reason_of, sized_reason}
-use Rattle.pas_steps.specs.Allowed.{Allowed, IsStepOf, HoldsOn, MayPutNow, MayGiveNow}
-use Rattle.pas_steps.specs.Lists.{Triple, Whole, part, word_after, visible, IsNext, Legal}
 use Rattle.pas_steps.specs.Desks.{made}
-use Rattle.pas_steps.specs.declared.step.Step.{Step}
-use Rattle.pas_steps.specs.declared.step.Step.TheVariants.{Look, Deed, Back, Take, Put, Give, End, EndSized, Stamp, Tick, Unback}
-use Rattle.pas_core.specs.Stamps.{IsSoAtEnd, EachEnd, IsStampedOr}
+use Rattle.pas_core.specs.Stamps.{IsSoAtEnd, EachEnd, IsStampedOr, KeepsToEnds, AllKeepToEnds}
 use Rattle.pas_steps.proofs.Bits.{all_below-at}
-use Rattle.pas_core.proofs.DeedWords.{next_value, looked}
-use Rattle.pas_core.proofs.Grains.{one_holder}
-use Rattle.pas_core.proofs.Ends.{IsFound, end_finds}
-use Rattle.pas_core.proofs.Epochs.{epoch_known}
 use Rattle.pas_steps.proofs.Flags.{stays_set, was_set}
 use Rattle.pas_core.proofs.Deeds.{event_if, end_if}
 use Rattle.pas_profile.proofs.Runs.{IsMet, met}
+
+-- ==== The epoch only grows, every word fits 64 bits, and epochs and stamps are below 2 ^ 40.
+
+-- ---- the epoch
+-- no step lowers the epoch
+epoch_next : (e : ℕ) (s : Step) (old : ℕ) → old ≤ next_value e s Word.Epoch old
+epoch_next e (Look word) old = omega (arith, looked (same_word word Word.Epoch) old)
+epoch_next e s old = omega arith
+
+epoch_grows : (l : Whole) (t : Triple) → word_after l Word.Epoch ≤ word_after (t ∷ l) Word.Epoch
+epoch_grows l t = epoch_next (epoch_of (part t.actor l)) t.made.step (word_after l Word.Epoch)
+
+-- an actor learns no epoch but that of the word, and its tick the one that it makes
+epoch_learns : (l : Whole) (e : ℕ) (s : Step) (a : ℕ) (known : Option ℕ) → a ≡ word_after l (target s) → or_zero known ≤ word_after l Word.Epoch → or_zero (epoch_after s a known) ≤ next_value e s Word.Epoch (word_after l Word.Epoch)
+epoch_learns l e (Look Word.Epoch) a known is h = omega (arith, is)
+epoch_learns l e (Tick raised) a known is h = omega (arith, is, h)
+epoch_learns l e s a known is h = h
+
+-- the epoch that a view knows is at most the epoch
+pub epoch_known : (f : Profile) (l : Whole) → Legal f l → (k : ℕ) → epoch_of (part k l) ≤ word_after l Word.Epoch
+epoch_known f [] legal k = omega arith
+epoch_known f (t ∷ l) legal k =
+    let next : IsNext f l t = legal.0 in
+    let before : epoch_of (part k l) ≤ word_after l Word.Epoch = epoch_known f l legal.1 k in
+    let new : or_zero (epoch_after t.made.step t.made.answer (known_epoch (part k l))) ≤ word_after (t ∷ l) Word.Epoch = epoch_learns l (epoch_of (part t.actor l)) t.made.step t.made.answer (known_epoch (part k l)) next.answer_is before in
+    let grows : word_after l Word.Epoch ≤ word_after (t ∷ l) Word.Epoch = epoch_grows l t in
+    cond_both (t.actor == k) (t.made ∷ part k l) (part k l) (λ v. epoch_of v ≤ word_after (t ∷ l) Word.Epoch) (λ own. new) (λ other. omega (arith, before, grows))
+
+-- ---- every word is below 2 ^ 64
+deed_small : (f : Profile) (d : Directory) → IsValid f → IsDirectoryOf f d → deed_word_of d < 2 ^ 64
+deed_small f d valid of = omega (arith, kind_number_lt d.kind of.kind, of.heap, valid.heaps)
+
+live_small : (turn n : ℕ) → turn < 2 ^ 40 → n < 2 ^ 23 → live_word turn n < 2 ^ 64
+live_small turn n ht hn = omega arith
+
+value_small : (f : Profile) (e : ℕ) (s : Step) (old : ℕ) → IsValid f → IsStepOf f s → e < 2 ^ 64 → old < 2 ^ 64 → new_value e s old < 2 ^ 64
+value_small f e (Look word) old valid of he h = h
+value_small f e (Deed q d) old valid of he h = cond_both (old == 0) (deed_word_of d) old (λ m. m < 2 ^ 64) (λ here. (deed_small f d valid of.1)) (λ other. h)
+value_small f e (Back q) old valid of he h = or_lt 64 old 1 h (omega arith)
+value_small f e (Take q w mask) old valid of he h = omega (arith, and_le_l old (bit_not w64 mask))
+value_small f e (Put q w mask) old valid of he h = or_lt 64 old mask h of.2
+value_small f e (Give block) old valid of he h = live_small block.name.turn (length_of block) of.turn (give_short f (address_of block.name) block.room valid of.last)
+value_small f e (End name guess) old valid of he h = cond_both (old == live_word name.turn guess) (name.turn + 1) old (λ m. m < 2 ^ 64) (λ here. (omega (arith, of.2))) (λ other. h)
+value_small f e (EndSized name room) old valid of he h = cond_both (old == live_word name.turn (room / 16)) (name.turn + 1) old (λ m. m < 2 ^ 64) (λ here. (omega (arith, of.0.2))) (λ other. h)
+value_small f e (TakeRight q directory) old valid of he h = omega (arith, and_le_l old (bit_not w64 (page_mask q)))
+value_small f e (Offer q directory) old valid of he h = or_lt 64 old (page_mask q) h (page_mask_lt q)
+value_small f e (Park q) old valid of he h = or_lt 64 old (page_mask q) h (page_mask_lt q)
+value_small f e (Unpark q) old valid of he h = omega (arith, and_le_l old (bit_not w64 (page_mask q)))
+value_small f e (Hint q) old valid of he h = or_lt 64 old (page_mask q) h (page_mask_lt q)
+value_small f e (Tick raised) old valid of he h = omega (arith, of, h)
+value_small f e (Unhint q) old valid of he h = omega (arith, and_le_l old (bit_not w64 (page_mask q)))
+value_small f e s old valid of he h = omega arith
+
+opening_small : (word : Word) → opening word < 2 ^ 64
+opening_small Word.Epoch = omega arith
+opening_small s = omega arith
+
+-- every word fits 64 bits
+pub words_fit : (f : Profile) (l : Whole) → IsValid f → Legal f l → (word : Word) → word_after l word < 2 ^ 64
+words_fit f [] valid legal word = opening_small word
+words_fit f (t ∷ l) valid legal word =
+    let next : IsNext f l t = legal.0 in
+    let known : epoch_of (part t.actor l) ≤ word_after l Word.Epoch = epoch_known f l legal.1 t.actor in
+    let epoch : word_after l Word.Epoch < 2 ^ 64 = words_fit f l valid legal.1 Word.Epoch in
+    let old : word_after l word < 2 ^ 64 = words_fit f l valid legal.1 word in
+    cond_both (same_word (target t.made.step) word) (new_value (epoch_of (part t.actor l)) t.made.step (word_after l word)) (word_after l word) (λ m. m < 2 ^ 64)
+    (λ here. value_small f (epoch_of (part t.actor l)) t.made.step (word_after l word) valid next.of_region (omega (arith, known, epoch)) old) (λ other. old)
+
+-- ---- the epoch and the stamps are below 2 ^ 40
+epoch_below : (f : Profile) (e : ℕ) (s : Step) (old : ℕ) → IsStepOf f s → old < 2 ^ 40 → next_value e s Word.Epoch old < 2 ^ 40
+epoch_below f e (Look word) old of h = omega (arith, looked (same_word word Word.Epoch) old, h)
+epoch_below f e (Tick raised) old of h = omega (arith, of, h)
+epoch_below f e s old of h = h
+
+-- the epoch is below 2 ^ 40
+pub epoch_small : (f : Profile) (l : Whole) → Legal f l → word_after l Word.Epoch < 2 ^ 40
+epoch_small f [] legal = omega arith
+epoch_small f (t ∷ l) legal = let next : IsNext f l t = legal.0 in epoch_below f (epoch_of (part t.actor l)) t.made.step (word_after l Word.Epoch) next.of_region (epoch_small f l legal.1)
+
+stamp_below : (e : ℕ) (s : Step) (p old : ℕ) → e < 2 ^ 40 → old < 2 ^ 40 → next_value e s (Word.Stamp p) old < 2 ^ 40
+stamp_below e (Look word) p old he h = omega (arith, looked (same_word word (Word.Stamp p)) old, h)
+stamp_below e (Stamp q) p old he h = cond_both (q == p) (max old e) old (λ m. m < 2 ^ 40) (λ here. (omega (arith, he, h))) (λ other. h)
+stamp_below e s p old he h = h
+
+-- a stamp is an epoch that an actor read, so it is below 2 ^ 40 too
+pub stamp_small : (f : Profile) (l : Whole) → Legal f l → (p : ℕ) → word_after l (Word.Stamp p) < 2 ^ 40
+stamp_small f [] legal p = omega arith
+stamp_small f (t ∷ l) legal p =
+    let known : epoch_of (part t.actor l) ≤ word_after l Word.Epoch = epoch_known f l legal.1 t.actor in
+    stamp_below (epoch_of (part t.actor l)) t.made.step p (word_after l (Word.Stamp p)) (omega (arith, known, epoch_small f l legal.1)) (stamp_small f l legal.1 p)
+
+-- ==== The block that an end finds.
+
+-- ---- the block that an end found
+pub record IsFound (f : Profile) (l : Whole) (name : Name) (guess : ℕ) : Type 0 where
+  pub block : Live
+  pub address_is : address_of block.block.name ≡ 16 * grain_of name
+  pub lives : live_in (visible l) (address_of name) ≡ Some block
+  pub grains_are : length_of block.block ≡ guess
+  pub first : 256 ≤ grain_of name
+  pub last : grain_of name + guess ≤ 256 * (f.pages + 1)
+
+found : (f : Profile) (l : Whole) (name : Name) (word guess gives ends : ℕ) (live : Option Live) → live_in (visible l) (address_of name) ≡ live → IsLifeOf f (grain_of name) word live gives ends
+    → name.turn < 2 ^ 40 → guess < 2 ^ 23 → word ≡ live_word name.turn guess → IsFound f l name guess
+found f l name word guess gives ends None is life turn short h = let w = life.word_is in let few = life.few in absurd (omega (arith, w, few, h))
+found f l name word guess gives ends (Some b) is life turn short h =
+    let w = life.word_is in let few = life.few in let small = life.short in
+    let first = life.first in let last = life.last in
+    let n : length_of b.block ≡ guess = omega (arith, w, few, small, turn, short, h) in
+    record { block = b; address_is = life.address; lives = is; grains_are = n; first = first; last = omega (arith, n, last) }
+
+pub end_finds : (f : Profile) (l : Whole) → IsValid f → Legal f l → (name : Name) (guess a : ℕ) → IsStepOf f (End name guess) → a ≡ word_after l (life_word_at (grain_of name)) → a ≡ live_word name.turn guess → IsFound f l name guess
+end_finds f l valid legal name guess a of is hit =
+    let turn = of.2 in
+    found f l name (word_after l (life_word_at (grain_of name))) guess (gives_in (visible l) (address_of name)) (ends_in (visible l) (address_of name)) (live_in (visible l) (address_of name)) refl (life_at f l valid legal (address_of name) of.1)
+    (omega (arith, turn)) (guess_fits guess f.pages valid.pages of.4) (sym is ∙ hit)
+
+-- ==== The stamps: what is known of them is true, and the epoch of each end on a page is at most the page's stamp, or the page is unstamped for the
+-- actor that made the end.
 
 -- ---- stamps that are known
 abbrev pub stamps : Step → ℕ → Bool
@@ -236,3 +362,105 @@ ends_before f l valid legal k p held stamped =
           let own : j ≡ k = eqb-true j k (one_holder f l valid legal j k on.0 on.2 (held on.0 on.1)) in
           absurd (false≢true (sym stamped ∙ ap (λ i. is_unstamped (part i l) p) (sym own) ∙ un.0))
     ]) (ends_stamped f l valid legal p))
+
+-- ==== Where actors learn no epoch between an end and its stamps, and stamp only what they ended on, the stamp of a page is the greatest epoch of an end
+-- on it, once no page is unstamped.
+
+-- ---- the machine's epoch of a page only grows
+more_epoch : (e : Event) (es : List Event) (p : ℕ) → epoch_in es p ≤ epoch_in (e ∷ es) p
+more_epoch (Event.End k name e) es p = cond_both (touches (live_in es (address_of name)) p) (max (epoch_in es p) e) (epoch_in es p) (λ n. (epoch_in es p) ≤ n) (λ on. omega arith) (λ off. omega arith)
+more_epoch s es p = omega arith
+
+with_more : (o : Option Event) (es : List Event) (p : ℕ) → epoch_in es p ≤ epoch_in (with_event o es) p
+with_more None es p = omega arith
+with_more (Some e) es p = more_epoch e es p
+
+-- a block that an end ended touches each page that its run meets
+touched_by_end : (f : Profile) (l : Whole) → IsValid f → Legal f l → (name : Name) (guess a p : ℕ) → IsStepOf f (End name guess) → a ≡ word_after l (life_word_at (grain_of name)) → (a == live_word name.turn guess) ≡ true → meets_page (grain_of name) guess p ≡ true
+    → touches (live_in (visible l) (address_of name)) p ≡ true
+touched_by_end f l valid legal name guess a p of is hit meets =
+    let at : IsFound f l name guess = end_finds f l valid legal name guess a of is (eqb-true a (live_word name.turn guess) hit) in
+    let e = at.address_is in
+    let first : address_of at.block.block.name / 16 ≡ grain_of name = omega (arith, e) in
+    ap (λ o. touches o p) at.lives ∙ ap (λ n. meets_page (address_of at.block.block.name / 16) n p) at.grains_are ∙ ap (λ g. meets_page g guess p) first ∙ meets
+
+end_reached : (z y : Bool) (k e : ℕ) (name : Name) (reject : Event) (es : List Event) (p : ℕ) → z ≡ true → touches (live_in es (address_of name)) p ≡ true → e ≤ epoch_in (with_event (if z then Some (Event.End k name e) else (if y then None else Some reject)) es) p
+end_reached true y k e name reject es p h on = cond_both (touches (live_in es (address_of name)) p) (max (epoch_in es p) e) (epoch_in es p) (λ n. e ≤ n) (λ here. omega arith) (λ other. absurd (false≢true (sym other ∙ on)))
+end_reached false y k e name reject es p h on = absurd (false≢true h)
+
+end_reaches : (f : Profile) (l : Whole) → IsValid f → Legal f l → (k e : ℕ) (s : Step) (a p : ℕ) → IsStepOf f s → a ≡ word_after l (target s) → ends_on s a p ≡ true → e ≤ epoch_in (with_event (event_of k e s a) (visible l)) p
+end_reaches f l valid legal k e (End name guess) a p of is h = let parts = and_parts (a == live_word name.turn guess) (meets_page (grain_of name) guess p) h in
+    end_reached (a == live_word name.turn guess) (is_live a && (turn_of a == name.turn)) k e name (Event.Reject k name (reason_of name a)) (visible l) p parts.0 (touched_by_end f l valid legal name guess a p of is parts.0 parts.1)
+end_reaches f l valid legal k e (EndSized name room) a p of is h = let parts = and_parts (a == live_word name.turn (room / 16)) (meets_page (grain_of name) (room / 16) p) h in
+    end_reached (a == live_word name.turn (room / 16)) false k e name (Event.Reject k name (sized_reason name room a)) (visible l) p parts.0 (touched_by_end f l valid legal name (room / 16) a p of.0 is parts.0 parts.1)
+end_reaches f l valid legal k e s a p of is h = absurd (false≢true h)
+
+-- ---- steps
+keeps_unstamped : (v : View) (s : Step) (p : ℕ) → KeepsToEnds v s → stamps s p ≡ true → is_unstamped v p ≡ true
+keeps_unstamped v (Stamp q) p keeps h = ap (is_unstamped v) (sym (eqb-true q p h)) ∙ keeps
+keeps_unstamped v s p keeps h = absurd (false≢true h)
+
+stamp_value : (e : ℕ) (s : Step) (p old : ℕ) → next_value e s (Word.Stamp p) old ≤ max old e
+stamp_value e (Look word) p old = omega (arith, looked (same_word word (Word.Stamp p)) old)
+stamp_value e (Stamp q) p old = cond_both (q == p) (max old e) old (λ n. n ≤ max old e) (λ here. omega arith) (λ other. omega arith)
+stamp_value e s p old = omega arith
+
+-- while a page is unstamped no epoch is learned
+same_epoch : (v : View) (s : Step) (a p : ℕ) → KeepsToEnds v s → unstamped_after s a p (is_unstamped v p) ≡ true → epoch_of (made s a ∷ v) ≡ epoch_of v
+same_epoch v (Look Word.Epoch) a p keeps h = absurd (false≢true (sym (keeps p) ∙ h))
+same_epoch v (Tick raised) a p keeps h = absurd (false≢true (sym (keeps p) ∙ h))
+same_epoch v s a p keeps h = refl
+
+ended_or : (x was : Bool) → (if x then true else was) ≡ true → (was ≡ true) ⊎ (x ≡ true)
+ended_or x was h = grind arith
+
+was_or_ends : (s : Step) (a p : ℕ) (was : Bool) → unstamped_after s a p was ≡ true → (was ≡ true) ⊎ (ends_on s a p ≡ true)
+was_or_ends (End name guess) a p was h = ended_or ((a == live_word name.turn guess) && meets_page (grain_of name) guess p) was h
+was_or_ends (EndSized name room) a p was h = ended_or ((a == live_word name.turn (room / 16)) && meets_page (grain_of name) (room / 16) p) was h
+was_or_ends (Stamp q) a p was h = inl (was_set (q == p) was h)
+was_or_ends s a p was h = inl h
+
+-- ---- the induction
+-- the stamp is the epoch of some end, and so is what an actor knows while the page is unstamped for it
+record IsExact (l : Whole) (p : ℕ) : Type 0 where
+  stamp : word_after l (Word.Stamp p) ≤ epoch_in (visible l) p
+  late : (k : ℕ) → is_unstamped (part k l) p ≡ true → epoch_of (part k l) ≤ epoch_in (visible l) p
+
+exact : (f : Profile) (l : Whole) → IsValid f → Legal f l → AllKeepToEnds l → (p : ℕ) → IsExact l p
+exact f [] valid legal keeps p = record { stamp = omega arith; late = λ k h. absurd (false≢true h) }
+exact f (t ∷ l) valid legal keeps p =
+    let next : IsNext f l t = legal.0 in
+    let before : IsExact l p = exact f l valid legal.1 keeps.1 p in
+    let s = t.made.step in
+    let a = t.made.answer in
+    let e : ℕ = epoch_of (part t.actor l) in
+    let more : epoch_in (visible l) p ≤ epoch_in (visible (t ∷ l)) p = with_more (event_of t.actor (epoch_of (part t.actor l)) t.made.step t.made.answer) (visible l) p in
+    let old = before.stamp in
+    let own : is_unstamped (t.made ∷ part t.actor l) p ≡ true → epoch_of (t.made ∷ part t.actor l) ≤ epoch_in (visible (t ∷ l)) p = λ h.
+    let same : epoch_of (t.made ∷ part t.actor l) ≡ epoch_of (part t.actor l) = same_epoch (part t.actor l) t.made.step t.made.answer p keeps.0 h in
+    elim (was_or_ends t.made.step t.made.answer p (is_unstamped (part t.actor l) p) h) [
+      | inl was ↦ let le = before.late t.actor was in omega (arith, same, le, more)
+      | inr ends ↦ let le = end_reaches f l valid legal.1 t.actor (epoch_of (part t.actor l)) t.made.step t.made.answer p next.of_region next.answer_is ends in omega (arith, same, le)
+    ] in
+    record {
+      stamp = elim (cases_Bool (stamps t.made.step p)) [
+        | inl h ↦
+            let le = before.late t.actor (keeps_unstamped (part t.actor l) t.made.step p keeps.0 h) in
+            let value = stamp_value (epoch_of (part t.actor l)) t.made.step p (word_after l (Word.Stamp p)) in
+            omega (arith, old, more, le, value)
+        | inr h ↦ let same = stamp_rests (epoch_of (part t.actor l)) t.made.step p (word_after l (Word.Stamp p)) h in omega (arith, old, more, same)
+      ];
+      late = λ k. cond_both (t.actor == k) (t.made ∷ part k l) (part k l) (λ v. is_unstamped v p ≡ true → epoch_of v ≤ epoch_in (visible (t ∷ l)) p)
+          (λ here. subst (λ j. is_unstamped (t.made ∷ part j l) p ≡ true → epoch_of (t.made ∷ part j l) ≤ epoch_in (visible (t ∷ l)) p) (eqb-true t.actor k here) own) (λ other h. let le = before.late k h in omega (arith, le, more));
+    }
+
+-- the stamp of a page is the greatest epoch of an end on it, once the page is unstamped for nobody
+pub stamps_are_ends : (f : Profile) (l : Whole) → IsValid f → Legal f l → AllKeepToEnds l → (p : ℕ) → ((k : ℕ) → is_unstamped (part k l) p ≡ false) → word_after l (Word.Stamp p) ≡ epoch_in (visible l) p
+stamps_are_ends f l valid legal keeps p settled =
+    let at : IsExact l p = exact f l valid legal keeps p in
+    let most = at.stamp in
+    let least : epoch_in (visible l) p ≤ word_after l (Word.Stamp p) = ends_bound (visible l) p (word_after l (Word.Stamp p)) (ends_map (IsStampedOr l p) (λ j e. e ≤ word_after l (Word.Stamp p)) (visible l) p (λ j n late. elim late [
+      | inl le ↦ le
+      | inr un ↦ absurd (false≢true (sym (settled j) ∙ un.0))
+    ]) (ends_stamped f l valid legal p)) in
+    omega (arith, most, least)

@@ -1,40 +1,21 @@
 -- One actor alone goes on with one search for a page that serves a small request, after a list at whose end all are at rest: what the steps of the search
 -- show, and what its answer says of the words before it.
-use Rattle.std.specs.Prelude.{ℕ, ◌+◌, ◌/◌, ◌%◌, ◌<◌, ◌≡◌, ◌⊎◌, Bool, true, false, List, ◌++◌, Result, Ok, Err, None}
-use Rattle.pas_profile.specs.Directories.{number_of}
+use Rattle.std.specs.Prelude.{ℕ, ◌+◌, ◌/◌, ◌%◌, ◌<◌, ◌≡◌, ◌⊎◌, true, false, List, ◌++◌, Result, Ok, Err, None}
 use Rattle.pas_profile.specs.Profiles.{IsPage}
 use Rattle.pas_profile.specs.declared.directory.Directory.{Directory}
 use Rattle.pas_profile.specs.declared.event.NoRoom.{NoRoom}
 use Rattle.pas_profile.specs.declared.event.NoRoom.TheVariants.{NoSpace, Held}
 use Rattle.pas_profile.specs.declared.profile.Profile.{Profile}
-use Rattle.pas_profile.specs.declared.word.Word.TheVariants as Word
 use Rattle.pas_steps.specs.Desks.{triples}
 use Rattle.pas_steps.specs.Events.{event_of}
 use Rattle.pas_steps.specs.Evidence.{Readings, OneHere, LacksAfter, ShowsHere, Searched, AllDeeds, HeldHere}
 use Rattle.pas_steps.specs.Kinds.{kind_of, is_in, lending}
-use Rattle.pas_steps.specs.Lists.{Whole, part, word_after, Legal}
+use Rattle.pas_steps.specs.Lists.{Whole, part, Legal}
 use Rattle.pas_steps.specs.Past.{Once, Always}
 use Rattle.pas_steps.specs.Views.{View, holds, KnowsDeed}
 use Rattle.pas_steps.specs.declared.step.Made.{Made}
 use Rattle.pas_steps.specs.declared.step.Step.TheVariants.{Deed}
-use Rattle.pas_core.specs.Rights.{eligible_bit, free_of_page}
-
--- ---- pages that can serve
--- the page is offered to the directory, and fits
-pub record IsOfferedFit (no_fit : Readings → Type 0) (f : Profile) (d : Directory) (l : Whole) (page : ℕ) : Type 0 where
-  pub of_region : IsPage f page
-  pub offered : eligible_bit l (number_of d) page ≡ true
-  pub fits : no_fit (free_of_page l page) → ⊥
-
--- the page has no deed
-pub record IsBarePage (f : Profile) (l : Whole) (page : ℕ) : Type 0 where
-  pub of_region : IsPage f page
-  pub no_deed : word_after l (Word.Deed page) ≡ 0
-
--- no page can serve
-pub record HasNoFit (no_fit : Readings → Type 0) (f : Profile) (d : Directory) (l : Whole) : Type 0 where
-  pub offered : (page : ℕ) → IsOfferedFit no_fit f d l page → ⊥
-  pub bare : (page : ℕ) → IsBarePage f l page → ⊥
+use Rattle.pas_core.specs.Fits.{HasNoFit}
 
 -- ---- what the steps of a search show, the newest first, where the actor's view before them was this one
 -- The page was read as offered, before which the call never had its right. Each of its free words was read with the right, so that the readings
@@ -83,7 +64,3 @@ pub record IsPlainAnswer (no_fit : Readings → Type 0) (f : Profile) (d : Direc
   pub not_held : (page : ℕ) → answer ≡ Err (Held page) → ⊥
   pub none_fits : answer ≡ Err NoSpace → HasNoFit no_fit f d l
   pub no_space : HasNoFit no_fit f d l → answer ≡ Err NoSpace
-
--- nothing fits, by a test of which grains of a page are free
-abbrev pub NothingFits : (Readings → Bool) → Readings → Type 0
-NothingFits fits free = fits free ≡ false

@@ -19,6 +19,7 @@ pub fn answers_agree()
 {}
 
 /// At most one actor has the right of a page, and only where the page has a deed.
+#[tactic(auto, using(crate::proofs::Rights::one_has_right, crate::proofs::Rights::right_has_deed))]
 pub fn one_right()
     ensures one { (f : Profile) (l : Whole) → Legal f l → (j k page : ℕ) → has_right (part j l) page ≡ true → has_right (part k l) page ≡ true → j ≡ k }
     ensures deed { (f : Profile) (l : Whole) → Legal f l → (k page : ℕ) → has_right (part k l) page ≡ true → word_after l (Word.Deed page) ≢ 0 }
@@ -38,6 +39,7 @@ pub fn known_is_true()
 {}
 
 /// Each grain of a page without a deed is free.
+#[tactic(auto, using(crate::proofs::Rights::free_without_deed))]
 pub fn untouched()
     ensures { (f : Profile) (l : Whole) → Legal f l → (g : ℕ) → word_after l (Word.Deed (g / 256)) ≡ 0 → has_bit (word_after l (free_word_at g)) (g % 64) ≡ true }
 {}

@@ -22,17 +22,20 @@ ghost use Rattle.pas_steps.specs.Desks.{triples};
 ghost use Rattle.pas_steps.specs.declared.step.Made.{Made};
 
 pub use crate::knowledge_laws::{answers_agree, known_is_true, one_right, untouched};
-pub use crate::lone_laws::a_lone_search_finds_what_there_is;
+pub use crate::lone_laws::{Fitting, a_lone_search_finds_what_there_is};
+pub use crate::order_laws::{steps_extend_one_part, words_follow};
 
 /// However the steps of the actors fall between each other, what they did is a run of the machine: each block was given where no
 /// other lived, on backed pages of its heap and under a name of its own, each end ended the very block of its name, and each
 /// refusal had its true reason.
+#[tactic(auto, using(crate::proofs::MachineRuns::runs))]
 pub fn events_run()
     ensures { (f : Profile) (l : Whole) → IsValid f → Legal f l → Run f (visible l) }
 {}
 
 /// The words of the region say exactly what the machine says: of each page its deed and whether it is backed, of each grain the block
 /// that lives there and how many ended there. So an actor that reads a word reads the machine's state.
+#[tactic(auto, using(crate::proofs::MachineRuns::agrees))]
 pub fn agrees()
     ensures { (f : Profile) (l : Whole) → IsValid f → Legal f l → AgreesWithWords f l }
 {}
@@ -47,12 +50,14 @@ pub fn placed()
 /// The right of each page that has a deed is in exactly one place: one actor has it, or the page's bit is set in the eligible vector of
 /// its own directory, or its parked bit is set. A page without a deed has none of these. So no right is lost and none is doubled,
 /// no bit of a page is set in the vector of another directory, and no actor finds a right offered or parked that another has.
+#[tactic(auto, using(crate::proofs::Rights::right_in_one_place))]
 pub fn one_place_of_a_right()
     ensures { (f : Profile) (l : Whole) → Legal f l → (page : ℕ) → IsRightInOnePlace f l page }
 {}
 
 /// A parked page isn't forgotten: where it has a free grain that blocks of its directory may cover, some actor owes a look at that free
 /// word. So once no actor owes a check, a parked page has nothing to give.
+#[tactic(auto, using(crate::proofs::Offers::parked_is_owed))]
 pub fn parked_pages_are_checked()
     ensures { (f : Profile) (l : Whole) → Legal f l → (page word bit : ℕ) → parked_bit l page ≡ true → IsUsableFree l page word bit → IsOwed l page word }
 {}
@@ -68,6 +73,7 @@ pub fn ends_are_stamped()
 
 /// Where each actor learns no epoch between an end and its stamps, and stamps only pages on which it ended a block since, the stamp of a page is
 /// just the greatest epoch of an end on it, once the page is unstamped for nobody.
+#[tactic(auto, using(crate::proofs::Stamps::stamps_are_ends))]
 pub fn stamps_are_ends()
     ensures { (f : Profile) (l : Whole) → IsValid f → Legal f l → AllKeepToEnds l → (page : ℕ) → ((k : ℕ) → is_unstamped (part k l) page ≡ false) → word_after l (Word.Stamp page) ≡ epoch_in (visible l) page }
 {}
@@ -86,12 +92,14 @@ pub fn nothing_is_lost()
 {}
 
 /// A page can be unbacked: in every region some legal list does it.
+#[tactic(auto, using(crate::proofs::CanUnback::can_unback))]
 pub fn unbacks_happen()
     ensures { (f : Profile) → IsValid f → (l : Whole) × Legal f l × (more : List Event) × (visible l ≡ Event.Unback 0 1 f.age ∷ more) }
 {}
 
 /// No page with room is lost: where a page with a deed has a free grain that blocks of its directory may cover, while no actor has the page's
 /// right and no actor owes a look at that free word, the page is offered to its directory.
+#[tactic(auto, using(crate::proofs::Offers::free_is_offered))]
 pub fn free_pages_are_offered()
     ensures { (f : Profile) (l : Whole) → Legal f l → (page word bit : ℕ) → word_after l (Word.Deed page) ≢ 0 → IsUsableFree l page word bit
         → NobodyHasRight l page → NobodyOwes l page word → IsRightOffered f l page }
@@ -99,6 +107,7 @@ pub fn free_pages_are_offered()
 
 /// While one actor alone goes on after a list at whose end nobody has the right of a page, the page is offered or parked wherever it has a deed
 /// and that actor hasn't its right. So what it reads as neither is its own.
+#[tactic(auto, using(crate::proofs::Offers::lone_right))]
 pub fn a_lone_actor_misses_no_right()
     ensures { (f : Profile) (l : Whole) (k : ℕ) (steps : List Made) → Legal f (triples k steps ++ l) → (page : ℕ) → NobodyHasRight l page
         → word_after (triples k steps ++ l) (Word.Deed page) ≢ 0 → has_right (part k (triples k steps ++ l)) page ≡ false
@@ -106,6 +115,7 @@ pub fn a_lone_actor_misses_no_right()
 {}
 
 /// The actors of a list are the scavenger and the threads of the profile: any other made no step.
+#[tactic(auto, using(crate::proofs::Offers::no_other_actor))]
 pub fn actors_are_few()
     ensures { (f : Profile) (l : Whole) → Legal f l → (k : ℕ) → f.threads < k → part k l ≡ [] }
 {}
@@ -132,6 +142,7 @@ pub fn names_last()
 
 /// Turns are small: a name's turn is the number of blocks that were given at its address before, which is at most the number of
 /// events so far, and an actor gave at most as many blocks as it has events.
+#[tactic(auto, using(crate::proofs::Lives::turns_few, pas_steps::proofs::Frames::given_le))]
 pub fn few_gives()
     ensures turns { (es : List Event) (address : ℕ) → gives_in es address ≤ length es }
     ensures own { (k : ℕ) (v : View) → given_count v ≤ length (events_of k v) }

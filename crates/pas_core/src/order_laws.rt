@@ -14,6 +14,7 @@ ghost use Rattle.pas_core.specs.WordLists.{AreWordsAfter};
 
 /// A step that may come next at the end of a legal list gives a legal list, in which just its actor's part has the step. So where each
 /// actor keeps its own list, one order of all of them stays one when one actor goes on.
+#[tactic(auto, using(crate::proofs::Nexts::extends_one_part, crate::proofs::Nexts::one_order_next))]
 pub fn steps_extend_one_part()
     ensures part { (f : Profile) (l : Whole) (k : ℕ) (m : Made) → Legal f l → IsNext f l (triple k m) → ExtendsOnePart f l k m }
     ensures order { (l : Whole) (own : ℕ → View) (k : ℕ) (m : Made) → IsOneOrder l own → IsOneOrder (triple k m ∷ l) (with_step k m own) }

@@ -4,9 +4,9 @@ use Rattle.pas_profile.specs.declared.name.Name.{Name}
 use Rattle.pas_free_log.specs.declared.log.Entry.{Entry}
 use Rattle.pas_free_log.specs.declared.log.FreeLog.{FreeLog}
 
--- what is in it, in order
+-- A log is the list of its entries, in order. Contracts above may say so by this name.
 abbrev pub entries_in : FreeLog → List Entry
-entries_in log = log.entries.items
+entries_in log = log
 
 -- the entry of a name with a room. A room of 0 says that none was named: each block has 16 bytes at least
 abbrev pub sized_entry : Name → ℕ → Entry

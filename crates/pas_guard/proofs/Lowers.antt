@@ -1,5 +1,5 @@
 -- A guard is lowered.
-use Rattle.std.proofs.Common.{◌≡◌, ℕ, ◌+◌, ◌/◌, ◌==◌, Bool, true, false, ◌||◌, if◌then◌else◌, List, ◌++◌, length, inl, refl, ap, sym, ◌∙◌, arith, length-append}
+use Rattle.std.proofs.Common.{◌≡◌, ℕ, ◌/◌, ◌==◌, Bool, true, false, ◌||◌, if◌then◌else◌, ◌++◌, inl, refl, ap, sym, ◌∙◌, arith, length-append}
 use Rattle.std.proofs.lemmas.Bool.{eqb-true, eq-eqb, ne_eqb}
 use Rattle.pas_profile.specs.declared.directory.Directory.{Directory}
 use Rattle.pas_profile.specs.declared.profile.Profile.{Profile}
@@ -11,7 +11,6 @@ use Rattle.pas_rights.proofs.Looks.{on_full}
 use Rattle.pas_steps.specs.Calls.{Calls, Kept, Lost, now, Does}
 use Rattle.pas_steps.specs.Desks.{Standing, CanCall}
 use Rattle.pas_steps.specs.Views.{View, holds, KnowsDeed}
-use Rattle.pas_steps.specs.declared.step.Made.{Made}
 use Rattle.pas_steps.proofs.Apart.{only_both}
 use Rattle.pas_steps.proofs.Called.{call_then, next_call, call_as, call_knows}
 use Rattle.pas_steps.proofs.Calls.{does_as, does_then}

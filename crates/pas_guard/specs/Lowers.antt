@@ -1,5 +1,5 @@
 -- A guard is lowered: its outer pages are put back.
-use Rattle.std.specs.Prelude.{ℕ, ◌+◌, ◌/◌, ◌≤◌, ◌≡◌, true, if◌then◌else◌, List, ◌++◌, length}
+use Rattle.std.specs.Prelude.{ℕ, ◌/◌, ◌≤◌, ◌≡◌, true, if◌then◌else◌, List, ◌++◌, length}
 use Rattle.pas_profile.specs.declared.profile.Profile.{Profile}
 use Rattle.pas_rights.specs.PutsBack.{giving_back}
 use Rattle.pas_steps.specs.Calls.{Calls, Effect, Kept, Lost, Does}

@@ -1,6 +1,6 @@
 -- What several reads or writes in a row do to the bytes that are told.
-use Rattle.std.proofs.Common.{◌≡◌, ℕ, ◌+◌, ◌≤◌, List, ◌++◌, Option, None, Some, take, drop, length, ap, sym, ◌∙◌, subst, append_assoc, arith, length-take}
-use Rattle.std.proofs.lemmas.List.{take-append-le, take-append-drop, take_all}
+use Rattle.std.proofs.Common.{◌≡◌, ℕ, ◌+◌, ◌≤◌, List, [], ◌++◌, Option, None, Some, take, drop, length, ap, sym, ◌∙◌, subst, append_assoc, arith, length-take}
+use Rattle.std.proofs.lemmas.List.{take-append-le, take-append-drop, take_all, drop_all}
 use Rattle.std.proofs.Math.Seq.{take-add, take-append-add}
 use borrow.Rule.Slice.PartMut.{put_mid, post_of}
 use Rattle.pas_io.specs.Inputs.{HasRead}
@@ -45,6 +45,10 @@ has_read_grown told rest items new more n size full less is read = record { with
 -- a source that was read to its end
 pub whole_input : (told : List ℕ) (rest : Option (List ℕ)) (buffer bytes : List ℕ) (n most : ℕ) → bytes ≡ take n buffer → n ≤ most → HasRead told rest buffer n → n ≡ length told → (bytes ≡ told) × (length told ≤ most)
 whole_input told rest buffer bytes n most is fits read all = (is ∙ read.front ∙ take_all n told (omega arith), omega arith)
+
+-- .. of which nothing is left then
+pub read_out : (told : List ℕ) (rest : Option (List ℕ)) (buffer : List ℕ) (n : ℕ) → HasRead told rest buffer n → n ≡ length told → rest ≡ Some []
+read_out told rest buffer n read all = read.left ∙ ap Some (drop_all n told (omega (arith, all)))
 
 -- a slice of a whole vector that came back
 pub all_of_it : (slice items : List ℕ) (n : ℕ) → length slice ≡ n → take n (slice ++ drop (length slice) items) ≡ slice

@@ -1,5 +1,5 @@
 -- What was read of a source.
-use Rattle.std.specs.Prelude.{ℕ, ◌<◌, ◌≤◌, ◌≡◌, List, Option, Some, take, drop, length}
+use Rattle.std.specs.Prelude.{ℕ, ◌<◌, ◌≤◌, ◌≡◌, List, [], Option, Some, take, drop, length}
 use Rattle.pas_io.specs.declared.whole.Input.{Input}
 use Rattle.pas_io.specs.declared.whole.Input.TheVariants.{Whole, TooLong}
 
@@ -12,6 +12,11 @@ IsInput most told TooLong = most < length told
 abbrev pub IsShort : ℕ → Input → Type 0
 IsShort most (Whole bytes) = length bytes.items ≤ most
 IsShort most TooLong = Unit {0}
+
+-- nothing is left of a source whose bytes are all the input
+abbrev pub IsReadOut : Input → Option (List ℕ) → Type 0
+IsReadOut (Whole bytes) rest = rest ≡ Some []
+IsReadOut TooLong rest = Unit {0}
 
 -- n of the bytes were taken, which stand in the buffer's front, and the others are left
 pub record HasRead (told : List ℕ) (rest : Option (List ℕ)) (buffer : List ℕ) (n : ℕ) : Type 0 where

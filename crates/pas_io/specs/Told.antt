@@ -26,7 +26,7 @@ Writes (Some held) after bytes = after ≡ Some (held ++ bytes)
 abbrev pub WritesFront : Option (List ℕ) → Option (List ℕ) → List ℕ → Type 0
 WritesFront before after bytes = (front : List ℕ) × (back : List ℕ) × (bytes ≡ front ++ back) × Writes before after front
 
--- a text was written for a status, or a first part of it and the sink's count of faults rose, which is status 4
+-- a text was written for a status and the sink counted no fault, or a first part of it was and the sink's count of faults rose, which is status 4
 abbrev pub Tells : Option (List ℕ) → Option (List ℕ) → ℕ → ℕ → List ℕ → ℕ → ℕ → Type 0
 Tells before after faults faults' text status answer =
-    ((answer ≡ status) × Writes before after text) ⊎ ((answer ≡ 4) × Rose faults faults' × WritesFront before after text)
+    ((answer ≡ status) × (faults' ≡ faults) × Writes before after text) ⊎ ((answer ≡ 4) × Rose faults faults' × WritesFront before after text)

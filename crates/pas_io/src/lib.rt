@@ -14,6 +14,11 @@ pub mod whole;
 ghost use Rattle.std.specs.Prelude.{◌≡◌, ◌≢◌, ◌<◌, ◌≤◌, ◌+◌, ℕ, List, [], Option, length, take, IfOk, OnErr};
 ghost use Rattle.pas_io.specs.Told.{Rose, MovesTold, Writes};
 
+pub use memory::{MemorySink, MemorySource};
+pub use real::{RealSink, RealSource};
+pub use sure::{SureSink, SureSource};
+pub use whole::write_all;
+
 /// A read or a write failed.
 #[derive(Clone, Copy, Debug, PartialEq, Eq, Drop)]
 pub struct Failed;

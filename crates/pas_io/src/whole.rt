@@ -1,7 +1,7 @@
 //! Reading and writing whole texts.
 ghost use Rattle.std.specs.Prelude.{◌≡◌, ◌<◌, ◌≤◌, ◌+◌, ◌-◌, ◌^◌, ℕ, List, Some, length, IfOk, OnOk, OnErr, IsErrOf};
 ghost use Rattle.pas_io.specs.Told.{Rose, Writes, WritesFront};
-ghost use Rattle.pas_io.specs.Inputs.{HasRead, IsInput, IsShort, Takes};
+ghost use Rattle.pas_io.specs.Inputs.{HasRead, IsInput, IsReadOut, IsShort, Takes};
 
 use crate::{Failed, Sink, Source};
 use std::alloc::Global;
@@ -85,6 +85,7 @@ pub fn read_all<S: Source>(alloc: Global, source: &mut S, most: usize) -> Result
     requires { most < 2 ^ 32 }
     ensures input { IfOk result (λ input. (told : List ℕ) → S.rest source.old ≡ Some told → IsInput most told input) }
     ensures short { IfOk result (IsShort most) }
+    ensures ended { IfOk result (λ input. (told : List ℕ) → S.rest source.old ≡ Some told → IsReadOut input (S.rest source.new)) }
     ensures takes { (told : List ℕ) → S.rest source.old ≡ Some told → Takes told (S.rest source.new) (most + 1) }
     ensures sound { IfOk result (λ input. S.faults source.new ≡ S.faults source.old) }
     ensures memory { IsErrOf result Stop.Memory → S.faults source.new ≡ S.faults source.old }

@@ -74,6 +74,7 @@ allocates heap n first tells find block give =
       adds = calls.adds;
       told = λ t v l stood met. (first, find.told t v l stood met, ap (λ (b : Block). address_of b.name) give.block_is);
       kinds = find.kinds;
+      returns = find.returns;
       shows = find.shows;
       few = (let k = length-append (give.left ++ (give_steps first 0 block give.word give.answer ++ give.backs)) find.steps in let a = give.few in let b = find.few in omega (arith, k, a, b));
       outcome = record {
@@ -117,6 +118,7 @@ refuses_large {σ} {σ1} heap n tells find why laws parts refused =
             true_reason f σ.seat.actor l (large_directory heap) steps legal only (subst (λ x. Agreed f x steps) (sym own) (adds.agreed v l stood met)) (λ p of. once_later (DeedReadHere p) refused.steps find.steps (find.outcome.vain.deeds p of)) why reason,
           );
       kinds = find.kinds;
+      returns = find.returns;
       shows = find.shows;
       few = (let k = length-append refused.steps find.steps in let a = refused.few in let e = ap (λ (x : Profile). x.pages) same in let b = find.few in omega (arith, k, a, b, e));
       outcome = record {
@@ -176,6 +178,7 @@ serves_named heap n first found tells claim block give =
       rest = _;
       adds = calls.adds;
       old = claim.old;
+      returns = claim.returns;
       shows = claim.shows;
       few = omega (arith, k, a, b, most);
       told = λ none. absurd (some_none first found claim.outcome.named none);
@@ -213,6 +216,7 @@ scans_after {σ} {σ1} heap n found tells claim answer scan =
       rest = scan.after ++ scan.searched;
       adds = adds_call claim.adds scan.adds (λ v l stood met. let agreed = claim.adds.agreed v l stood met in find_again σ.seat.profile d v claim.steps met agreed (claim.outcome.still.from v met agreed));
       old = claim.old;
+      returns = claim.returns;
       shows = claim.shows;
       few = omega (arith, k, a, b, e);
       told = λ none t v l stood met.
@@ -228,6 +232,7 @@ scans_after {σ} {σ1} heap n found tells claim answer scan =
         after = scan.after;
         rest_is = refl;
         kinds = scan.kinds;
+        returns = scan.returns;
         shows = subst (λ f. OnlyDeedsShow f scan.searched) same scan.shows;
         outcome = subst (λ f. MatchResult answer (IsAllocatedLarge f d n scan.searched scan.after) (IsRefusedLarge f d n scan.searched scan.after)) same scan.outcome;
       });

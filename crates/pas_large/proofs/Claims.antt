@@ -1,28 +1,29 @@
 -- The claim of the pages of a run, one page more, and how they are left.
 use Rattle.pas_steps.specs.Clear.{IsClear}
 use Rattle.pas_steps.proofs.SpareRoom.{Spares, spare_falls}
-use Rattle.std.proofs.Common.{◌≡◌, ◌≢◌, ℕ, ◌+◌, ◌/◌, ◌-◌, ◌^◌, ◌<◌, ◌≤◌, ◌==◌, ◌*◌, min, nat_le, nat_lt, Bool, true, false, ◌||◌, if◌then◌else◌, List, [], ◌∷◌, ◌++◌, inl, inr, refl, ap, sym, ◌∙◌, arith, true≢false, ◌%◌, ◌&&◌, length, subst, append_assoc, length-append, Some, None}
+use Rattle.std.proofs.Common.{◌≡◌, ◌≢◌, ℕ, ◌+◌, ◌/◌, ◌-◌, ◌<◌, ◌≤◌, ◌==◌, ◌*◌, min, nat_le, nat_lt, Bool, true, false, ◌||◌, if◌then◌else◌, List, [], ◌++◌, inl, inr, refl, ap, sym, ◌∙◌, arith, true≢false, length, subst, append_assoc, length-append, Some, None}
 use Rattle.std.proofs.lemmas.Bool.{and_parts, cases_Bool, cases_eq, eqb-true}
 use Rattle.std.proofs.lemmas.Bool.Decides.{nat_tests}
 use Rattle.pas_profile.specs.declared.directory.Directory.{Directory}
-use Rattle.pas_bits.specs.declared.mask.Mask4.{Mask4}
-use Rattle.pas_bits.specs.Masks.{is_set}
 use Rattle.pas_steps.specs.Calls.{Kept, Gained, Lost, now, nothing, Does, Calls, Leads}
 use Rattle.pas_steps.specs.Frames.{IsOnPage, OnlyOn}
-use Rattle.pas_steps.specs.Past.{Since}
-use Rattle.pas_steps.specs.Evidence.{KeptHere}
+use Rattle.pas_steps.specs.Past.{Once, Since}
+use Rattle.pas_steps.specs.Evidence.{KeptHere, GetsHere}
 use Rattle.pas_steps.specs.Views.{View, Stays, grain_move, holds, has_right, KnowsDeed}
 use Rattle.pas_steps.specs.declared.step.Step.{Step}
 use Rattle.pas_steps.specs.declared.step.Made.{Made}
 use Rattle.pas_steps.specs.declared.step.Step.TheVariants.{Deed, Park}
 use Rattle.pas_steps.proofs.Calls.{does_as, does_then, does_after_nothing, does_none}
 use Rattle.pas_steps.proofs.Kept.{right_on, on_grain, holds_on_page, knows_still}
-use Rattle.pas_steps.proofs.Past.{always_both, always_map, once_later}
+use Rattle.pas_steps.proofs.Past.{always_both, always_map, once_later, once_earlier}
 use Rattle.pas_steps.proofs.Sets.{both_fates}
 use Rattle.pas_scan.specs.Usable.{ParksNotHere, MakesNoDeedHere, LeftAlone}
 use Rattle.pas_large.specs.Pages.{of_pages, GotPages, MayClaim, DeedsOn, OnlyDeedsShow, claiming, claiming_old, LosesPage, BreaksPage, WinsPage, ClaimsPage}
 use Rattle.pas_large.specs.Claims.{in_span, MayClaimPages, HasRunRoom, AloneFrom, DeedsIn, HoldsSpan, FailsAt, ClaimsPages, HasPages, Releases, ClaimsRun, LacksAll, StaysPut}
-use Rattle.pas_large.proofs.Pages.{MadeHere, since_more, undone, no_deeds, knew_before, shows_both, shows_taking, after_more}
+use Rattle.pas_search.specs.Kinds.{IsReturnOf}
+use Rattle.pas_search.proofs.Returns.{duly_both, duly_in, return_page}
+use Rattle.pas_rights.proofs.Hints.{hints_both, put_and_leave_hints}
+use Rattle.pas_large.proofs.Pages.{DeedsFrom, from_on, from_none, rise_none, rise_both, MadeHere, since_more, undone, no_deeds, knew_before, shows_both, shows_taking, after_more}
 use Rattle.pas_profile.specs.Profiles.{IsPage}
 use Rattle.pas_profile.specs.declared.profile.Profile.{Profile}
 use Rattle.pas_rights.specs.Puts.{masked}
@@ -32,15 +33,13 @@ use Rattle.pas_rights.proofs.Looks.{on_full}
 use Rattle.pas_steps.specs.Agreement.{Agreed}
 use Rattle.pas_steps.specs.Desks.{Seat, Standing, CanCall, Adds}
 use Rattle.pas_steps.specs.Events.{events_by}
-use Rattle.pas_steps.specs.Lists.{Whole}
 use Rattle.pas_steps.specs.Unknown.{unknown_pages}
 use Rattle.pas_steps.proofs.Adding.{adds_none, adds_call, can_call, agreed_first, agreed_later, adds_under}
 use Rattle.pas_steps.proofs.Apart.{only_both, only_within}
 use Rattle.pas_steps.proofs.Called.{call_none, call_then, next_call, call_as}
 use Rattle.pas_scan.proofs.LeftPages.{usable_later}
-use Rattle.pas_large.specs.Evidence.{LostHere, BrokenHere, TakenWholeHere}
+use Rattle.pas_large.specs.Evidence.{LostHere, BrokenHere, TakenWholeHere, DeedsBelow}
 use Rattle.pas_large.specs.declared.claiming.Claimed.{Claimed}
-use Rattle.std.proofs.Math.Bool.{and-true}
 
 -- ---- pages from one to below another, one page more, and what becomes of them
 pub span_in : (first stop p : ℕ) → first ≤ p → p < stop → in_span first stop p ≡ true
@@ -158,8 +157,11 @@ pages_none deeds d first = record {
     adds = adds_none;
     kinds = tt;
     old = λ none. tt;
+    returns = tt;
+    gets = λ p low high. absurd (omega (arith, low, high));
     few = omega arith;
     made = tt;
+    rise = tt;
     shows = λ k v agreed. omega arith;
     span = (omega arith, omega arith);
     got = record { from = λ v met agreed. got_none d (in_span first first) v (span_none first) (does_none v) };
@@ -177,6 +179,15 @@ MadeIn d first end m before = (p : ℕ) (e : Directory) → m.step ≡ Deed p e 
 deeds_join : (d : Directory) (first stop end page : ℕ) (ys xs : List Made) → first ≤ page → page < end → stop ≤ end → DeedsOn d page ys → DeedsIn d first stop xs → DeedsIn d first end (ys ++ xs)
 deeds_join d first stop end page ys xs low high le on within = always_both (MadeHere d page) (MadeIn d first end) ys xs (λ m before h p e same z. let its = h p e same z in let at = its.1 in (its.0, omega (arith, at, low), omega (arith, at, high))) on
     (always_map (MadeIn d first stop) (MadeIn d first end) xs (λ m before h p e same z. let its = h p e same z in let lt = its.2 in (its.0, its.1, omega (arith, lt, le))) within)
+
+deeds_wider : (d : Directory) (first stop end : ℕ) (xs : List Made) → stop ≤ end → DeedsIn d first stop xs → DeedsIn d first end xs
+deeds_wider d first stop end xs le = always_map (MadeIn d first stop) (MadeIn d first end) xs (λ m before h p e same z. let its = h p e same z in let lt = its.2 in (its.0, its.1, omega (arith, lt, le)))
+
+pub deeds_below : (d : Directory) (first stop end : ℕ) (xs : List Made) → stop ≤ end → DeedsIn d first stop xs → DeedsBelow end xs
+deeds_below d first stop end xs le = always_map (MadeIn d first stop) (λ m before. (p : ℕ) (e : Directory) → m.step ≡ Deed p e → m.answer ≡ 0 → p < end) xs (λ m before h p e same z. let lt = (h p e same z).2 in omega (arith, lt, le))
+
+pub deeds_from : (d : Directory) (first stop : ℕ) (xs : List Made) → DeedsIn d first stop xs → DeedsFrom first xs
+deeds_from d first stop xs = always_map (MadeIn d first stop) (λ m before. (p : ℕ) (e : Directory) → m.step ≡ Deed p e → m.answer ≡ 0 → first ≤ p) xs (λ m before h p e same z. (h p e same z).1)
 
 module _ {σ σ1 : Standing} (deeds : Bool) (d : Directory) (first end page : ℕ) (high : page < end) (below : ClaimedBelow deeds d first page σ σ1) where
   abbrev so_far : ClaimsPages deeds d first page σ σ1 page
@@ -212,14 +223,17 @@ module _ {σ σ1 : Standing} (deeds : Bool) (d : Directory) (first end page : �
     turn_alone before free p ge = subst (LeftAlone p) (sym (all_at before)) (alone_on page p ys (xs ++ before) h.on (λ e. absurd (omega (arith, e, ge))) (below.alone before free p (omega (arith, ge))))
 
     turned : (stop : ℕ) → (page ≤ stop) × (stop ≤ end) → Leads σ.seat.profile (MayClaimPages d first end) (GotPages (in_span first stop) d) (ys ++ xs) → ((before : List Made) → AloneFrom first before → HoldsSpan first stop ((ys ++ xs) ++ before))
-        → ((before : List Made) → LacksAll before → (p : ℕ) → in_span first stop p ≡ false → has_right ((ys ++ xs) ++ before) p ≡ false) → (stop < end → deeds ≡ true → FailsAt σ.seat.profile d first stop (ys ++ xs)) → length ys ≤ 6 * (stop - page) + 21 * (min (stop + 1) end - stop) → ClaimsPages deeds d first end σ σ2 stop
-    turned stop at got holding lacks failed few = let low = so_far.span.0 in let above = at.0 in record {
+        → ((before : List Made) → LacksAll before → (p : ℕ) → in_span first stop p ≡ false → has_right ((ys ++ xs) ++ before) p ≡ false) → (stop < end → deeds ≡ true → FailsAt σ.seat.profile d first stop (ys ++ xs)) → length ys ≤ 6 * (stop - page) + 21 * (min (stop + 1) end - stop) → ((p : ℕ) → first ≤ p → p < stop → Once (GetsHere p) (ys ++ xs)) → ClaimsPages deeds d first end σ σ2 stop
+    turned stop at got holding lacks failed few gets = let low = so_far.span.0 in let above = at.0 in record {
       steps = ys ++ xs;
       adds = adds_call {D = MayClaim d page} so_adds h.adds (λ v l stood met. page_may v met (so_adds.agreed v l stood met));
       kinds = only_both claiming ys xs h.kinds so_far.kinds;
       old = λ none. only_both claiming_old ys xs (h.old none) (so_far.old none);
       few = let n = length-append ys xs in let b = so_far.few in omega (arith, n, few, b, low, high, above);
-      made = deeds_join d first page end page ys xs low high (omega (arith, high)) h.made so_far.made;
+      returns = duly_both ys xs h.returns so_far.returns;
+      gets = gets;
+      made = deeds_join d first (min (page + 1) page) (min (stop + 1) end) page ys xs low (omega (arith, high, above)) (omega (arith, high, above)) h.made so_far.made;
+      rise = rise_both page ys xs h.rise so_far.rise (from_on d page ys h.made) (deeds_below d first (min (page + 1) page) page xs (omega arith) so_far.made);
       shows = shows_both σ.seat.profile ys xs (subst (λ (s : Seat). OnlyDeedsShow s.profile ys) so_adds.seat_is h.shows) so_far.shows;
       span = (omega (arith, low, above), at.1);
       got = got;
@@ -251,6 +265,7 @@ module _ {σ σ1 : Standing} (deeds : Bool) (d : Directory) (first end page : �
         ])
         (λ lt. failed)
         (let few = h.few in omega (arith, few, high))
+        (λ p ge lt. once_later (GetsHere p) ys xs (so_far.gets p ge lt))
 
     pub lost_turn : LosesPage deeds σ1.seat.profile d page h.steps → ClaimsPages deeds d first end σ σ2 page
     lost_turn lost =
@@ -286,6 +301,10 @@ module _ {σ σ1 : Standing} (deeds : Bool) (d : Directory) (first end page : �
         (λ before none p out. let ne = not_in first page p low out in ap (λ s. has_right s p) (all_at before) ∙ right_on page p ys (xs ++ before) h.on ne ∙ so_far.lacks before none p (grind (arith, nat_tests)))
         (λ lt. absurd (omega (arith, lt, last)))
         (let few = wins.few in omega (arith, few))
+        (λ p ge lt. elim (cases_eq p page) [
+          | inl e ↦ subst (λ q. Once (GetsHere q) (ys ++ xs)) (sym e) (once_earlier (GetsHere page) (GetsHere page) ys xs (λ m before gets. gets) wins.gets)
+          | inr ne ↦ once_later (GetsHere p) ys xs (so_far.gets p ge (omega (arith, lt, ne)))
+        ])
 
 pub won_turn : {σ σ1 σ2 : Standing} (deeds : Bool) (d : Directory) (first page : ℕ) → ClaimedBelow deeds d first page σ σ1 → (h : ClaimsPage deeds d page σ1 σ2 Claimed.Whole) → ClaimedBelow deeds d first (page + 1) σ σ2
 unfolding won_claims turned
@@ -321,6 +340,8 @@ left_none d first = record {
   steps = [];
   calls = call_none (λ v met. does_as (of_pages (in_span first first) Lost) (does_none v) (λ g. inl (ap (λ t. if t then Lost else Kept) (sym (span_none first (g / 256))))) (λ q. ap (λ t. if t then Lost else Kept) (sym (span_none first q))) (λ q h. h));
   kinds = tt;
+  within = tt;
+  hints = tt;
   few = omega arith;
   lacks = λ before p none. none (span_none first p);
   alone = λ before p ge alone. alone;
@@ -346,6 +367,9 @@ module _ {σ σ1 : Standing} (d : Directory) (first end page : ℕ) (low : first
   pub leave_call : CanCall σ (HasPages d first end) → CanCall σ1 (MayPutAndLeave page d (masked page full))
   leave_call can = next_call known can leave_may
 
+abbrev ReturnsHere : (ℕ → Bool) → Made → List Made → Type 0
+ReturnsHere pages m before = (p : ℕ) → IsReturnOf p m.step → pages p ≡ true
+
 pub left_more : {σ σ1 σ2 : Standing} (d : Directory) (first page : ℕ) → first ≤ page → Releases d first page σ σ1 → PutsAndLeaves page d full σ1 σ2 → Releases d first (page + 1) σ σ2
 left_more d first page low so_far h =
     let ys = h.after ++ h.puts in
@@ -356,6 +380,9 @@ left_more d first page low so_far h =
           (λ g. inl (both_fates Lost (in_span first page (g / 256)) (masked page full g) (in_span first (page + 1) (g / 256)) refl (ap (λ t. in_span first page (g / 256) || t) (on_full page g) ∙ span_more first page (g / 256) low)))
           (λ q. both_fates Lost (in_span first page q) (page == q) (in_span first (page + 1) q) refl (span_more first page q low)) (λ q h. h));
       kinds = only_both giving_back ys so_far.steps h.kinds so_far.kinds;
+      within = always_both (λ m before. IsOnPage page m.step) (ReturnsHere (in_span first (page + 1))) ys so_far.steps (λ m before on p is. ap (in_span first (page + 1)) (return_page page p m.step is on) ∙ span_in first (page + 1) page low (omega arith)) h.on
+          (always_map (ReturnsHere (in_span first page)) (ReturnsHere (in_span first (page + 1))) so_far.steps (λ m before h p is. span_wider first page (page + 1) p (omega arith) (h p is)) so_far.within);
+      hints = hints_both ys so_far.steps (put_and_leave_hints page d full h) so_far.hints;
       few = let n = length-append ys so_far.steps in let a = h.few in let b = so_far.few in omega (arith, n, a, b, low);
       lacks = λ before p none. ap (λ s. has_right s p) (append_assoc ys so_far.steps before) ∙ elim (cases_eq p page) [
         | inl e ↦ ap (has_right (ys ++ (so_far.steps ++ before))) e ∙ h.lacks (so_far.steps ++ before)
@@ -374,7 +401,9 @@ run_claimed {σ} {σ1} deeds d first end stop e h =
       adds = all.adds;
       kinds = all.kinds;
       old = all.old;
-      made = all.made;
+      returns = all.returns;
+      made = deeds_wider d first (min (end + 1) end) end all.steps (omega arith) all.made;
+      rise = all.rise;
       shows = all.shows;
       steady = all.steady;
       outcome = record { few = (let few = all.few in omega (arith, few)); got = all.got; holding = all.holding; lacks = all.lacks; alone = λ before free p ge. all.alone before free p (omega (arith, ge)) };
@@ -397,16 +426,20 @@ module _ {σ σ1 : Standing} (deeds : Bool) (d : Directory) (first end stop : �
   run_failed r =
       let calls = call_then (Does nothing) got_call r.calls may_release
       (λ v met got lost. undone (λ g. in_span first stop (g / 256)) (in_span first stop) got.apart got.lacked got.does lost) in
+      let made_below : DeedsIn d first (stop + 1) (r.steps ++ h.steps) = deeds_join d first (min (stop + 1) end) (stop + 1) stop r.steps h.steps h.span.0 (omega arith) (omega arith) (no_deeds giving_back d stop r.steps refl r.kinds) h.made in
       record {
         steps = r.steps ++ h.steps;
         adds = calls.adds;
         kinds = only_both claiming r.steps h.steps (only_within giving_back claiming r.steps refl r.kinds) h.kinds;
         old = λ none. only_both claiming_old r.steps h.steps (only_within giving_back claiming_old r.steps refl r.kinds) (h.old none);
-        made = deeds_join d first end end stop r.steps h.steps h.span.0 before_end (omega arith) (no_deeds giving_back d stop r.steps refl r.kinds) h.made;
+        returns = duly_in (in_span first stop) r.steps h.steps r.within r.hints (λ p is. let at = in_parts first stop p is in h.gets p at.0 at.1) h.returns;
+        made = deeds_wider d first (stop + 1) end (r.steps ++ h.steps) (let lt = before_end in omega (arith, lt)) made_below;
+        rise = rise_both (stop + 1) r.steps h.steps (rise_none giving_back r.steps refl r.kinds) h.rise (from_none giving_back (stop + 1) r.steps refl r.kinds) (deeds_below d first (min (stop + 1) end) (stop + 1) h.steps (omega arith) h.made);
         shows = shows_both σ.seat.profile r.steps h.steps (shows_taking σ.seat.profile r.steps (only_within giving_back taking_grains r.steps refl r.kinds)) h.shows;
         steady = λ g out. steady_both g r.steps h.steps (r.steady g (narrower first stop end (g / 256) h.span.1 out)) (h.steady g out);
         outcome = record {
           in_run = (h.span.0, before_end);
+          made = made_below;
           few = (let n = length-append r.steps h.steps in let a = r.few in let b = h.few in let le = h.span.0 in let lt = before_end in omega (arith, n, a, b, le, lt));
           still = calls.leads;
           lacks = λ before none p. ap (λ s. has_right s p) (append_assoc r.steps h.steps before) ∙ r.lacks (h.steps ++ before) p (λ out. h.lacks before none p out);

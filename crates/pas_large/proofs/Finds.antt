@@ -1,12 +1,12 @@
 -- The search for a run that can be claimed, one run more.
 use Rattle.pas_steps.proofs.SpareRoom.{Spares}
-use Rattle.std.proofs.Common.{ℕ, ◌+◌, ◌<◌, ◌≤◌, List, [], ◌++◌, refl, ◌∙◌, inl, inr, ◌⊎◌, arith, Option, ◌≡◌, ◌≢◌, true, ◌∷◌, Some, None, ap, sym, subst, append_assoc, true≢false, length, ◌*◌, length-append}
+use Rattle.std.proofs.Common.{ℕ, ◌+◌, ◌<◌, ◌≤◌, List, [], ◌++◌, refl, ◌∙◌, inl, inr, ◌⊎◌, arith, Option, ◌≡◌, true, Some, None, ap, sym, subst, append_assoc, true≢false, length, ◌*◌, length-append}
 use Rattle.std.proofs.lemmas.Bool.{cases_lt, cases_eq}
 use Rattle.pas_profile.specs.declared.directory.Directory.{Directory}
 use Rattle.pas_profile.specs.declared.profile.Profile.{Profile}
 use Rattle.pas_steps.specs.Views.{View, known_deed, KnowsDeed}
-use Rattle.pas_steps.specs.Agreement.{Agreed, Agrees}
-use Rattle.pas_steps.specs.Past.{Once}
+use Rattle.pas_steps.specs.Agreement.{Agreed}
+use Rattle.pas_steps.specs.Past.{Once, Always}
 use Rattle.pas_steps.specs.Kinds.{Only, kind_of, is_in}
 use Rattle.pas_scan.specs.Runs.{page_looks, HasUnusable, IsFirstRun, HasNoRun, IsInRun, FindsRun}
 use Rattle.pas_steps.specs.declared.step.Made.{Made}
@@ -14,13 +14,13 @@ use Rattle.pas_steps.proofs.Past.{once_later, once_earlier, once_map, always_bot
 use Rattle.pas_scan.specs.Usable.{DeedReadHere, UnusableHere, LeftAlone, ParksNotHere, MakesNoDeedHere, ReadUsable}
 use Rattle.pas_scan.proofs.LeftPages.{usable_before, usable_later, unusable_before, left_alone_by, holds_own, deed_before, lacks_by}
 use Rattle.pas_steps.proofs.Frames.{right_own}
-use Rattle.pas_large.specs.Evidence.{LostHere, BrokenHere, BadHere, HasBad, IsVain, AllUsable, FailsHere, HasFailed, DeedsOf}
+use Rattle.pas_search.specs.Kinds.{ReturnsDuly}
+use Rattle.pas_search.proofs.Returns.{duly_both, duly_none}
+use Rattle.pas_large.specs.Evidence.{DeedsBelow, DeedsRise, LostHere, BrokenHere, BadHere, HasBad, IsVain, AllUsable, FailsHere, HasFailed, DeedsOf}
 use Rattle.pas_large.specs.Pages.{OnceAfter, GotPages, OnlyDeedsShow, claiming}
 use Rattle.pas_large.specs.Claims.{AloneFrom, FailsRun, in_span, MayClaimPages, HasRunRoom, LacksAll, ClaimsRun, HoldsRun}
 use Rattle.pas_steps.specs.Calls.{Leads, nothing, Does}
 use Rattle.pas_steps.specs.Desks.{Seat, Standing, Adds, CanCall, triples}
-use Rattle.pas_steps.specs.Evidence.{ReadsDeed, NoDeedHere}
-use Rattle.pas_steps.specs.declared.step.Step.{Step}
 use Rattle.pas_steps.specs.declared.step.Step.TheVariants.{Deed}
 use Rattle.pas_steps.proofs.Adding.{Tells, adds_none, adds_call, agreed_first, agreed_later, legal_after}
 use Rattle.pas_steps.proofs.Apart.{no_events, only_both, only_within}
@@ -30,15 +30,17 @@ use Rattle.pas_steps.proofs.Unknown.{unknown_stays}
 use Rattle.std.specs.Prelude.{Bool}
 use Rattle.std.proofs.lemmas.List.{append-nil}
 use Rattle.pas_profile.specs.Directories.{IsKind}
+use Rattle.pas_profile.specs.Profiles.{IsValid}
 use Rattle.pas_steps.specs.Kinds.{looking}
 use Rattle.pas_steps.specs.Lists.{Whole, part, Legal}
-use Rattle.pas_steps.specs.Views.{has_right}
+use Rattle.pas_core.proofs.Nexts.{agreed_steps}
 use Rattle.pas_core.proofs.OneActorGrains.{lends_none}
+use Rattle.pas_core.proofs.OneActorRights.{legal_earlier}
 use Rattle.pas_large.specs.Telling.{IsUsableRun, IsLowestRun}
 use Rattle.pas_large.proofs.Told.{usable_told, has_unusable, fails_told}
 use Rattle.pas_large.specs.Finds.{MayFind, FindRoom, finding, Finds}
-use Rattle.pas_large.proofs.Pages.{shows_both, known_of}
-use Rattle.pas_large.proofs.Claims.{room_after, got_after}
+use Rattle.pas_large.proofs.Pages.{below_both, below_none, below_wider, from_none, rise_none, rise_both, shows_both, known_of}
+use Rattle.pas_large.proofs.Claims.{deeds_below, deeds_from, room_after, got_after}
 use Rattle.pas_steps.proofs.Evidence.{unknown}
 
 -- ---- the search of runs so far: each run that begins below page `from` can't serve, and the pages from there to below `next` were read as usable
@@ -158,14 +160,28 @@ pub record SearchedRuns (d : Directory) (n from next : ℕ) (desk desk' : Standi
   pub shows : OnlyDeedsShow desk.seat.profile steps
   pub lacks : LacksAll steps
   pub kinds : Only finding steps
+  pub returns : Always ReturnsDuly steps
+  pub rise : DeedsRise steps
+  pub below : DeedsBelow from steps
   pub within : next ≤ desk.seat.profile.pages + 1
   pub few : length steps + 54 ≤ 6 * next + 48 * from
   pub vain : VainSoFar d n from next steps
   pub deeds : DeedsOf d n (λ other. HasFailed d n other steps) steps
 
+-- nothing was done yet
+abbrev pub IsFirst : ℕ → ℕ → List Made → Type 0
+IsFirst from next steps = (from ≡ 1) × (next ≡ 1) × (steps ≡ [])
+
+-- .. where no other actor made a step between these
+abbrev pub IsFirstAlone : Profile → Directory → ℕ → ℕ → List Made → Type 0
+IsFirstAlone f d from next steps = (k : ℕ) (l : Whole) → Legal f (triples k steps ++ l) → MayFind d (part k l) → IsFirst from next steps
+
 pub searched_none : {σ : Standing} (d : Directory) (n : ℕ) → 1 ≤ n → SearchedRuns d n 1 1 σ σ
 searched_none d n some = record {
   kinds = tt;
+  returns = tt;
+  rise = tt;
+  below = tt;
   within = omega arith;
   few = omega arith;
   steps = [];
@@ -204,6 +220,15 @@ module _ {σ σ1 : Standing} (d : Directory) (n from next : ℕ) (low : 1 ≤ fr
     look_kinds : Only finding (ys ++ xs)
     look_kinds = only_both finding ys xs (only_within page_looks finding ys refl find.kinds) so_far.kinds
 
+    look_returns : Always ReturnsDuly (ys ++ xs)
+    look_returns = duly_both ys xs (duly_none page_looks ys refl refl find.kinds) so_far.returns
+
+    look_rise : DeedsRise (ys ++ xs)
+    look_rise = rise_both from ys xs (rise_none page_looks ys refl find.kinds) so_far.rise (from_none page_looks from ys refl find.kinds) so_far.below
+
+    look_below : DeedsBelow from (ys ++ xs)
+    look_below = below_both from ys xs (below_none page_looks from ys refl find.kinds) so_far.below
+
     look_shows : OnlyDeedsShow f (ys ++ xs)
     look_shows = shows_both f ys xs (λ k v agreed. let none = ap (λ es. length es) (no_events page_looks refl k v ys find.kinds) in let stays = unknown_stays f ys v agreed in omega (arith, none, stays)) so_far.shows
 
@@ -224,8 +249,8 @@ module _ {σ σ1 : Standing} (d : Directory) (n from next : ℕ) (low : 1 ≤ fr
     legal_alone tells none v l stood met = subst (λ zs. Legal f (triples σ.seat.actor zs ++ l)) (all_alone none) (legal_after look_adds tells v l stood met)
 
   -- the scan found none
-  pub finds_none : {σ2 : Standing} (tells : Bool) → (tells ≡ true → Tells σ2) → (tells ≡ true → (from ≡ 1) × (next ≡ 1) × (xs ≡ [])) → FindsRun d from next n σ1 σ2 None → Finds d n tells σ σ2 None
-  finds_none tells laws first find = record {
+  pub finds_none : {σ2 : Standing} (tells : Bool) → (tells ≡ true → Tells σ2) → (tells ≡ true → (from ≡ 1) × (next ≡ 1) × (xs ≡ [])) → IsFirstAlone f d from next xs → FindsRun d from next n σ1 σ2 None → Finds d n tells σ σ2 None
+  finds_none tells laws first alone find = record {
     told = λ t v l stood met.
         let at = first t in
         let legal = legal_alone find (laws t) at.2 v l stood met in
@@ -235,13 +260,16 @@ module _ {σ σ1 : Standing} (d : Directory) (n from next : ℕ) (low : 1 ≤ fr
     steps = find.steps ++ xs;
     adds = look_adds find;
     kinds = look_kinds find;
+    returns = look_returns find;
     shows = look_shows find;
     few = (let k = length-append find.steps xs in let a = find.few in let b = so_far.few in let within = so_far.within in let e = ap (λ (x : Profile). x.pages) (same find) in let le = so_far.vain.order.0 in omega (arith, k, a, b, within, e, le));
     outcome = record {
       still = look_still find;
       vain = vain_ends f d n from next find.steps xs low so_far.vain (subst (λ x. HasNoRun x d from next n find.steps) (same find) find.outcome);
       deeds = deeds_looks d n (λ other. HasFailed d n other (find.steps ++ xs)) find.steps xs find.kinds (deeds_map d n (λ other. HasFailed d n other xs) (λ other. HasFailed d n other (find.steps ++ xs)) xs (λ s h. once_later _ find.steps xs h) so_far.deeds);
+      rise = look_rise find;
       lacks = look_lacks find;
+      looked = λ k l legal met. let at = alone k l (legal_earlier f k find.steps xs l legal) met in subst (Only looking) (sym (all_alone find at.2)) (looks_alone find at.2);
     };
   }
 
@@ -287,6 +315,12 @@ module _ {σ σ1 : Standing} (d : Directory) (n from next : ℕ) (low : 1 ≤ fr
       claim_kinds : Only finding (zs ++ ls)
       claim_kinds = only_both finding zs ls (only_within claiming finding zs refl claim.kinds) (look_kinds find)
 
+      claim_returns : Always ReturnsDuly (zs ++ ls)
+      claim_returns = duly_both zs ls claim.returns (look_returns find)
+
+      claim_rise : DeedsRise (zs ++ ls)
+      claim_rise = rise_both first zs ls claim.rise (look_rise find) (deeds_from d first (first + n) zs claim.made) (below_wider from first ls run_at.from_there (look_below find))
+
       claim_shows : OnlyDeedsShow f (zs ++ ls)
       claim_shows = shows_both f zs ls (subst (λ x. OnlyDeedsShow x zs) same2 claim.shows) (look_shows find)
 
@@ -295,30 +329,34 @@ module _ {σ σ1 : Standing} (d : Directory) (n from next : ℕ) (low : 1 ≤ fr
           (λ m before h p e is z. let at = h p e is z in (at.0, (first, (at.1, at.2), usable_still f d n from next first low find.steps xs so_far.vain find.kinds run_at before, its)))
           claim.made (deeds_looks d n P find.steps xs find.kinds (deeds_map d n (λ other. HasFailed d n other xs) P xs more so_far.deeds))
 
-    -- on a desk that tells the whole state all its pages are usable
-    all_usable_told : (l : Whole) → Legal f (triples σ.seat.actor find.steps ++ l) → (from ≡ 1) × (next ≡ 1) × (xs ≡ []) → IsUsableRun d n l first
-    all_usable_told l legal at p here =
+    -- where no other actor made a step between them all its pages are usable
+    usable_alone : (k : ℕ) (l : Whole) → Legal f (triples k find.steps ++ l) → (from ≡ 1) × (next ≡ 1) × (xs ≡ []) → IsUsableRun d n l first
+    usable_alone k l legal at p here =
         let ge = run_at.from_there in let one = at.0 in let also = at.1 in let from_first = here.0 in
-        usable_told f σ.seat.actor l d p find.steps legal (looks_alone find at.2) (run_at.usable p here (omega (arith, ge, one, also, from_first)))
+        usable_told f k l d p find.steps legal (looks_alone find at.2) (run_at.usable p here (omega (arith, ge, one, also, from_first)))
 
     lowest_told : (l : Whole) → Legal f (triples σ.seat.actor find.steps ++ l) → (from ≡ 1) × (next ≡ 1) × (xs ≡ []) → IsLowestRun f d n l first
     lowest_told l legal at = record {
       of_region = (let ge = run_at.from_there in omega (arith, ge, low), run_at.of_region);
-      usable = all_usable_told l legal at;
+      usable = usable_alone σ.seat.actor l legal at;
       lowest = λ other some lt u. has_unusable f σ.seat.actor l d n other find.steps legal (looks_alone find at.2) (run_at.lower other (let one = at.0 in omega (arith, one, some)) lt) u;
     }
 
     -- and its claim doesn't fail
-    pub never_fails : {σ3 : Standing} → IsKind d.kind → Tells σ2 → Tells σ3 → (page : ℕ) → (claim : ClaimsRun true d first (first + n) σ2 σ3 (Some page)) → (from ≡ 1) × (next ≡ 1) × (xs ≡ []) → (can : CanCall σ (MayFind d)) → part σ.seat.actor can.whole ≡ can.view → ⊥
-    never_fails kind tells2 tells3 page claim at can own =
-        let adds = claim_adds claim in
-        let agreed = adds.agreed can.view can.whole can.stood can.met in
+    fails_alone : {σ3 : Standing} → IsKind d.kind → IsValid f → (page : ℕ) → (claim : ClaimsRun true d first (first + n) σ2 σ3 (Some page)) → (from ≡ 1) × (next ≡ 1) × (xs ≡ [])
+        → (k : ℕ) (l : Whole) → Legal f (triples k (claim.steps ++ ls) ++ l) → MayFind d (part k l) → ⊥
+    fails_alone kind valid page claim at k l legal met =
+        let agreed = agreed_steps f k l (claim.steps ++ ls) valid legal in
         let fails = subst (λ x. FailsRun true x d first (first + n) page claim.steps) (same2 claim) claim.outcome in
-        let legal = legal_alone find tells2 at.2 can.view can.whole can.stood can.met in
-        fails_told f σ.seat.actor can.whole d n first (claim.steps ++ ls) kind (legal_after adds tells3 can.view can.whole can.stood can.met) (lends_none finding refl (claim.steps ++ ls) (claim_kinds claim))
-        (all_usable_told can.whole legal at)
-        (λ p here. ap (λ v. has_right v p) own ∙ can.met.lacks p (knew f d p ls can.view (agreed_later f can.view claim.steps ls agreed) (usable p here)))
-        (run_has_failed f d n from next first low find.steps xs so_far.vain find.kinds run_at page claim.steps fails can.view agreed)
+        let looks = subst (λ zs. Legal f (triples k zs ++ l)) (all_alone find at.2) (legal_earlier f k claim.steps ls l legal) in
+        fails_told f k l d n first (claim.steps ++ ls) kind legal (lends_none finding refl (claim.steps ++ ls) (claim_kinds claim))
+        (usable_alone k l looks at)
+        (λ p here. met.lacks p (knew f d p ls (part k l) (agreed_later f (part k l) claim.steps ls agreed) (usable p here)))
+        (run_has_failed f d n from next first low find.steps xs so_far.vain find.kinds run_at page claim.steps fails (part k l) agreed)
+
+    -- on a desk that tells the whole state
+    pub never_fails : {σ3 : Standing} → IsKind d.kind → IsValid f → Tells σ3 → (page : ℕ) → (claim : ClaimsRun true d first (first + n) σ2 σ3 (Some page)) → (from ≡ 1) × (next ≡ 1) × (xs ≡ []) → (can : CanCall σ (MayFind d)) → part σ.seat.actor can.whole ≡ can.view → ⊥
+    never_fails kind valid tells page claim at can own = fails_alone kind valid page claim at σ.seat.actor can.whole (legal_after (claim_adds claim) tells can.view can.whole can.stood can.met) (subst (MayFind d) (sym own) can.met)
 
     -- its claim failed
     pub goes_on : {σ3 : Standing} → CanCall σ (MayFind d) → (page : ℕ) → ClaimsRun true d first (first + n) σ2 σ3 (Some page) → SearchedRuns d n (page + 1) (first + n) σ σ3
@@ -336,6 +374,9 @@ module _ {σ σ1 : Standing} (d : Directory) (n from next : ℕ) (low : 1 ≤ fr
                 subst (Does nothing v) (sym (append_assoc claim.steps ls v)) (does_then ((look_still find).from v met before) (fails.still.from (ls ++ v) (run_may v met before) (agreed_first f v claim.steps ls agreed)));
           };
           kinds = claim_kinds claim;
+          returns = claim_returns claim;
+          rise = claim_rise claim;
+          below = below_both (page + 1) claim.steps ls (deeds_below d first (page + 1) (page + 1) claim.steps (omega arith) fails.made) (below_wider from (page + 1) ls (let ge = run_at.from_there in let le = fails.in_run.0 in omega (arith, ge, le)) (look_below find));
           shows = claim_shows claim;
           lacks = fails.lacks ls (look_lacks find);
           within = run_at.of_region;
@@ -343,6 +384,13 @@ module _ {σ σ1 : Standing} (d : Directory) (n from next : ℕ) (low : 1 ≤ fr
           vain = vain_goes_on f d n from next first low find.steps xs so_far.vain find.kinds run_at page claim.steps fails can.view agreed;
           deeds = claim_deeds claim (λ other. HasFailed d n other (claim.steps ++ ls)) failed (λ s h. once_later _ claim.steps ls (once_later _ find.steps xs h));
         }
+
+    -- so nothing was done before, where no other actor made a step between these
+    pub never_alone : {σ3 : Standing} → IsKind d.kind → IsValid f → (can : CanCall σ (MayFind d)) → (page : ℕ) → (claim : ClaimsRun true d first (first + n) σ2 σ3 (Some page)) → IsFirstAlone f d from next xs → IsFirstAlone f d (page + 1) (first + n) (goes_on can page claim).steps
+    unfolding goes_on
+    never_alone kind valid can page claim alone k l legal met =
+        let before = legal_earlier f k find.steps xs l (legal_earlier f k claim.steps ls l legal) in
+        absurd (fails_alone kind valid page claim (alone k l before met) k l legal met)
 
     -- it was claimed
     pub finds_run : {σ3 : Standing} (tells : Bool) → (tells ≡ true → Tells σ2) → (tells ≡ true → (from ≡ 1) × (next ≡ 1) × (xs ≡ [])) → 1 ≤ n → ClaimsRun true d first (first + n) σ2 σ3 None → Finds d n tells σ σ3 (Some first)
@@ -354,6 +402,7 @@ module _ {σ σ1 : Standing} (d : Directory) (n from next : ℕ) (low : 1 ≤ fr
           adds = claim_adds claim;
           told = λ t v l stood met. lowest_told l (legal_alone find (laws t) (alone t).2 v l stood met) (alone t);
           kinds = claim_kinds claim;
+          returns = claim_returns claim;
           shows = claim_shows claim;
           few = (let k = length-append claim.steps ls in let j = length-append find.steps xs in let a = find.few in let b = so_far.few in let c = holds_it.few in let ge = run_at.from_there in let region = run_at.of_region in omega (arith, k, j, a, b, c, ge, region));
           outcome = record {
@@ -370,6 +419,7 @@ module _ {σ σ1 : Standing} (d : Directory) (n from next : ℕ) (low : 1 ≤ fr
               whole = λ p word is lt. span.whole p word is.0 is.1 lt;
             };
             lower = lower_bad f d n from next first low find.steps xs so_far.vain find.kinds run_at claim.steps;
+            rise = claim_rise claim;
             deeds = claim_deeds claim (λ other. (other ≡ first) ⊎ HasFailed d n other (claim.steps ++ ls)) (inl refl) (λ s h. inr (once_later _ claim.steps ls (once_later _ find.steps xs h)));
           };
         }

@@ -1,12 +1,12 @@
 -- The pages of a run are backed, its block is given, and they are left.
 use Rattle.pas_steps.proofs.Past.{always_map}
-use Rattle.std.proofs.Common.{◌≡◌, ℕ, zero, suc, ◌+◌, ◌-◌, ◌*◌, ◌/◌, ◌<◌, ◌≤◌, ◌==◌, Bool, true, false, if◌then◌else◌, List, [], ◌∷◌, ◌++◌, length, inl, inr, refl, ap, sym, ◌∙◌, subst, arith, length-append, true≢false, ◌%◌, ◌^◌, ◌&&◌, Some}
+use Rattle.std.proofs.Common.{◌≡◌, ℕ, zero, suc, ◌+◌, ◌-◌, ◌*◌, ◌/◌, ◌<◌, ◌≤◌, ◌==◌, true, if◌then◌else◌, List, [], ◌∷◌, ◌++◌, length, inl, inr, refl, ap, sym, ◌∙◌, subst, arith, length-append, true≢false, ◌^◌}
 use Rattle.std.proofs.lemmas.Bool.{cases_eq, eq-eqb, and_from}
 use Rattle.pas_profile.specs.Profiles.{IsPage, IsDirectoryOf}
 use Rattle.pas_profile.specs.declared.directory.Directory.{Directory}
 use Rattle.pas_profile.proofs.Codecs.{deed_word_of-positive}
 use Rattle.pas_rights.specs.Leaves.{MayLeave, Leaves}
-use Rattle.pas_steps.specs.Agreement.{Agrees, Agreed}
+use Rattle.pas_steps.specs.Agreement.{Agrees}
 use Rattle.pas_steps.specs.Allowed.{Allowed}
 use Rattle.pas_steps.specs.Calls.{Calls, Kept, Lost, now, nothing, Does, ClearAfter}
 use Rattle.pas_steps.specs.Desks.{Standing, CanCall, CanMake, Makes, made}

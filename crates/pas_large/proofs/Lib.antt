@@ -8,4 +8,5 @@ pub mod Allocates
 pub mod Outcomes
 mod Told
 mod ToldReasons
+pub mod Alone
 mod Lifted

@@ -1,5 +1,5 @@
 -- A request for whole pages, however its run was found: what its steps did.
-use Rattle.std.proofs.Common.{◌≡◌, ℕ, ◌+◌, ◌≤◌, true, false, List, ◌++◌, ◌∷◌, [], length, Option, Result, MatchResult, Ok, Err, inl, inr, refl, ap, sym, ◌∙◌, subst, true≢false, append_assoc, ◌⊎◌}
+use Rattle.std.proofs.Common.{◌≡◌, ℕ, ◌+◌, ◌≤◌, true, List, ◌++◌, ◌∷◌, [], length, Option, Result, MatchResult, Ok, Err, inl, inr, refl, ap, sym, ◌∙◌, subst, true≢false, append_assoc, ◌⊎◌}
 use Rattle.pas_profile.specs.declared.directory.Directory.{Directory}
 use Rattle.pas_profile.specs.declared.event.NoRoom.{NoRoom}
 use Rattle.pas_profile.specs.declared.name.Block.{Block}

@@ -1,5 +1,5 @@
 -- The claim of one page: its right and its grains, and how it is left.
-use Rattle.std.proofs.Common.{◌≡◌, ℕ, ◌==◌, Bool, true, false, if◌then◌else◌, [], ◌∷◌, ◌++◌, inl, refl, ◌∙◌, subst, arith, length-append, ap, append_assoc, ◌⊎◌, ◌+◌, ◌*◌, ◌/◌, ◌%◌, ◌<◌, ◌&&◌, List, inr, sym, true≢false, ◌≢◌, length, Some, None, MatchBool}
+use Rattle.std.proofs.Common.{◌≡◌, ℕ, ◌==◌, Bool, true, false, if◌then◌else◌, [], ◌∷◌, ◌++◌, inl, refl, ◌∙◌, subst, arith, length-append, ap, append_assoc, ◌⊎◌, ◌+◌, ◌*◌, ◌/◌, ◌%◌, ◌<◌, ◌≤◌, ◌&&◌, List, inr, sym, true≢false, ◌≢◌, length, Some, None, MatchBool}
 use Rattle.std.proofs.lemmas.Bool.{eqb-true, eq-eqb, ne_eqb, eqb-false, cases_eq, cases_Bool, and_parts, and_from}
 use Rattle.pas_profile.specs.declared.directory.Directory.{Directory}
 use Rattle.pas_bits.specs.declared.mask.Mask4.{Mask4}
@@ -9,19 +9,20 @@ use Rattle.pas_rights.specs.Puts.{masked}
 use Rattle.pas_rights.specs.PutsBack.{giving_back, taking_grains, MayPutAndLeave, PutsAndLeaves}
 use Rattle.pas_rights.specs.Takes.{GetsGrains, TakesMask, takes}
 use Rattle.pas_rights.specs.Words.{words, full}
+use Rattle.pas_rights.proofs.Hints.{hints_both, hints_none, put_and_leave_hints}
 use Rattle.pas_rights.proofs.Looks.{full_set, full_word}
 use Rattle.pas_rights.proofs.Takes.{takes_only, takes_on, takes_keep, takes_few, takes_right, takes_read}
 use Rattle.pas_rights.proofs.Words.{keeps_by}
 use Rattle.pas_steps.specs.Calls.{Calls, Kept, Lost, later, Does, ClearAfter, Gained, now, Fate, nothing}
 use Rattle.pas_steps.specs.Desks.{Standing, CanCall, AnyView, Makes, Adds, made}
-use Rattle.pas_steps.specs.Frames.{IsOnPage, OnlyOn, KeepsRight, IsRead, GivesUp}
-use Rattle.pas_steps.specs.Kinds.{Putting, Taking, returning, kind_of, is_in, Kinds, LookDeed, Deeding, Only}
+use Rattle.pas_steps.specs.Frames.{IsOnPage, KeepsRight, IsRead, GivesUp}
+use Rattle.pas_steps.specs.Kinds.{Putting, Taking, kind_of, is_in, Kinds, LookDeed, Deeding, Only}
 use Rattle.pas_steps.specs.Views.{View, has_right, holds, KnowsDeed, Way, Rests, ByDeed, FromOffer, had_after, deed_after, known_deed}
-use Rattle.pas_steps.proofs.Apart.{deeds_same, unstamped_same, examines_same, only_both, only_within, no_events, holds_same}
+use Rattle.pas_steps.proofs.Apart.{unstamped_same, only_both, only_within, no_events, holds_same}
 use Rattle.pas_steps.proofs.Called.{call_as, call_then, next_call, call_knows}
-use Rattle.pas_steps.proofs.Calls.{does_as, does_then, kept_first, returns_are, does_on_page, leads_as, leads_at, leads_idly, owes_over, unexamined_over}
-use Rattle.pas_steps.proofs.Kept.{returns_on, looks_read, right_reads, deed_stays, knows_still}
-use Rattle.pas_steps.proofs.Past.{always_both, once_later, once_earlier, always_map, once_map}
+use Rattle.pas_steps.proofs.Calls.{does_as, does_then, kept_first, does_on_page, leads_as, leads_at, leads_idly, owes_over, unexamined_over}
+use Rattle.pas_steps.proofs.Kept.{looks_read, right_reads, deed_stays, knows_still}
+use Rattle.pas_steps.proofs.Past.{always_both, always_pair, once_later, once_earlier, always_map, once_map}
 use Rattle.pas_large.specs.Pages.{OnceAfter, TookPage, TakesPage, getting, DeedsOn, OnlyDeedsShow, GetsPage, MayClaim, of_pages, GotPages, getting_old, claiming, claiming_old, IsClaimed, ClaimsPage, GetsRightOf, LosesRightOf}
 use Rattle.pas_profile.specs.Classes.{has_bit}
 use Rattle.pas_profile.specs.declared.profile.Profile.{Profile}
@@ -31,7 +32,8 @@ use Rattle.pas_steps.specs.Past.{Once, Since, Always}
 use Rattle.pas_steps.specs.declared.step.Made.{Made}
 use Rattle.pas_steps.proofs.Frames.{rights_stay, events_append}
 use Rattle.pas_search.specs.Serving.{MayServe, GotBefore, right_of}
-use Rattle.pas_large.specs.Evidence.{BrokenHere, TakenWholeHere, LostHere}
+use Rattle.pas_search.proofs.Returns.{duly_none, duly_on}
+use Rattle.pas_large.specs.Evidence.{BrokenHere, TakenWholeHere, LostHere, DeedsBelow, DeedsRise}
 use Rattle.pas_profile.specs.Directories.{number_of, deed_word_of}
 use Rattle.pas_profile.specs.Profiles.{IsPage}
 use Rattle.pas_profile.specs.declared.event.Event.{Event}
@@ -44,7 +46,10 @@ use Rattle.pas_steps.specs.declared.step.Step.TheVariants.{Look, Deed, TakeRight
 use Rattle.pas_steps.proofs.Adding.{adds_none, adds_step, adds_call, adds_under, agreed_first, agreed_later}
 use Rattle.pas_steps.proofs.Unknown.{unknown_stays, unknown_less}
 use Rattle.pas_rights.specs.Claims.{Claims}
+use Rattle.pas_scan.specs.Runs.{page_looks}
 use Rattle.pas_scan.specs.Usable.{OfHere, ReadUsable, LeftAlone}
+use Rattle.pas_scan.proofs.LeftPages.{left_alone_by}
+use Rattle.std.proofs.lemmas.List.{append-nil}
 use Rattle.pas_steps.specs.Unknown.{unknown_pages}
 use Rattle.pas_large.specs.declared.claiming.Claimed.{Claimed}
 use Rattle.pas_steps.proofs.Evidence.{deed_known}
@@ -106,6 +111,7 @@ module _ (d : Directory) (page : ℕ) (got : Mask4) {σ σ1 : Standing} (taken :
       adds = take_call.adds;
       on = takes_on page (words full) answers 4;
       kinds = only_within (Taking ∷ []) taking_grains ts refl (takes_only page (words full) answers 4);
+      hints = hints_none (Taking ∷ []) ts refl (takes_only page (words full) answers 4);
       few = let few = takes_few page (words full) answers 4 in omega (arith, few);
       outcome = record {
         few = takes_few page (words full) answers 4;
@@ -163,6 +169,7 @@ module _ (d : Directory) (page : ℕ) (got : Mask4) {σ σ1 : Standing} (taken :
       adds = left_call.adds;
       on = always_both (λ m before. IsOnPage page m.step) (λ m before. IsOnPage page m.step) (back.after ++ back.puts) ts (λ m before h. h) back.on (takes_on page (words full) answers 4);
       kinds = only_both taking_grains (back.after ++ back.puts) ts (only_within giving_back taking_grains (back.after ++ back.puts) refl back.kinds) (only_within (Taking ∷ []) taking_grains ts refl (takes_only page (words full) answers 4));
+      hints = hints_both (back.after ++ back.puts) ts (put_and_leave_hints page d got back) (hints_none (Taking ∷ []) ts refl (takes_only page (words full) answers 4));
       few = let n = length-append (back.after ++ back.puts) ts in let a = back.few in let b = takes_few page (words full) answers 4 in omega (arith, n, a, b);
       outcome = record { leads = left_call.leads; lacks = λ before. ap (λ s. has_right s page) (append_assoc (back.after ++ back.puts) ts before) ∙ back.lacks (ts ++ before); broken = broken };
     }
@@ -225,6 +232,7 @@ module _ {σ σ1 : Standing} (deeds : Bool) (d : Directory) (page a : ℕ) (m : 
     old = old;
     few = omega arith;
     made = (made.0, (λ p e same z. cc, tt));
+    rise = ((λ p e same z. ((λ q x other y. cc), tt)), ((λ p e same z. cc), tt));
     shows = shows;
     outcome = outcome;
   }
@@ -287,6 +295,7 @@ look_gets {σ} d page a look = record {
   old = λ none. (refl, tt);
   few = omega arith;
   made = ((λ p e same z. cc), tt);
+  rise = ((λ p e same z. cc), tt);
   shows = λ k v agreed. let still = unknown_stays σ.seat.profile (deed_look page a ∷ []) v agreed in omega (arith, still);
   outcome = record {
     leads = leads_idly σ.seat.profile (LookDeed ∷ []) refl (deed_look page a ∷ []) (refl, tt);
@@ -310,8 +319,10 @@ claim_lost deeds d page get = record {
   on = get.on;
   kinds = only_within getting claiming get.steps refl get.kinds;
   old = λ none. only_within getting_old claiming_old get.steps refl (get.old none);
+  returns = duly_none getting get.steps refl refl get.kinds;
   few = let few = get.few in omega (arith, few);
   made = get.made;
+  rise = get.rise;
   shows = get.shows;
   outcome = record { still = leads_as get.outcome.leads (λ v met. tt) (λ v w met does. does); lacks = get.outcome.lacks; lost = get.outcome.lost };
 }
@@ -322,6 +333,47 @@ MadeHere d page m before = (p : ℕ) (e : Directory) → m.step ≡ Deed p e →
 -- steps of a kind that makes no deeds and no events
 pub no_deeds : (ks : Kinds) (d : Directory) (page : ℕ) (steps : List Made) → is_in ks Deeding ≡ false → Only ks steps → DeedsOn d page steps
 no_deeds ks d page steps none = always_map (λ m before. is_in ks (kind_of m.step) ≡ true) (MadeHere d page) steps (λ m before is p e same z. absurd (true≢false (sym is ∙ ap (λ s. is_in ks (kind_of s)) same ∙ none)))
+
+-- ---- the order of deeds
+abbrev RisesHere : Made → List Made → Type 0
+RisesHere m before = (p : ℕ) (e : Directory) → m.step ≡ Deed p e → m.answer ≡ 0 → DeedsBelow p before
+
+abbrev BelowHere : ℕ → Made → List Made → Type 0
+BelowHere end m before = (p : ℕ) (e : Directory) → m.step ≡ Deed p e → m.answer ≡ 0 → p < end
+
+-- each deed that was made is of this page or of one above it
+abbrev FromHere : ℕ → Made → List Made → Type 0
+FromHere first m before = (p : ℕ) (e : Directory) → m.step ≡ Deed p e → m.answer ≡ 0 → first ≤ p
+
+abbrev pub DeedsFrom : ℕ → List Made → Type 0
+DeedsFrom first = Always (FromHere first)
+
+pub below_wider : (a b : ℕ) (steps : List Made) → a ≤ b → DeedsBelow a steps → DeedsBelow b steps
+below_wider a b steps le = always_map (BelowHere a) (BelowHere b) steps (λ m before h p e same z. let lt = h p e same z in omega (arith, lt, le))
+
+pub below_both : (end : ℕ) (ys xs : List Made) → DeedsBelow end ys → DeedsBelow end xs → DeedsBelow end (ys ++ xs)
+below_both end ys xs = always_both (BelowHere end) (BelowHere end) ys xs (λ m before h. h)
+
+pub below_on : (d : Directory) (page : ℕ) (steps : List Made) → DeedsOn d page steps → DeedsBelow (page + 1) steps
+below_on d page steps = always_map (MadeHere d page) (BelowHere (page + 1)) steps (λ m before h p e same z. let at = (h p e same z).1 in omega (arith, at))
+
+pub from_on : (d : Directory) (page : ℕ) (steps : List Made) → DeedsOn d page steps → DeedsFrom page steps
+from_on d page steps = always_map (MadeHere d page) (FromHere page) steps (λ m before h p e same z. let at = (h p e same z).1 in omega (arith, at))
+
+-- steps of a kind that makes no deeds
+pub rise_none : (ks : Kinds) (steps : List Made) → is_in ks Deeding ≡ false → Only ks steps → DeedsRise steps
+rise_none ks steps none = always_map (λ m before. is_in ks (kind_of m.step) ≡ true) RisesHere steps (λ m before is p e same z. absurd (true≢false (sym is ∙ ap (λ s. is_in ks (kind_of s)) same ∙ none)))
+
+pub from_none : (ks : Kinds) (first : ℕ) (steps : List Made) → is_in ks Deeding ≡ false → Only ks steps → DeedsFrom first steps
+from_none ks first steps none = always_map (λ m before. is_in ks (kind_of m.step) ≡ true) (FromHere first) steps (λ m before is p e same z. absurd (true≢false (sym is ∙ ap (λ s. is_in ks (kind_of s)) same ∙ none)))
+
+pub below_none : (ks : Kinds) (end : ℕ) (steps : List Made) → is_in ks Deeding ≡ false → Only ks steps → DeedsBelow end steps
+below_none ks end steps none = always_map (λ m before. is_in ks (kind_of m.step) ≡ true) (BelowHere end) steps (λ m before is p e same z. absurd (true≢false (sym is ∙ ap (λ s. is_in ks (kind_of s)) same ∙ none)))
+
+-- the later deeds are of pages from this one on, and the earlier ones of pages below it
+pub rise_both : (first : ℕ) (ys xs : List Made) → DeedsRise ys → DeedsRise xs → DeedsFrom first ys → DeedsBelow first xs → DeedsRise (ys ++ xs)
+rise_both first ys xs later before from below =
+    always_both (λ m b. RisesHere m b × FromHere first m b) RisesHere ys xs (λ m b h p e same z. below_both p b xs (h.0 p e same z) (below_wider first p xs (h.1 p e same z) below)) (always_pair RisesHere (FromHere first) ys later from) before
 
 pub shows_both : (f : Profile) (ys xs : List Made) → OnlyDeedsShow f ys → OnlyDeedsShow f xs → OnlyDeedsShow f (ys ++ xs)
 shows_both f ys xs later first k v agreed =
@@ -353,6 +405,9 @@ module _ (deeds : Bool) (d : Directory) (page : ℕ) {σ σ1 : Standing} (get : 
     abbrev all : List Made
     all = takes.steps ++ get.steps
 
+    just_got : Once (GetsHere page) get.steps
+    just_got = subst (Once (GetsHere page)) (append-nil get.steps) (get.outcome.got [] (left_alone_by page_looks refl refl page [] tt)).got
+
     all_adds : Adds σ σ2 (MayClaim d page) all
     all_adds = adds_call {D = MayServe page d} (adds_under get.adds (λ v l stood met. tt)) takes.adds (λ v l stood met. (get.outcome.leads.from v met (get.adds.agreed v l stood tt)).may)
 
@@ -363,7 +418,9 @@ module _ (deeds : Bool) (d : Directory) (page : ℕ) {σ σ1 : Standing} (get : 
       on = always_both (λ m before. IsOnPage page m.step) (λ m before. IsOnPage page m.step) takes.steps get.steps (λ m before h. h) takes.on get.on;
       kinds = only_both claiming takes.steps get.steps (only_within taking_grains claiming takes.steps refl takes.kinds) (only_within getting claiming get.steps refl get.kinds);
       old = λ none. only_both claiming_old takes.steps get.steps (only_within taking_grains claiming_old takes.steps refl takes.kinds) (only_within getting_old claiming_old get.steps refl (get.old none));
+      returns = duly_on page takes.steps get.steps takes.on takes.hints just_got (duly_none getting get.steps refl refl get.kinds);
       few = let n = length-append takes.steps get.steps in let a = takes.few in let b = get.few in omega (arith, n, a, b);
+      rise = rise_both (page + 1) takes.steps get.steps (rise_none taking_grains takes.steps refl takes.kinds) get.rise (from_none taking_grains (page + 1) takes.steps refl takes.kinds) (below_on d page get.steps get.made);
       made = always_both (MadeHere d page) (MadeHere d page) takes.steps get.steps (λ m before h. h) (no_deeds taking_grains d page takes.steps refl takes.kinds) get.made;
       shows = shows_both σ.seat.profile takes.steps get.steps (shows_taking σ.seat.profile takes.steps takes.kinds) get.shows;
       outcome = outcome;
@@ -392,6 +449,7 @@ module _ (deeds : Bool) (d : Directory) (page : ℕ) {σ σ1 : Standing} (get : 
                 deeds = λ p at. subst (λ q. KnowsDeed q d (zs ++ (get.steps ++ v))) (eqb-true page p at) (knows_still f d page zs (get.steps ++ v) now got.may.deed);
               });
         };
+        gets = once_later (GetsHere page) takes.steps get.steps (just_got takes);
         right = λ before alone. ap (λ s. has_right s page) (append_assoc takes.steps get.steps before) ∙ rights_stay takes.steps (get.steps ++ before) page takes.outcome.keeps (get.outcome.got before alone).right;
         whole = λ before alone word lt. subst (Since (TakenWholeHere page word) (KeptHere page)) (sym (append_assoc takes.steps get.steps before)) (takes.outcome.whole (get.steps ++ before) (get.outcome.got before alone) word lt);
       })

@@ -113,7 +113,7 @@ deed_of_usable : (d : Directory) (l : Whole) (p : ℕ) → IsUsablePage d l p �
 deed_of_usable d l p (inl none) some = absurd (some none)
 deed_of_usable d l p (inr whole) some = whole
 
-unusable_here : (f : Profile) (k : ℕ) (l : Whole) (d : Directory) (p : ℕ) → IsUsablePage d l p → (m : Made) (before : List Made) → IsToldLook l m → Legal f (triples k before ++ l) → Only looking before → UnusableHere d p m before → ⊥
+pub unusable_here : (f : Profile) (k : ℕ) (l : Whole) (d : Directory) (p : ℕ) → IsUsablePage d l p → (m : Made) (before : List Made) → IsToldLook l m → Legal f (triples k before ++ l) → Only looking before → UnusableHere d p m before → ⊥
 unusable_here f k l d p usable m before t ok looks (inl other) =
     let same = deed_told l p m.step m.answer other.0 t.is in
     other.2 (same ∙ (deed_of_usable d l p usable (λ z. other.1 (same ∙ z))).deed)

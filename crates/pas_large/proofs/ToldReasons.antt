@@ -13,7 +13,7 @@ use Rattle.pas_steps.specs.Agreement.{Agreed}
 use Rattle.pas_steps.specs.Effects.{free_word_at}
 use Rattle.pas_steps.specs.Views.{known_deed, KnowsDeed}
 use Rattle.pas_steps.specs.Lists.{Whole, part, word_after, Legal}
-use Rattle.pas_steps.specs.Past.{Once, Since}
+use Rattle.pas_steps.specs.Past.{Once}
 use Rattle.pas_steps.specs.Kinds.{looking, Only}
 use Rattle.pas_steps.specs.Desks.{triples}
 use Rattle.pas_steps.specs.Evidence.{OneHere, LeftHere, ParkedLater, MissingHere, LacksAfter, HeldHere}

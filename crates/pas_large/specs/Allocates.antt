@@ -10,8 +10,10 @@ use Rattle.pas_steps.specs.Desks.{Standing, Adds, triples}
 use Rattle.pas_steps.specs.Lists.{Whole}
 use Rattle.pas_steps.specs.Frames.{OnlyScans}
 use Rattle.pas_steps.specs.Kinds.{Backing, Only, returning}
+use Rattle.pas_steps.specs.Past.{Always}
 use Rattle.pas_steps.specs.Views.{View, holds, KnowsDeed}
 use Rattle.pas_steps.specs.declared.step.Made.{Made}
+use Rattle.pas_search.specs.Kinds.{ReturnsDuly}
 use Rattle.pas_large.specs.Claims.{in_span}
 use Rattle.pas_large.specs.Finds.{MayFind, finding, FoundRun, FoundNone}
 use Rattle.pas_large.specs.Named.{HoldsNamed, MissesNamed, missed_steps}
@@ -65,6 +67,7 @@ pub record AllocatesByScan (heap n : ℕ) (tells : Bool) (desk desk' : Standing)
   pub after : List Made
   pub adds : Adds desk desk' (MayFind (large_directory heap)) (after ++ searched)
   pub kinds : Only finding searched
+  pub returns : Always ReturnsDuly searched
   pub shows : OnlyDeedsShow desk.seat.profile searched
   pub few : length (after ++ searched) ≤ 56 * desk.seat.profile.pages + 12 * n + 66
   pub outcome : MatchResult answer (IsAllocatedLarge desk.seat.profile (large_directory heap) n searched after) (IsRefusedLarge desk.seat.profile (large_directory heap) n searched after)
@@ -103,6 +106,7 @@ pub record IsScanned (f : Profile) (d : Directory) (n : ℕ) (found : Option ℕ
   pub after : List Made
   pub rest_is : rest ≡ after ++ searched
   pub kinds : Only finding searched
+  pub returns : Always ReturnsDuly searched
   pub shows : OnlyDeedsShow f searched
   pub outcome : MatchResult answer (IsAllocatedLarge f d n searched after) (IsRefusedLarge f d n searched after)
 
@@ -114,6 +118,7 @@ pub record AllocatesLarge (heap n : ℕ) (found : Option ℕ) (tells : Bool) (de
   pub rest : List Made
   pub adds : Adds desk desk' (MayFind (large_directory heap)) (rest ++ tried)
   pub old : Only claiming_old tried
+  pub returns : Always ReturnsDuly tried
   pub shows : OnlyDeedsShow desk.seat.profile tried
   pub few : length (rest ++ tried) ≤ 56 * desk.seat.profile.pages + 12 * n + missed_steps found n + 66
   pub told : found ≡ None → tells ≡ true → (v : View) (l : Whole) → desk.stands v l → MayFind (large_directory heap) v → IsToldLarge desk.seat.profile (large_directory heap) n l (triples desk.seat.actor (rest ++ tried) ++ l) answer

@@ -2,20 +2,22 @@
 use Rattle.std.specs.Prelude.{ℕ, ◌+◌, ◌-◌, ◌*◌, ◌/◌, ◌<◌, ◌≤◌, ◌≡◌, ◌⊎◌, min, nat_le, nat_lt, Bool, true, false, ◌&&◌, List, ◌++◌, length, Option, MatchOption}
 use Rattle.pas_profile.specs.declared.directory.Directory.{Directory}
 use Rattle.pas_profile.specs.declared.profile.Profile.{Profile}
+use Rattle.pas_rights.specs.Looks.{HintsEmpty}
 use Rattle.pas_rights.specs.PutsBack.{giving_back}
 use Rattle.pas_steps.specs.Agreement.{Agreed}
 use Rattle.pas_steps.specs.Calls.{Calls, Leads, Lost, nothing, Does}
 use Rattle.pas_steps.specs.Clear.{IsClear}
 use Rattle.pas_steps.specs.Desks.{Standing, Adds}
-use Rattle.pas_steps.specs.Evidence.{KeptHere}
+use Rattle.pas_steps.specs.Evidence.{KeptHere, GetsHere}
 use Rattle.pas_steps.specs.Kinds.{Only}
-use Rattle.pas_steps.specs.Past.{Always, Since}
+use Rattle.pas_steps.specs.Past.{Once, Always, Since}
 use Rattle.pas_steps.specs.Unknown.{unknown_pages}
 use Rattle.pas_steps.specs.Views.{View, Stays, grain_move, holds, has_right, known_deed, KnowsDeed}
 use Rattle.pas_steps.specs.declared.step.Made.{Made}
 use Rattle.pas_steps.specs.declared.step.Step.TheVariants.{Deed}
 use Rattle.pas_scan.specs.Usable.{ReadUsable, LeftAlone}
-use Rattle.pas_large.specs.Evidence.{LostHere, BrokenHere, TakenWholeHere}
+use Rattle.pas_search.specs.Kinds.{IsReturnOf, ReturnsDuly}
+use Rattle.pas_large.specs.Evidence.{LostHere, BrokenHere, TakenWholeHere, DeedsRise}
 use Rattle.pas_large.specs.Pages.{OnceAfter, of_pages, GotPages, OnlyDeedsShow, claiming, claiming_old}
 
 -- the page is one of those from `first` to below `end`
@@ -65,8 +67,11 @@ pub record ClaimsPages (deeds : Bool) (d : Directory) (first end : ℕ) (desk de
   pub adds : Adds desk desk' (MayClaimPages d first end) steps
   pub kinds : Only claiming steps
   pub old : deeds ≡ false → Only claiming_old steps
+  pub returns : Always ReturnsDuly steps
+  pub gets : (p : ℕ) → first ≤ p → p < stop → Once (GetsHere p) steps
   pub few : length steps ≤ 6 * (stop - first) + 21 * (min (stop + 1) end - stop)
-  pub made : DeedsIn d first end steps
+  pub made : DeedsIn d first (min (stop + 1) end) steps
+  pub rise : DeedsRise steps
   pub shows : OnlyDeedsShow desk.seat.profile steps
   pub span : (first ≤ stop) × (stop ≤ end)
   pub got : Leads desk.seat.profile (MayClaimPages d first end) (GotPages (in_span first stop) d) steps
@@ -84,11 +89,13 @@ pub record HasPages (d : Directory) (first end : ℕ) (v : View) : Type 0 where
   pub deeds : (p : ℕ) → in_span first end p ≡ true → KnowsDeed p d v
   pub clear : IsClear v
 
--- They are the actor's no longer. At most 15 steps a page, and no event.
+-- They are the actor's no longer, and no other page is offered, parked, taken back or hinted. At most 15 steps a page, and no event.
 pub record Releases (d : Directory) (first end : ℕ) (desk desk' : Standing) : Type 0 where
   pub steps : List Made
   pub calls : Calls desk desk' (HasPages d first end) (Does (of_pages (in_span first end) Lost)) steps
   pub kinds : Only giving_back steps
+  pub within : Always (λ m before. (p : ℕ) → IsReturnOf p m.step → in_span first end p ≡ true) steps
+  pub hints : Always HintsEmpty steps
   pub few : length steps ≤ 15 * (end - first)
   pub lacks : (before : List Made) (p : ℕ) → (in_span first end p ≡ false → has_right before p ≡ false) → has_right (steps ++ before) p ≡ false
   pub alone : (before : List Made) (p : ℕ) → end ≤ p → LeftAlone p before → LeftAlone p (steps ++ before)
@@ -107,19 +114,22 @@ pub record HoldsRun (f : Profile) (d : Directory) (first end : ℕ) (steps : Lis
 -- left alone.
 pub record FailsRun (deeds : Bool) (f : Profile) (d : Directory) (first end page : ℕ) (steps : List Made) : Type 0 where
   pub in_run : (first ≤ page) × (page < end)
+  pub made : DeedsIn d first (page + 1) steps
   pub few : length steps + 48 * first ≤ 48 * (page + 1)
   pub still : Leads f (MayClaimPages d first end) (Does nothing) steps
   pub lacks : (before : List Made) → LacksAll before → LacksAll (steps ++ before)
   pub alone : (before : List Made) → AloneFrom first before → AloneFrom (page + 1) (steps ++ before)
   pub failed : deeds ≡ true → FailsAt f d first page steps
 
--- Where `deeds` is false no deed is made.
+-- Where `deeds` is false no deed is made. Deeds are made from the lowest page up. No page is given up, taken back or hinted but one that was got.
 pub record ClaimsRun (deeds : Bool) (d : Directory) (first end : ℕ) (desk desk' : Standing) (failed : Option ℕ) : Type 0 where
   pub steps : List Made
   pub adds : Adds desk desk' (MayClaimPages d first end) steps
   pub kinds : Only claiming steps
   pub old : deeds ≡ false → Only claiming_old steps
+  pub returns : Always ReturnsDuly steps
   pub made : DeedsIn d first end steps
+  pub rise : DeedsRise steps
   pub shows : OnlyDeedsShow desk.seat.profile steps
   pub steady : (g : ℕ) → in_span first end (g / 256) ≡ false → StaysPut g steps
   pub outcome : MatchOption failed (HoldsRun desk.seat.profile d first end steps) (λ page. FailsRun deeds desk.seat.profile d first end page steps)

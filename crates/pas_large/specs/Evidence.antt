@@ -61,6 +61,15 @@ HasFailed d n first steps = Once (FailsHere d n first) steps
 abbrev pub DeedsOf : Directory → ℕ → (ℕ → Type 0) → List Made → Type 0
 DeedsOf d n Chosen = Always (λ m before. (page : ℕ) (e : Directory) → m.step ≡ Deed page e → m.answer ≡ 0 → (e ≡ d) × ((first : ℕ) × IsInRun first n page × AllUsable d n first before × Chosen first))
 
+-- ---- the order of deeds
+-- each deed that was made is of a page below this one
+abbrev pub DeedsBelow : ℕ → List Made → Type 0
+DeedsBelow end = Always (λ m before. (page : ℕ) (e : Directory) → m.step ≡ Deed page e → m.answer ≡ 0 → page < end)
+
+-- each deed that was made is of a page above those of the deeds before it
+abbrev pub DeedsRise : List Made → Type 0
+DeedsRise = Always (λ m before. (page : ℕ) (e : Directory) → m.step ≡ Deed page e → m.answer ≡ 0 → DeedsBelow page before)
+
 -- ---- the choice
 -- a take, made with the right, read each grain of this free word as free
 abbrev pub TakenWholeHere : ℕ → ℕ → Made → List Made → Type 0

@@ -1,17 +1,19 @@
 -- The search for a run that can be claimed.
-use Rattle.std.specs.Prelude.{ℕ, ◌+◌, ◌*◌, ◌<◌, ◌≤◌, ◌≡◌, ◌⊎◌, Bool, true, false, ◌∷◌, List, length, Option, MatchOption}
+use Rattle.std.specs.Prelude.{ℕ, ◌+◌, ◌*◌, ◌<◌, ◌≤◌, ◌≡◌, ◌⊎◌, Bool, true, false, ◌∷◌, ◌++◌, List, length, Option, MatchOption}
 use Rattle.pas_profile.specs.declared.directory.Directory.{Directory}
 use Rattle.pas_profile.specs.declared.profile.Profile.{Profile}
 use Rattle.pas_steps.specs.Calls.{Leads, nothing, Does}
 use Rattle.pas_steps.specs.Clear.{IsClear}
-use Rattle.pas_steps.specs.Desks.{Standing, Adds}
+use Rattle.pas_steps.specs.Desks.{Standing, Adds, triples}
 use Rattle.pas_steps.specs.Kinds.{Kinds, LookFree, LookEligible, looking, Only}
-use Rattle.pas_steps.specs.Lists.{Whole}
+use Rattle.pas_steps.specs.Lists.{Whole, part, Legal}
+use Rattle.pas_steps.specs.Past.{Always}
 use Rattle.pas_steps.specs.Unknown.{unknown_pages}
 use Rattle.pas_steps.specs.Views.{View, has_right, known_deed, KnowsDeed}
 use Rattle.pas_steps.specs.declared.step.Made.{Made}
 use Rattle.pas_large.specs.Claims.{in_span, LacksAll}
-use Rattle.pas_large.specs.Evidence.{HasBad, IsVain, HasFailed, DeedsOf, IsTakenRun}
+use Rattle.pas_search.specs.Kinds.{ReturnsDuly}
+use Rattle.pas_large.specs.Evidence.{HasBad, IsVain, HasFailed, DeedsOf, DeedsRise, IsTakenRun}
 use Rattle.pas_large.specs.Telling.{HasNoUsableRun, IsLowestRun}
 use Rattle.pas_large.specs.Pages.{GotPages, OnlyDeedsShow, claiming}
 
@@ -30,30 +32,35 @@ abbrev pub finding : Kinds
 finding = LookEligible ∷ LookFree ∷ claiming
 
 -- The run is the actor's. It was read as usable and then taken whole, and each lower run can't serve. Each deed is of a page of this run or of one
--- that failed.
+-- that failed, and above those of the deeds before it.
 pub record FoundRun (f : Profile) (d : Directory) (n : ℕ) (steps : List Made) (first : ℕ) : Type 0 where
   pub of_region : (1 ≤ first) × (first + n ≤ f.pages + 1)
   pub got : Leads f (MayFind d) (GotPages (in_span first (first + n)) d) steps
   pub taken : IsTakenRun d n first steps
   pub lower : (other : ℕ) → 1 ≤ other → other < first → HasBad d n other steps
   pub deeds : DeedsOf d n (λ other. (other ≡ first) ⊎ HasFailed d n other steps) steps
+  pub rise : DeedsRise steps
 
--- No run can serve, and all is as it was but for the deeds, each of a page of a run that failed.
+-- No run can serve, and all is as it was but for the deeds, each of a page of a run that failed, and above those of the deeds before it. Where no other
+-- actor made a step between these, they were looks alone: then no run that was read as usable fails.
 pub record FoundNone (f : Profile) (d : Directory) (n : ℕ) (steps : List Made) : Type 0 where
   pub still : Leads f (MayFind d) (Does nothing) steps
   pub vain : IsVain f d n steps
   pub deeds : DeedsOf d n (λ other. HasFailed d n other steps) steps
+  pub rise : DeedsRise steps
   pub lacks : LacksAll steps
+  pub looked : (k : ℕ) (l : Whole) → Legal f (triples k steps ++ l) → MayFind d (part k l) → Only looking steps
 
 -- On a desk that tells the whole state the run is the lowest usable one, and where none is found there is none, and all steps were looks.
 abbrev pub IsToldFind : Profile → Directory → ℕ → Whole → List Made → Option ℕ → Type 0
 IsToldFind f d n l steps found = MatchOption found (HasNoUsableRun f d n l × Only looking steps) (IsLowestRun f d n l)
 
--- At most six looks at each page, and 48 steps for the claim of each.
+-- At most six looks at each page, and 48 steps for the claim of each. No page is given up, taken back or hinted but one that the search got.
 pub record Finds (d : Directory) (n : ℕ) (tells : Bool) (desk desk' : Standing) (found : Option ℕ) : Type 0 where
   pub steps : List Made
   pub adds : Adds desk desk' (MayFind d) steps
   pub kinds : Only finding steps
+  pub returns : Always ReturnsDuly steps
   pub shows : OnlyDeedsShow desk.seat.profile steps
   pub few : length steps ≤ 54 * desk.seat.profile.pages
   pub outcome : MatchOption found (FoundNone desk.seat.profile d n steps) (FoundRun desk.seat.profile d n steps)

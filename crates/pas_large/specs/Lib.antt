@@ -8,3 +8,4 @@ pub mod Named
 pub mod Allocates
 pub mod Doors
 pub mod Telling
+pub mod Alone

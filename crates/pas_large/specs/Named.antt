@@ -5,7 +5,9 @@ use Rattle.pas_profile.specs.declared.profile.Profile.{Profile}
 use Rattle.pas_steps.specs.Calls.{Leads, nothing, Does}
 use Rattle.pas_steps.specs.Desks.{Standing, Adds}
 use Rattle.pas_steps.specs.Kinds.{Only}
+use Rattle.pas_steps.specs.Past.{Always}
 use Rattle.pas_steps.specs.declared.step.Made.{Made}
+use Rattle.pas_search.specs.Kinds.{ReturnsDuly}
 use Rattle.pas_large.specs.Claims.{in_span, LacksAll, HoldsSpan}
 use Rattle.pas_large.specs.Finds.{MayFind}
 use Rattle.pas_large.specs.Pages.{GotPages, OnlyDeedsShow, claiming_old}
@@ -31,10 +33,11 @@ pub record MissesNamed (f : Profile) (d : Directory) (n : ℕ) (found : Option �
   pub lacks : LacksAll steps
   pub few : length steps ≤ missed_steps found n
 
--- No deed is made.
+-- No deed is made, and no page is given up, taken back or hinted but one that the claim got.
 pub record ClaimsNamed (d : Directory) (n : ℕ) (found : Option ℕ) (desk desk' : Standing) (result : Option ℕ) : Type 0 where
   pub steps : List Made
   pub adds : Adds desk desk' (MayFind d) steps
   pub old : Only claiming_old steps
+  pub returns : Always ReturnsDuly steps
   pub shows : OnlyDeedsShow desk.seat.profile steps
   pub outcome : MatchOption result (MissesNamed desk.seat.profile d n found steps) (HoldsNamed desk.seat.profile d n found steps)

@@ -2,13 +2,14 @@
 use Rattle.std.specs.Prelude.{ℕ, ◌+◌, ◌/◌, ◌<◌, ◌≤◌, ◌≡◌, ◌==◌, ◌⊎◌, Bool, true, false, if◌then◌else◌, MatchBool, List, ◌++◌, ◌∷◌, [], length}
 use Rattle.pas_profile.specs.declared.directory.Directory.{Directory}
 use Rattle.pas_profile.specs.declared.profile.Profile.{Profile}
+use Rattle.pas_rights.specs.Looks.{HintsEmpty}
 use Rattle.pas_rights.specs.PutsBack.{taking_grains}
 use Rattle.pas_steps.specs.Agreement.{Agreed}
 use Rattle.pas_steps.specs.Calls.{Leads, Fate, Kept, Gained, Lost, Effect, nothing, Does}
 use Rattle.pas_steps.specs.Clear.{IsClear}
 use Rattle.pas_steps.specs.Desks.{Standing, AnyView, Adds}
 use Rattle.pas_steps.specs.Events.{events_by}
-use Rattle.pas_steps.specs.Evidence.{KeptHere}
+use Rattle.pas_steps.specs.Evidence.{KeptHere, GetsHere}
 use Rattle.pas_steps.specs.Frames.{OnlyOn, KeepsRight}
 use Rattle.pas_steps.specs.Kinds.{Kinds, LookDeed, Deeding, Claiming, Only}
 use Rattle.pas_steps.specs.Past.{Once, Always, Since}
@@ -17,8 +18,9 @@ use Rattle.pas_steps.specs.Views.{View, holds, has_right, known_deed, KnowsDeed}
 use Rattle.pas_steps.specs.declared.step.Made.{Made}
 use Rattle.pas_steps.specs.declared.step.Step.TheVariants.{Deed}
 use Rattle.pas_scan.specs.Usable.{ReadUsable, LeftAlone}
+use Rattle.pas_search.specs.Kinds.{ReturnsDuly}
 use Rattle.pas_search.specs.Serving.{MayServe, GotBefore, right_of}
-use Rattle.pas_large.specs.Evidence.{LostHere, BrokenHere, TakenWholeHere}
+use Rattle.pas_large.specs.Evidence.{LostHere, BrokenHere, TakenWholeHere, DeedsRise}
 use Rattle.pas_large.specs.declared.claiming.Claimed.{Claimed}
 
 -- the page's right isn't the actor's, unless the page is known to be of another directory; and the actor is clear
@@ -83,6 +85,7 @@ pub record GetsPage (deeds : Bool) (d : Directory) (page : ℕ) (desk desk' : St
   pub old : deeds ≡ false → Only getting_old steps
   pub few : length steps ≤ 2
   pub made : DeedsOn d page steps
+  pub rise : DeedsRise steps
   pub shows : OnlyDeedsShow desk.seat.profile steps
   pub outcome : MatchBool got (GetsRightOf desk.seat.profile d page steps) (LosesRightOf deeds desk.seat.profile d page steps)
 
@@ -109,6 +112,7 @@ pub record TakesPage (d : Directory) (page : ℕ) (desk desk' : Standing) (whole
   pub adds : Adds desk desk' (MayServe page d) steps
   pub on : OnlyOn page steps
   pub kinds : Only taking_grains steps
+  pub hints : Always HintsEmpty steps
   pub few : length steps ≤ 19
   pub outcome : MatchBool whole (KeepsAll desk.seat.profile d page steps) (LeavesBroken desk.seat.profile d page steps)
 
@@ -136,6 +140,7 @@ pub record BreaksPage (f : Profile) (d : Directory) (page : ℕ) (steps : List M
 pub record WinsPage (f : Profile) (d : Directory) (page : ℕ) (steps : List Made) : Type 0 where
   pub few : length steps ≤ 6
   pub leads : Leads f (MayClaim d page) (GotPages (λ q. page == q) d) steps
+  pub gets : Once (GetsHere page) steps
   pub right : (before : List Made) → LeftAlone page before → has_right (steps ++ before) page ≡ true
   pub whole : (before : List Made) → LeftAlone page before → (word : ℕ) → word < 4 → Since (TakenWholeHere page word) (KeptHere page) (steps ++ before)
 
@@ -150,7 +155,9 @@ pub record ClaimsPage (deeds : Bool) (d : Directory) (page : ℕ) (desk desk' : 
   pub on : OnlyOn page steps
   pub kinds : Only claiming steps
   pub old : deeds ≡ false → Only claiming_old steps
+  pub returns : Always ReturnsDuly steps
   pub few : length steps ≤ 21
   pub made : DeedsOn d page steps
+  pub rise : DeedsRise steps
   pub shows : OnlyDeedsShow desk.seat.profile steps
   pub outcome : IsClaimed deeds desk.seat.profile d page steps claimed

@@ -1,4 +1,1 @@
 pub mod Spans
-pub mod Fits
-pub mod Cuts
-pub mod Places

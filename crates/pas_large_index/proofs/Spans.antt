@@ -1,31 +1,26 @@
--- Ranges in order: their pages, and what becomes of them with one more.
-use Rattle.std.proofs.Common.{◌≡◌, ℕ, ◌<◌, ◌≤◌, min, max, nat_le, nat_lt, Bool, true, false, ◌||◌, if◌then◌else◌, List, [], ◌∷◌, inl, inr, refl, ap, sym, ◌∙◌, subst, arith, true≢false}
-use Rattle.std.proofs.lemmas.Bool.{cases_Bool, cases_lt, and_parts, or_cases, or_from, or_left, or_right}
+-- Ranges of pages: in order, long enough, cut, and looked up.
+use Rattle.std.proofs.Common.{◌≡◌, ℕ, ◌<◌, ◌≤◌, min, max, nat_le, nat_lt, Bool, true, false, ◌||◌, if◌then◌else◌, List, [], ◌∷◌, inl, inr, refl, ap, sym, ◌∙◌, subst, arith, true≢false, ◌+◌, ◌-◌, ◌⊎◌, Option, Some, None, MatchOption, not, ◌&&◌, ◌++◌, ◌≢◌, length, get_or, set, take, drop, append_assoc, length-set, zero, suc}
+use Rattle.std.proofs.Math.Bool.{or_comm}
+use Rattle.std.proofs.lemmas.Bool.{cases_Bool, cases_lt, and_parts, or_cases, or_from, or_left, or_right, cases_order, or_parts, cases_eq, eq-eqb, ne_eqb}
 use Rattle.std.proofs.lemmas.Bool.Decides.{nat_tests}
 use Rattle.pas_large_index.specs.declared.span.Span.{Span}
-use Rattle.pas_large_index.specs.Spans.{in_span, has_page, AreApart, hull, joined}
-use Rattle.pas_large_index.specs.Sets.{HasMore}
+use Rattle.pas_large_index.specs.Spans.{in_span, has_page, AreApart, hull, joined, lowest_fit, IsPlaceOf, left_of, cut_at, cut_lowest, EndsFrom}
+use Rattle.pas_large_index.specs.Sets.{HasMore, FitsAt, IsLowestFit, HasNoFit, HasFewer}
+use Rattle.std.specs.List.{remove, refill}
+use Rattle.std.proofs.lemmas.List.{drop_more, drop_all, take_more, take_at, set_split, drop-drop, length-take-le}
+use Rattle.arrayvec.proofs.ArrayVecLemmas.{items-with_items}
+
+-- ==== Ranges in order: their pages, and what becomes of them with one more.
 
 -- ---- tests
 pub same_truth : (a b : Bool) → (a ≡ true → b ≡ true) → (b ≡ true → a ≡ true) → a ≡ b
-same_truth true b to from = sym (to refl)
-same_truth false true to from = from refl
-same_truth false false to from = refl
+same_truth a b to from = grind arith
 
 or_assoc : (a b c : Bool) → (a || (b || c)) ≡ ((a || b) || c)
-or_assoc true b c = refl
-or_assoc false b c = refl
-
-or_comm : (a b : Bool) → (a || b) ≡ (b || a)
-or_comm true true = refl
-or_comm true false = refl
-or_comm false true = refl
-or_comm false false = refl
+or_assoc a b c = grind arith
 
 or_between : (a b c : Bool) → (b || (a || c)) ≡ ((a || b) || c)
-or_between true true c = refl
-or_between true false c = refl
-or_between false b c = refl
+or_between a b c = grind arith
 
 -- ---- one range
 pub span_parts : (s : Span) (p : ℕ) → in_span s p ≡ true → (s.first ≤ p) × (p < s.end)
@@ -176,3 +171,380 @@ same_lists_of low (s ∷ xs) (t ∷ ys) h k same =
 pub joined_only : (new : Span) (spans others : List Span) → AreApart 0 spans → 1 ≤ new.first → new.first < new.end → new.end ≤ 65536 → AreApart 0 others → HasMore new (has_page spans) (has_page others) → others ≡ joined new spans
 joined_only new spans others h first some last apart more =
     same_lists_of 0 others (joined new spans) apart (joined_apart 0 new spans h first some last) (λ p. more p ∙ sym (joined_has 0 new spans h some p))
+
+-- ==== Where enough pages follow each other, in a list of ranges and in its set of pages.
+
+-- the first range begins there and has as many, or one of the others does
+pub fit_step : (low : ℕ) (s : Span) (rest : List Span) (n p : ℕ) → AreApart low (s ∷ rest) → FitsAt (has_page (s ∷ rest)) n p → IsPlaceOf p n s ⊎ FitsAt (has_page rest) n p
+fit_step low s rest n p h fit =
+    let b = h.1 in
+    elim (cases_order p s.first) [
+      | inl is ↦ inl (record {
+        begins = sym is;
+        long = elim (cases_lt s.end (s.first + n)) [
+          | inr le ↦ le
+          | inl lt ↦ absurd (true≢false (sym (fit.pages s.end (omega (arith, is, b)) (omega (arith, is, lt))) ∙ or_from (in_span s s.end) (has_page rest s.end) (span_past s s.end (omega arith)) (none_below s.end rest s.end h.3 (omega arith))))
+        ];
+      })
+      | inr differ ↦ elim differ [
+        | inl below ↦ absurd (true≢false (sym fit.begins ∙ or_from (in_span s p) (has_page rest p) (span_below s p below) (none_below s.end rest p h.3 (omega (arith, below, b)))))
+        | inr above ↦ elim (cases_lt s.end p) [
+          | inr within ↦ absurd (true≢false (sym (or_left (in_span s (p - 1)) (has_page rest (p - 1)) (span_in s (p - 1) (omega (arith, above)) (omega (arith, above, within)))) ∙ fit.before (p - 1) (omega (arith, above))))
+          | inl past ↦ inr (record {
+            begins = elim (or_cases (in_span s p) (has_page rest p) fit.begins) [
+              | inl here ↦ absurd (true≢false (sym here ∙ span_past s p (omega (arith, past))))
+              | inr later ↦ later
+            ];
+            before = λ page is. (or_parts (in_span s page) (has_page rest page) (fit.before page is)).1;
+            pages = λ page from to. elim (or_cases (in_span s page) (has_page rest page) (fit.pages page from to)) [
+              | inl here ↦ absurd (true≢false (sym here ∙ span_past s page (omega (arith, past, from))))
+              | inr later ↦ later
+            ];
+          })
+        ]
+      ]
+    ]
+
+pub fit_here : (low : ℕ) (s : Span) (rest : List Span) (n p : ℕ) → AreApart low (s ∷ rest) → IsPlaceOf p n s → FitsAt (has_page (s ∷ rest)) n p
+fit_here low s rest n p h place =
+    let b = h.1 in let is = place.begins in let long = place.long in
+    record {
+      begins = or_left (in_span s p) (has_page rest p) (span_in s p (omega (arith, is)) (omega (arith, is, b)));
+      before = λ page next. or_from (in_span s page) (has_page rest page) (span_below s page (omega (arith, is, next))) (none_below s.end rest page h.3 (omega (arith, is, next, b)));
+      pages = λ page from to. or_left (in_span s page) (has_page rest page) (span_in s page (omega (arith, is, from)) (omega (arith, is, to, long)));
+    }
+
+pub fit_later : (low : ℕ) (s : Span) (rest : List Span) (n p : ℕ) → AreApart low (s ∷ rest) → FitsAt (has_page rest) n p → FitsAt (has_page (s ∷ rest)) n p
+fit_later low s rest n p h fit =
+    let past = above_low s.end rest p h.3 fit.begins in
+    record {
+      begins = or_right (in_span s p) (has_page rest p) fit.begins;
+      before = λ page next. or_from (in_span s page) (has_page rest page) (span_past s page (omega (arith, next, past))) (fit.before page next);
+      pages = λ page from to. or_right (in_span s page) (has_page rest page) (fit.pages page from to);
+    }
+
+pub no_fit : (n p : ℕ) → FitsAt (has_page []) n p → ⊥
+no_fit n p fit = true≢false (sym fit.begins)
+
+pub fits_here : (n : ℕ) (s : Span) (rest : List Span) → nat_le n (s.end - s.first) ≡ true → lowest_fit n (s ∷ rest) ≡ Some s.first
+fits_here n s rest is = ap (λ t. if t then Some s.first else lowest_fit n rest) is
+
+pub fits_later : (n : ℕ) (s : Span) (rest : List Span) → nat_le n (s.end - s.first) ≡ false → lowest_fit n (s ∷ rest) ≡ lowest_fit n rest
+fits_later n s rest isnt = ap (λ t. if t then Some s.first else lowest_fit n rest) isnt
+
+-- what is found, as a fact on the set
+abbrev pub IsFound : List Span → ℕ → Option ℕ → Type 0
+IsFound spans n found = MatchOption found (HasNoFit (has_page spans) n) (IsLowestFit (has_page spans) n)
+
+found_later : (low : ℕ) (s : Span) (rest : List Span) (n : ℕ) → AreApart low (s ∷ rest) → (s.end - s.first < n) → (found : Option ℕ) → IsFound rest n found → IsFound (s ∷ rest) n found
+found_later low s rest n h short None none = λ p fit. elim (fit_step low s rest n p h fit) [
+  | inl here ↦ let long = here.long in absurd (omega (arith, short, long))
+  | inr later ↦ none p later
+]
+found_later low s rest n h short (Some first) some = record {
+  fits = fit_later low s rest n first h some.fits;
+  lowest = λ p lt fit. elim (fit_step low s rest n p h fit) [
+    | inl here ↦ let long = here.long in absurd (omega (arith, short, long))
+    | inr later ↦ some.lowest p lt later
+  ];
+}
+
+pub lowest_found : (low : ℕ) (spans : List Span) (n : ℕ) → AreApart low spans → IsFound spans n (lowest_fit n spans)
+lowest_found low [] n h = λ p fit. no_fit n p fit
+lowest_found low (s ∷ rest) n h =
+    let b = h.1 in
+    elim (cases_Bool (nat_le n (s.end - s.first))) [
+      | inl long ↦ let le = le_is n (s.end - s.first) long in
+          subst (IsFound (s ∷ rest) n) (sym (fits_here n s rest long)) (record {
+            fits = fit_here low s rest n s.first h (record { begins = refl; long = omega (arith, le, b) });
+            lowest = λ p lt fit. elim (fit_step low s rest n p h fit) [
+              | inl here ↦ let is = here.begins in absurd (omega (arith, is, lt))
+              | inr later ↦ let past = above_low s.end rest p h.3 later.begins in absurd (omega (arith, past, b, lt))
+            ];
+          })
+      | inr short ↦ subst (IsFound (s ∷ rest) n) (sym (fits_later n s rest short)) (found_later low s rest n h (le_isnt n (s.end - s.first) short) (lowest_fit n rest) (lowest_found s.end rest n h.3))
+    ]
+
+-- ==== The first pages of a range are taken out.
+
+-- so many pages from this one on
+abbrev pub from_to : ℕ → ℕ → Span
+from_to first n = record { first = first; end = first + n }
+
+pub cuts_here : (first n : ℕ) (s : Span) (rest : List Span) → s.first ≡ first → cut_at first n (s ∷ rest) ≡ left_of n s ++ rest
+cuts_here first n s rest is = ap (λ t. if t then left_of n s ++ rest else s ∷ cut_at first n rest) (eq-eqb s.first first is)
+
+pub cuts_later : (first n : ℕ) (s : Span) (rest : List Span) → (s.first ≡ first → ⊥) → cut_at first n (s ∷ rest) ≡ s ∷ cut_at first n rest
+cuts_later first n s rest isnt = ap (λ t. if t then left_of n s ++ rest else s ∷ cut_at first n rest) (ne_eqb s.first first isnt)
+
+pub leaves_some : (n : ℕ) (s : Span) → n < s.end - s.first → left_of n s ≡ record { first = s.first + n; end = s.end } ∷ []
+leaves_some n s lt = ap (λ t. if t then record { first = s.first + n; end = s.end } ∷ [] else []) (is_lt n (s.end - s.first) lt)
+
+pub leaves_none : (n : ℕ) (s : Span) → s.end - s.first ≤ n → left_of n s ≡ []
+leaves_none n s le = ap (λ t. if t then record { first = s.first + n; end = s.end } ∷ [] else []) (isnt_lt n (s.end - s.first) le)
+
+left_apart : (low n : ℕ) (s : Span) (rest : List Span) → AreApart low (s ∷ rest) → AreApart low (left_of n s ++ rest)
+left_apart low n s rest h =
+    let a = h.0 in let b = h.1 in
+    elim (cases_lt n (s.end - s.first)) [
+      | inl lt ↦ subst (λ l. AreApart low (l ++ rest)) (sym (leaves_some n s lt)) (omega (arith, a), omega (arith, lt), h.2, h.3)
+      | inr le ↦ subst (λ l. AreApart low (l ++ rest)) (sym (leaves_none n s le)) (apart_from s.end low rest (omega (arith, a, b)) h.3)
+    ]
+
+pub cut_apart : (low first n : ℕ) (spans : List Span) → AreApart low spans → AreApart low (cut_at first n spans)
+cut_apart low first n [] h = tt
+cut_apart low first n (s ∷ rest) h = elim (cases_eq s.first first) [
+  | inl is ↦ subst (AreApart low) (sym (cuts_here first n s rest is)) (left_apart low n s rest h)
+  | inr isnt ↦ subst (AreApart low) (sym (cuts_later first n s rest isnt)) (h.0, h.1, h.2, cut_apart s.end first n rest h.3)
+]
+
+-- ---- the pages that are left
+within_cases : (a r c : Bool) → (r ≡ true → c ≡ false) → ((a && not c) || r) ≡ ((a || r) && not c)
+within_cases a r c apart = grind arith
+
+within_or : (x a r c : Bool) → x ≡ (a && not c) → (r ≡ true → c ≡ false) → (x || r) ≡ ((a || r) && not c)
+within_or x a r c is apart = ap (λ t. t || r) is ∙ within_cases a r c apart
+
+front_cases : (a x c : Bool) → (a ≡ true → c ≡ false) → (a || (x && not c)) ≡ ((a || x) && not c)
+front_cases a x c apart = grind arith
+
+front_or : (a r x c : Bool) → r ≡ (x && not c) → (a ≡ true → c ≡ false) → (a || r) ≡ ((a || x) && not c)
+front_or a r x c is apart = ap (λ t. a || t) is ∙ front_cases a x c apart
+
+some_left : (n p : ℕ) (s : Span) → n < s.end - s.first → in_span (record { first = s.first + n; end = s.end }) p ≡ (in_span s p && not (in_span (from_to s.first n) p))
+some_left n p s lt = grind (arith, nat_tests)
+
+none_left : (n p : ℕ) (s : Span) → s.end ≡ s.first + n → false ≡ (in_span s p && not (in_span (from_to s.first n) p))
+none_left n p s is = grind (arith, nat_tests)
+
+left_has : (low n p : ℕ) (s : Span) (rest : List Span) → AreApart low (s ∷ rest) → s.first + n ≤ s.end → has_page (left_of n s ++ rest) p ≡ ((in_span s p || has_page rest p) && not (in_span (from_to s.first n) p))
+left_has low n p s rest h long =
+    let a = h.1 in
+    let apart : has_page rest p ≡ true → in_span (from_to s.first n) p ≡ false
+    = λ there. let past = above_low s.end rest p h.3 there in span_past (from_to s.first n) p (omega (arith, past, long)) in
+    elim (cases_lt n (s.end - s.first)) [
+      | inl lt ↦ ap (λ l. has_page (l ++ rest) p) (leaves_some n s lt) ∙ within_or (in_span (record { first = s.first + n; end = s.end }) p) (in_span s p) (has_page rest p) (in_span (from_to s.first n) p) (some_left n p s lt) apart
+      | inr le ↦ ap (λ l. has_page (l ++ rest) p) (leaves_none n s le) ∙ within_or false (in_span s p) (has_page rest p) (in_span (from_to s.first n) p) (none_left n p s (omega (arith, a, le, long))) apart
+    ]
+
+pub cut_has : (low first n : ℕ) (spans : List Span) → AreApart low spans → FitsAt (has_page spans) n first → HasFewer (from_to first n) (has_page spans) (has_page (cut_at first n spans))
+cut_has low first n [] h fit p = refl
+cut_has low first n (s ∷ rest) h fit p =
+    let b = h.1 in
+    elim (fit_step low s rest n first h fit) [
+      | inl here ↦ let is = here.begins in let long = here.long in
+          ap (λ l. has_page l p) (cuts_here first n s rest is)
+          ∙ (left_has low n p s rest h long
+          ∙ ap (λ f. (in_span s p || has_page rest p) && not (in_span (from_to f n) p)) is)
+      | inr later ↦ let past = above_low s.end rest first h.3 later.begins in
+          ap (λ l. has_page l p) (cuts_later first n s rest (λ is. omega (arith, is, past, b)))
+          ∙ front_or (in_span s p) (has_page (cut_at first n rest) p) (has_page rest p) (in_span (from_to first n) p) (cut_has s.end first n rest h.3 later p)
+          (λ is. elim (cases_lt p first) [
+            | inl below ↦ span_below (from_to first n) p below
+            | inr above ↦ absurd (true≢false (sym is ∙ span_past s p (omega (arith, past, above))))
+          ])
+    ]
+
+-- ---- the lowest one that has as many
+some_none : (a : ℕ) → Some a ≡ None → ⊥
+some_none a is = cc
+
+some_same : (a b : ℕ) → Some a ≡ Some b → a ≡ b
+some_same a b is = cc
+
+-- what is found begins behind the low page
+above_fit : (low : ℕ) (spans : List Span) (n first : ℕ) → AreApart low spans → lowest_fit n spans ≡ Some first → low < first
+above_fit low [] n first h is = absurd (cc)
+above_fit low (s ∷ rest) n first h is =
+    let a = h.0 in let b = h.1 in
+    elim (cases_Bool (nat_le n (s.end - s.first))) [
+      | inl long ↦ let same = some_same s.first first (sym (fits_here n s rest long) ∙ is) in omega (arith, a, same)
+      | inr short ↦ let past = above_fit s.end rest n first h.3 (sym (fits_later n s rest short) ∙ is) in omega (arith, a, b, past)
+    ]
+
+pub cut_is_lowest : (low first n : ℕ) (spans : List Span) → AreApart low spans → lowest_fit n spans ≡ Some first → cut_at first n spans ≡ cut_lowest n spans
+cut_is_lowest low first n [] h is = refl
+cut_is_lowest low first n (s ∷ rest) h is =
+    let b = h.1 in
+    elim (cases_Bool (nat_le n (s.end - s.first))) [
+      | inl long ↦ let same : Some s.first ≡ Some first = sym (fits_here n s rest long) ∙ is in
+          cuts_here first n s rest (some_same s.first first same) ∙ sym (ap (λ t. if t then left_of n s ++ rest else s ∷ cut_lowest n rest) long)
+      | inr short ↦ let later : lowest_fit n rest ≡ Some first = sym (fits_later n s rest short) ∙ is in
+          let past = above_fit s.end rest n first h.3 later in
+          cuts_later first n s rest (λ same. omega (arith, same, past, b)) ∙ (ap (λ l. s ∷ l) (cut_is_lowest s.end first n rest h.3 later) ∙ sym (ap (λ t. if t then left_of n s ++ rest else s ∷ cut_lowest n rest) short))
+    ]
+
+pub none_cut : (n : ℕ) (spans : List Span) → lowest_fit n spans ≡ None → cut_lowest n spans ≡ spans
+none_cut n [] is = refl
+none_cut n (s ∷ rest) is = elim (cases_Bool (nat_le n (s.end - s.first))) [
+  | inl long ↦ absurd (some_none s.first (sym (fits_here n s rest long) ∙ is))
+  | inr short ↦ ap (λ t. if t then left_of n s ++ rest else s ∷ cut_lowest n rest) short ∙ ap (λ l. s ∷ l) (none_cut n rest (sym (fits_later n s rest short) ∙ is))
+]
+
+-- ==== Places in a list of ranges, and one range more that was looked at.
+
+le_yes : (a b : ℕ) → a ≤ b → nat_le a b ≡ true
+le_yes a b h = grind (arith, nat_tests)
+
+le_no : (a b : ℕ) → b < a → nat_le a b ≡ false
+le_no a b h = grind (arith, nat_tests)
+
+above_first : (s : Span) (rest : List Span) (p : ℕ) → AreApart 0 (s ∷ rest) → has_page rest p ≡ true → s.first < p
+above_first s rest p h is = let past = above_low s.end rest p h.3 is in let a = h.1 in omega (arith, past, a)
+
+dropped_more : (front spans : List Span) (place here : ℕ) → length front ≡ place → here < length spans → drop (suc place) (front ++ drop here spans) ≡ drop (here + 1) spans
+dropped_more [] spans place here n lt = subst (λ p. drop (suc p) (drop here spans) ≡ drop (here + 1) spans) n (drop-drop 1 here spans)
+dropped_more (x ∷ front) spans zero here n lt = absurd (omega (arith, n))
+dropped_more (x ∷ front) spans (suc place) here n lt = dropped_more front spans place here (omega (arith, n)) lt
+
+-- ---- parts of a list in order
+pub apart_drop : (i : ℕ) (low : ℕ) (spans : List Span) → AreApart low spans → AreApart low (drop i spans)
+apart_drop zero low spans h = h
+apart_drop (suc i) low [] h = tt
+apart_drop (suc i) low (s ∷ rest) h = let a = h.0 in let b = h.1 in apart_from s.end low (drop i rest) (omega (arith, a, b)) (apart_drop i s.end rest h.3)
+
+pub at_place : (spans : List Span) (i : ℕ) (d : Span) → AreApart 0 spans → i < length spans → AreApart 0 (get_or spans i d ∷ drop (i + 1) spans)
+at_place spans i d h lt = subst (AreApart 0) (drop_more spans i d lt) (apart_drop i 0 spans h)
+
+-- ---- the ranges that end before a page
+-- they stay as they are where a range is added that begins there
+abbrev pub StandsBehind : ℕ → List Span → ℕ → Type 0
+StandsBehind first spans i = (new : Span) → new.first ≡ first → joined new spans ≡ take i spans ++ joined new (drop i spans)
+
+one_on : (spans : List Span) (i : ℕ) (d : Span) (ys : List Span) → i < length spans → take i spans ++ (get_or spans i d ∷ ys) ≡ take (i + 1) spans ++ ys
+one_on spans i d ys lt = sym (append_assoc (take i spans) (get_or spans i d ∷ []) ys) ∙ ap (λ t. t ++ ys) (sym (take_more spans i d lt))
+
+pub behind_more : (first : ℕ) (spans : List Span) (i : ℕ) (d : Span) → i < length spans → (get_or spans i d).end < first → StandsBehind first spans i → StandsBehind first spans (i + 1)
+behind_more first spans i d lt before so_far new is =
+    so_far new is
+    ∙ (ap (λ r. take i spans ++ joined new r) (drop_more spans i d lt)
+    ∙ (ap (λ r. take i spans ++ r) (joins_later new (get_or spans i d) (drop (i + 1) spans) (is_lt (get_or spans i d).end new.first (omega (arith, is, before))))
+    ∙ one_on spans i d (joined new (drop (i + 1) spans)) lt))
+
+pub ends_at : (first : ℕ) (spans : List Span) (i : ℕ) (d : Span) → i < length spans → first ≤ (get_or spans i d).end → EndsFrom first (drop i spans)
+ends_at first spans i d lt le = subst (EndsFrom first) (sym (drop_more spans i d lt)) le
+
+pub ends_past : (first : ℕ) (spans : List Span) (i : ℕ) → length spans ≤ i → EndsFrom first (drop i spans)
+ends_past first spans i past = subst (EndsFrom first) (sym (drop_all i spans past)) tt
+
+ends_of : (first : ℕ) (spans : List Span) (i : ℕ) (d : Span) → i < length spans → EndsFrom first (drop i spans) → first ≤ (get_or spans i d).end
+ends_of first spans i d lt h = subst (EndsFrom first) (drop_more spans i d lt) h
+
+-- ---- ranges that a new one meets
+ends_later : (first : ℕ) (s : Span) (rest : List Span) → AreApart 0 (s ∷ rest) → first ≤ s.first → EndsFrom first rest
+ends_later first s [] h le = tt
+ends_later first s (t ∷ rest) h le = let a = h.1 in let b = h.3.0 in let c = h.3.1 in omega (arith, a, b, c, le)
+
+-- the range so far has all pages of the new one and of those from the place to here
+pub record Gathers (new whole : Span) (spans : List Span) (place here : ℕ) : Type 0 where
+  pub from : place ≤ here
+  pub within : here ≤ length spans
+  pub joins : joined new (drop place spans) ≡ joined whole (drop here spans)
+  pub behind : EndsFrom whole.first (drop here spans)
+
+pub gathers_more : (new whole : Span) (spans : List Span) (place here : ℕ) (d : Span) → AreApart 0 spans → here < length spans → (get_or spans here d).first ≤ whole.end → Gathers new whole spans place here → Gathers new (hull (get_or spans here d) whole) spans place (here + 1)
+gathers_more new whole spans place here d h lt meets so_far =
+    let s : Span = get_or spans here d in
+    let low = so_far.from in
+    let ends = ends_of whole.first spans here d lt so_far.behind in
+    record {
+      from = omega (arith, low);
+      within = omega (arith, lt);
+      joins = so_far.joins ∙ (ap (λ r. joined whole r) (drop_more spans here d lt) ∙ joins_into whole s (drop (here + 1) spans) (isnt_lt s.end whole.first ends) (isnt_lt whole.end s.first meets));
+      behind = ends_later (min s.first whole.first) s (drop (here + 1) spans) (at_place spans here d h lt) (omega arith);
+    }
+
+pub gathered_past : (new whole : Span) (spans : List Span) (place here : ℕ) → length spans ≤ here → Gathers new whole spans place here → joined new (drop place spans) ≡ whole ∷ drop here spans
+gathered_past new whole spans place here past so_far =
+    so_far.joins ∙ (ap (λ r. joined whole r) (drop_all here spans past) ∙ ap (λ r. whole ∷ r) (sym (drop_all here spans past)))
+
+pub gathered_before : (new whole : Span) (spans : List Span) (place here : ℕ) (d : Span) → here < length spans → whole.end < (get_or spans here d).first → Gathers new whole spans place here → joined new (drop place spans) ≡ whole ∷ drop here spans
+gathered_before new whole spans place here d lt apart so_far =
+    let s : Span = get_or spans here d in
+    so_far.joins ∙ (ap (λ r. joined whole r) (drop_more spans here d lt) ∙ (joins_before whole s (drop (here + 1) spans) (isnt_lt s.end whole.first (ends_of whole.first spans here d lt so_far.behind)) (is_lt whole.end s.first apart)
+    ∙ ap (λ r. whole ∷ r) (sym (drop_more spans here d lt))))
+
+-- ---- the lowest one that has as many
+pub fit_at : (n : ℕ) (spans : List Span) (i : ℕ) (d : Span) → i < length spans → n ≤ (get_or spans i d).end - (get_or spans i d).first → lowest_fit n (drop i spans) ≡ Some (get_or spans i d).first
+fit_at n spans i d lt long = ap (lowest_fit n) (drop_more spans i d lt) ∙ fits_here n (get_or spans i d) (drop (i + 1) spans) (le_yes n ((get_or spans i d).end - (get_or spans i d).first) long)
+
+pub fit_more : (n : ℕ) (spans : List Span) (i : ℕ) (d : Span) → i < length spans → (get_or spans i d).end - (get_or spans i d).first < n → lowest_fit n (drop i spans) ≡ lowest_fit n (drop (i + 1) spans)
+fit_more n spans i d lt short = ap (lowest_fit n) (drop_more spans i d lt) ∙ fits_later n (get_or spans i d) (drop (i + 1) spans) (le_no n ((get_or spans i d).end - (get_or spans i d).first) short)
+
+-- ---- the range that begins at a page
+pub record LooksFor (first n : ℕ) (spans : List Span) (i : ℕ) : Type 0 where
+  pub within : i ≤ length spans
+  pub fits : FitsAt (has_page (drop i spans)) n first
+  pub before : cut_at first n spans ≡ take i spans ++ cut_at first n (drop i spans)
+
+pub looks_within : (first n : ℕ) (spans : List Span) (i : ℕ) → LooksFor first n spans i → i < length spans
+looks_within first n spans i so_far = elim (cases_lt i (length spans)) [
+  | inl lt ↦ lt
+  | inr past ↦ absurd (no_fit n first (subst (λ r. FitsAt (has_page r) n first) (drop_all i spans past) so_far.fits))
+]
+
+pub looks_more : (first n : ℕ) (spans : List Span) (i : ℕ) (d : Span) → AreApart 0 spans → i < length spans → (get_or spans i d).first ≢ first → LooksFor first n spans i → LooksFor first n spans (i + 1)
+looks_more first n spans i d h lt other so_far =
+    let s : Span = get_or spans i d in
+    record {
+      within = omega (arith, lt);
+      fits = elim (fit_step 0 s (drop (i + 1) spans) n first (at_place spans i d h lt) (subst (λ r. FitsAt (has_page r) n first) (drop_more spans i d lt) so_far.fits)) [
+        | inl here ↦ absurd (other here.begins)
+        | inr later ↦ later
+      ];
+      before = so_far.before ∙ (ap (λ r. take i spans ++ cut_at first n r) (drop_more spans i d lt) ∙ (ap (λ r. take i spans ++ r) (cuts_later first n s (drop (i + 1) spans) other) ∙ one_on spans i d (cut_at first n (drop (i + 1) spans)) lt));
+    }
+
+pub looked : (first n : ℕ) (spans : List Span) (i : ℕ) (d : Span) → AreApart 0 spans → i < length spans → (get_or spans i d).first ≡ first → LooksFor first n spans i → IsPlaceOf first n (get_or spans i d)
+looked first n spans i d h lt is so_far =
+    let s : Span = get_or spans i d in
+    elim (fit_step 0 s (drop (i + 1) spans) n first (at_place spans i d h lt) (subst (λ r. FitsAt (has_page r) n first) (drop_more spans i d lt) so_far.fits)) [
+      | inl here ↦ here
+      | inr later ↦ let past = above_first s (drop (i + 1) spans) first (at_place spans i d h lt) later.begins in absurd (omega (arith, past, is))
+    ]
+
+-- ---- the list afterwards
+pub cut_there : (first n : ℕ) (spans : List Span) (i : ℕ) (d : Span) → i < length spans → (get_or spans i d).first ≡ first → cut_at first n spans ≡ take i spans ++ cut_at first n (drop i spans)
+    → cut_at first n spans ≡ take i spans ++ (left_of n (get_or spans i d) ++ drop (i + 1) spans)
+cut_there first n spans i d lt is before = before ∙ ap (λ r. take i spans ++ r) (ap (cut_at first n) (drop_more spans i d lt) ∙ cuts_here first n (get_or spans i d) (drop (i + 1) spans) is)
+
+one_up : (i : ℕ) → suc i ≡ i + 1
+one_up i = omega arith
+
+-- a write through the slice keeps the length
+refill_same : (xs ys : List Span) → length ys ≡ length xs → refill (length xs) xs ys ≡ ys
+refill_same xs ys same = items-with_items (record { items = xs }) ys same
+
+pub shortened : (spans : List Span) (i n : ℕ) (s : Span) (ys : List Span) → ys ≡ spans → i < length spans → n < s.end - s.first → refill (length spans) spans (set ys i (record { first = s.first + n; end = s.end })) ≡ take i spans ++ (left_of n s ++ drop (i + 1) spans)
+shortened spans i n s ys same lt some =
+    let new : Span = record { first = s.first + n; end = s.end } in
+    ap (λ zs. refill (length spans) spans (set zs i new)) same
+    ∙ (refill_same spans (set spans i new) (length-set spans i new)
+    ∙ (set_split spans i new lt
+    ∙ (ap (λ k. take i spans ++ new ∷ drop k spans) (one_up i) ∙ ap (λ l. take i spans ++ (l ++ drop (i + 1) spans)) (sym (leaves_some n s some)))))
+
+pub removed : (spans : List Span) (i n : ℕ) (s : Span) → s.end - s.first ≤ n → remove spans i ≡ take i spans ++ (left_of n s ++ drop (i + 1) spans)
+removed spans i n s none = ap (λ k. take i spans ++ drop k spans) (one_up i) ∙ ap (λ l. take i spans ++ (l ++ drop (i + 1) spans)) (sym (leaves_none n s none))
+
+-- those from a place to here were taken out, one more
+pub without_more : (spans : List Span) (place here : ℕ) → place ≤ here → here < length spans → remove (take place spans ++ drop here spans) place ≡ take place spans ++ drop (here + 1) spans
+without_more spans place here le lt =
+    let n : length (take place spans) ≡ place = length-take-le place spans (omega (arith, le, lt)) in
+    ap (λ l. l ++ drop (suc place) (take place spans ++ drop here spans)) (take_at (take place spans) (drop here spans) place n)
+    ∙ ap (λ l. take place spans ++ l) (dropped_more (take place spans) spans place here n lt)
+
+-- ---- the calls of an index
+abbrev pub blank : Span
+blank = record { first = 0; end = 0 }
+
+pub found_for : (spans items : List Span) (n : ℕ) (found : Option ℕ) → AreApart 0 spans → items ≡ spans → found ≡ lowest_fit n items → IsFound spans n found
+found_for spans items n found h same is = subst (IsFound spans n) (sym (is ∙ ap (lowest_fit n) same)) (lowest_found 0 spans n h)
+
+pub cut_is : (first n : ℕ) (spans items ys : List Span) (i : ℕ) → items ≡ spans → i < length items → cut_at first n items ≡ take i items ++ cut_at first n (drop i items) → ((d : Span) → IsPlaceOf first n (get_or items i d))
+    → ((d : Span) → ys ≡ take i spans ++ (left_of n (get_or spans i d) ++ drop (i + 1) spans)) → ys ≡ cut_at first n spans
+cut_is first n spans items ys i same lt before here is =
+    is blank ∙ sym (cut_there first n spans i blank (subst (λ l. i < length l) same lt) (subst (λ l. (get_or l i blank).first ≡ first) same (here blank).begins) (subst (λ l. cut_at first n l ≡ take i l ++ cut_at first n (drop i l)) same before))
+
+pub joined_is : (new whole : Span) (spans one two ys : List Span) (place end : ℕ) → one ≡ spans → two ≡ spans → StandsBehind new.first one place → joined new (drop place two) ≡ whole ∷ drop end two → ys ≡ take place spans ++ whole ∷ drop end spans → ys ≡ joined new spans
+joined_is new whole spans one two ys place end first second before joins is =
+    is ∙ sym (subst (λ l. StandsBehind new.first l place) first before new refl ∙ ap (λ r. take place spans ++ r) (subst (λ l. joined new (drop place l) ≡ whole ∷ drop end l) second joins))

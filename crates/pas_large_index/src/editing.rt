@@ -10,6 +10,7 @@ use arrayvec::ArrayVec;
 pub const MOST_RANGES: usize = 512;
 
 /// Puts the range in the place of those from `place` to below `end`. There is room where there is none.
+#[tactic(auto, using(crate::proofs::Spans::without_more))]
 pub fn replace(spans: &mut ArrayVec<Span, MOST_RANGES>, place: usize, end: usize, whole: Span)
     requires span { place ≤ end }
     requires within { end ≤ length spans.old.items }

@@ -75,6 +75,7 @@ impl LargeIndex {
     }
 
     /// The first page of the lowest range of at least so many pages. None exactly where no range has as many.
+    #[tactic(auto, using(crate::proofs::Spans::found_for))]
     pub fn first_fit(&self, pages: u32) -> Option<u32>
         ensures ranges { result ≡ lowest_fit pages self.now }
         ensures pages { MatchOption result (HasNoFit (has_page self.now) pages) (IsLowestFit (has_page self.now) pages) }

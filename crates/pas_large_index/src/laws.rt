@@ -9,6 +9,7 @@ use pas_profile::Range;
 
 /// Ranges that neither overlap nor touch and have the pages of the index and those of the range are just the ranges that `insert` speaks of. So
 /// where it answers `Full`, no index has these pages.
+#[tactic(auto, using(crate::proofs::Spans::joined_only))]
 pub fn one_list_of_ranges(index: &LargeIndex, range: Range)
     requires first { 1 ≤ range.first }
     requires some { 1 ≤ range.pages }

@@ -9,4 +9,5 @@ mod span;
 
 pub use index::{Full, LargeIndex};
 pub use laws::one_list_of_ranges;
+pub use pas_profile::Range;
 pub use span::Span;

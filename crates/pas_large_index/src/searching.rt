@@ -38,6 +38,7 @@ pub fn gather(spans: &[Span], place: usize, new: Span) -> (usize, Span)
 }
 
 /// The first page of the lowest range that has so many pages.
+#[tactic(auto, using(crate::proofs::Spans::at_place, crate::proofs::Spans::blank))]
 pub fn lowest(spans: &[Span], pages: u32) -> Option<u32>
     requires apart { AreApart 0 spans.now }
     ensures { result ≡ lowest_fit pages spans.now }

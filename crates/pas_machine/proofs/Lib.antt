@@ -1,6 +1,3 @@
 pub mod LiveBlocks
-mod Moves
-mod Openings
+pub mod Verdicts
 mod Ranges
-pub mod Refusals
-mod Verdicts

@@ -1,28 +1,216 @@
--- The first reason of an event, by what a machine keeps.
-use Rattle.std.proofs.Common.{◌≡◌, ℕ, ◌+◌, ◌-◌, ◌*◌, ◌/◌, ◌%◌, ◌<◌, ◌≤◌, Bool, true, false, List, Option, Some, None, length, get_or, refl, ap, sym, ◌∙◌, subst, arith, inl, inr}
-use Rattle.std.specs.Prelude.{nat_lt, MatchBool}
-use Rattle.std.proofs.lemmas.Bool.{false≢true, ltb-true, ltb-false}
-use Rattle.std.proofs.Math.Logic.{∥∥₁_elim}
-use Rattle.std.specs.Coded.{le_prop}
-use Rattle.std.proofs.lemmas.List.{get_or_default}
+-- Which events may come next, why others may not, and what a machine keeps.
+use Rattle.std.proofs.Common.{◌≡◌, ◌≢◌, ℕ, ◌+◌, ◌/◌, ◌%◌, ◌<◌, ◌≤◌, ◌⊎◌, ◌==◌, Bool, true, false, if◌then◌else◌, List, [], ◌∷◌, Option, Some, None, refl, ap, sym, ◌∙◌, subst, arith, inl, inr, ◌-◌, ◌*◌, length, get_or, replicate, set, max, get_or-set_same, get_or-set_other}
+use Rattle.std.proofs.lemmas.Bool.{false≢true, true_from_ne_false, false_from_ne_true, ltb-true, ltb-false, eqb-true, eq-eqb, ne_eqb}
+use Rattle.std.proofs.lemmas.Bool.Decides.{eqb_tells, leb_tells, nat_tests}
 use Rattle.pas_profile.specs.declared.profile.Profile.{Profile}
+use Rattle.pas_profile.specs.declared.directory.Directory.{Directory}
 use Rattle.pas_profile.specs.declared.name.Name.{Name}
 use Rattle.pas_profile.specs.declared.name.Block.{Block}
 use Rattle.pas_profile.specs.declared.event.Event.{Event}
+use Rattle.pas_profile.specs.declared.event.Why.{Why}
 use Rattle.pas_profile.specs.Profiles.{IsPage}
-use Rattle.pas_profile.specs.Runs.{in_run, meets_page, address_of, grain_of, length_of}
-use Rattle.pas_profile.proofs.Runs.{run_of, to_run, run_meets, met, to_meet, at_place, IsMet}
-use Rattle.pas_machine.specs.State.{Live, backed_in, live_in, gives_in, ends_in, epoch_in, touches}
-use Rattle.pas_machine.specs.Laws.{IsCounted}
-use Rattle.pas_machine.specs.Machine.{Run}
-use Rattle.pas_machine.specs.Reasons.{reason_number, Applies, IsFirst, IsOutside, IsNoRun, IsGrainOf, Covers}
-use Rattle.pas_machine.specs.Places.{Shows, IsLiveBlock, IsCovered, IsSome, IsEach, IsOfHeap, IsWhole, IsWithin, IsInside, blank_page, blank_place, block_of, page_in, place_in, grains_of}
+use Rattle.pas_profile.specs.Runs.{in_run, address_of, grain_of, length_of, meets_page}
+use Rattle.pas_profile.proofs.Runs.{first_of_run, run_of, to_run, run_meets, met, to_meet, at_place, IsMet}
+use Rattle.pas_machine.specs.State.{Live, deed_in, backed_in, live_in, gives_in, ends_in, epoch_in, touches}
+use Rattle.pas_machine.specs.Machine.{Run, Admits, MayGive, Bears, IsLive, HasOtherRoom, IsReason, IsPlace}
+use Rattle.pas_machine.specs.Reasons.{reason_number, Applies, IsFirst, IsOutside, IsNoPlace, IsNoRun, IsGrainOf, HasDeedOf, Covers}
 use Rattle.pas_machine.specs.declared.fault.Illegal.{Illegal}
+use Rattle.std.proofs.lemmas.Option.{none-some, same_Some}
+use Rattle.std.specs.Prelude.{nat_lt, MatchBool}
+use Rattle.std.proofs.Math.Logic.{∥∥₁_elim, ∥∥₁_map}
+use Rattle.std.specs.Coded.{le_prop}
+use Rattle.std.proofs.lemmas.List.{get_or_default, get_or-replicate}
+use Rattle.pas_machine.specs.Laws.{IsCounted}
+use Rattle.pas_machine.specs.Places.{Shows, IsLiveBlock, IsCovered, IsSome, IsEach, IsOfHeap, IsWhole, IsWithin, IsInside, blank_page, blank_place, block_of, page_in, place_in, grains_of, ended_at}
 use Rattle.pas_machine.specs.declared.places.Page.{Page}
 use Rattle.pas_machine.specs.declared.places.Place.{Place}
-use Rattle.pas_machine.proofs.LiveBlocks.{lives_where, live_long, all_counted, all_borne}
-use Rattle.pas_machine.proofs.Refusals.{not_outside}
-use Rattle.std.proofs.lemmas.Option.{none-some}
+use Rattle.pas_machine.proofs.LiveBlocks.{lives_where, live_long, all_counted, all_borne, live_apart, no_block}
+
+-- ==== That a reason applies exactly where an event may not come next, and that there is one first reason.
+
+-- ---- what isn't otherwise
+equal_of : (a b : ℕ) → (a ≢ b → ⊥) → a ≡ b
+equal_of a b never = elim (eqb_tells a b) [ inl h ↦ h.1 | inr h ↦ absurd (never h.1) ]
+
+le_of : (a b : ℕ) → (b < a → ⊥) → a ≤ b
+le_of a b never = elim (leb_tells a b) [ inl h ↦ h.1 | inr h ↦ absurd (never h.1) ]
+
+lt_of : (a b : ℕ) → (b ≤ a → ⊥) → a < b
+lt_of a b never = elim (leb_tells b a) [ inl h ↦ absurd (never h.1) | inr h ↦ h.1 ]
+
+none_of : {A : Type 0} (o : Option A) → (o ≢ None → ⊥) → o ≡ None
+none_of None never = refl
+none_of (Some x) never = absurd (never (λ h. cc))
+
+-- ---- pages and places
+pub page_of : (f : Profile) (page : ℕ) → (IsOutside f page → ⊥) → IsPage f page
+page_of f page never = (le_of 1 page (λ h. never (inl h)), le_of page f.pages (λ h. never (inr h)))
+
+pub not_outside : (f : Profile) (page : ℕ) → IsPage f page → IsOutside f page → ⊥
+not_outside f page is (inl h) = let low : 1 ≤ page = is.0 in omega arith
+not_outside f page is (inr h) = let high : page ≤ f.pages = is.1 in omega arith
+
+pub place_of : (f : Profile) (address : ℕ) → (IsNoPlace f address → ⊥) → IsPlace f address
+place_of f address never = (page_of f (address / 4096) (λ h. never (inl h)), equal_of (address % 16) 0 (λ h. never (inr h)))
+
+not_no_place : (f : Profile) (address : ℕ) → IsPlace f address → IsNoPlace f address → ⊥
+not_no_place f address is (inl h) = not_outside f (address / 4096) is.0 h
+not_no_place f address is (inr h) = h is.1
+
+-- ---- deeds
+-- each deed of a run is of a heap of the profile
+deed_heaps : (f : Profile) (es : List Event) → Run f es → (page : ℕ) (d : Directory) → deed_in es page ≡ Some d → d.heap < f.heaps
+deed_heaps f [] run page d h = absurd (none-some _ h)
+deed_heaps f (Event.Deed k p d' ∷ es) run page d h = new (p == page) (deed_in es page) (deed_heaps f es run.1 page) h
+  where
+    new : (t : Bool) (old : Option Directory) → ((d : Directory) → old ≡ Some d → d.heap < f.heaps) → (if t then Some d' else old) ≡ Some d → d.heap < f.heaps
+    new true old before is = subst (λ (d : Directory). d.heap < f.heaps) (same_Some _ _ is) run.0.1
+    new false old before is = before d is
+deed_heaps f (e ∷ es) run page d h = deed_heaps f es run.1 page d h
+
+deed_or_not : (es : List Event) (heap page : ℕ) → HasDeedOf es heap page ⊎ (HasDeedOf es heap page → ⊥)
+deed_or_not es heap page = by (deed_in es page) refl
+  where
+    by : (o : Option Directory) → deed_in es page ≡ o → HasDeedOf es heap page ⊎ (HasDeedOf es heap page → ⊥)
+    by None is = inr (λ h. none-some _ (sym is ∙ h.1))
+    by (Some d) is = elim (eqb_tells d.heap heap) [ inl h ↦ inl (d, is, h.1) | inr h ↦ inr (λ has. h.1 (ap (λ (d : Directory). d.heap) (same_Some _ _ (sym is ∙ has.1)) ∙ has.2)) ]
+
+-- ---- live names
+live_or_not : (es : List Event) (name : Name) → IsLive es name ⊎ (IsLive es name → ⊥)
+live_or_not es name = by (live_in es (address_of name)) refl
+  where
+    by : (o : Option Live) → live_in es (address_of name) ≡ o → IsLive es name ⊎ (IsLive es name → ⊥)
+    by None is = inr (λ h. none-some _ (sym is ∙ h.1))
+    by (Some b) is = elim (eqb_tells b.block.name.turn name.turn) [ inl h ↦ inl (b, is, h.1) | inr h ↦ inr (λ has. h.1 (ap (λ (l : Live). l.block.name.turn) (same_Some _ _ (sym is ∙ has.1)) ∙ has.2)) ]
+
+live_of : (es : List Event) (name : Name) → ((IsLive es name → ⊥) → ⊥) → IsLive es name
+live_of es name never = elim (live_or_not es name) [ inl h ↦ h | inr h ↦ absurd (never h) ]
+
+room_or_not : (es : List Event) (name : Name) (room : ℕ) → HasOtherRoom es name room ⊎ (HasOtherRoom es name room → ⊥)
+room_or_not es name room = elim (live_or_not es name) [
+  | inl live ↦ elim (eqb_tells live.0.block.room room) [
+    | inl h ↦ inr (λ has. has.differs (ap (λ (l : Live). l.block.room) (same_Some _ _ (sym has.lives ∙ live.1)) ∙ h.1))
+    | inr h ↦ inl record { block = live.0; lives = live.1; turn_is = live.2; differs = h.1 }
+  ]
+  | inr dead ↦ inr (λ has. dead (has.block, has.lives, has.turn_is))
+]
+
+reason_of : (es : List Event) (name : Name) (why : Why) → ((IsReason es name why → ⊥) → ⊥) → IsReason es name why
+reason_of es name Why.Ended never = elim (leb_tells (ends_in es (address_of name)) name.turn) [ inl h ↦ absurd (never (λ r. let e : ends_in es (address_of name) ≤ name.turn = h.1 in omega arith)) | inr h ↦ h.1 ]
+reason_of es name Why.NoBlock never = (le_of (ends_in es (address_of name)) name.turn (λ h. never (λ r. let e : ends_in es (address_of name) ≤ name.turn = r.0 in omega arith)), λ live. never (λ r. r.1 live))
+reason_of es name (Why.SizeDiffers room) never = (
+  le_of (ends_in es (address_of name)) name.turn (λ h. never (λ r. let e : ends_in es (address_of name) ≤ name.turn = r.0 in omega arith)),
+  elim (room_or_not es name room) [ inl h ↦ h | inr h ↦ absurd (never (λ r. h r.1)) ],
+)
+
+-- ---- where no reason applies, the event may come next
+give_bears : (f : Profile) (es : List Event) (heap page : ℕ) → (IsOutside f page → ⊥) → ((HasDeedOf es heap page → ⊥) → ⊥) → (backed_in es page ≡ false → ⊥) → Bears f es heap page
+give_bears f es heap page outside deed backed =
+    let has : HasDeedOf es heap page = elim (deed_or_not es heap page) [ inl h ↦ h | inr h ↦ absurd (deed h) ] in
+    record { exists = page_of f page outside; directory = has.0; deed = has.1; of_heap = has.2; backed = true_from_ne_false (backed_in es page) backed }
+
+pub admits_of : (f : Profile) (es : List Event) (e : Event) → ((reason : Illegal) → Applies f es e reason → ⊥) → Admits f es e
+admits_of f es (Event.Deed k page d) never = (page_of f page (never Illegal.BadPage), lt_of d.heap f.heaps (never Illegal.BadHeap), none_of (deed_in es page) (never Illegal.DeedTwice))
+admits_of f es (Event.Back k page) never = (page_of f page (never Illegal.BadPage), never Illegal.NoDeed, false_from_ne_true (backed_in es page) (never Illegal.BackedTwice))
+admits_of f es (Event.Unback k page epoch) never = (
+  page_of f page (never Illegal.BadPage),
+  true_from_ne_false (backed_in es page) (never Illegal.NotBacked),
+  (λ a. false_from_ne_true (touches (live_in es a) page) (λ h. never Illegal.LivesThere (a, h))),
+  le_of (epoch_in es page + f.age) epoch (never Illegal.TooYoung),
+)
+admits_of f es (Event.Give k block) never = record {
+  aligned = equal_of (address_of block.name % 16) 0 (λ h. never Illegal.BadPage (inl (inl h)));
+  whole = equal_of (block.room % 16) 0 (λ h. never Illegal.BadPage (inl (inr (inr h))));
+  some = lt_of 0 block.room (λ h. never Illegal.BadPage (inl (inr (inl (omega (arith, h))))));
+  bears = λ x has. give_bears f es block.heap (x / 256) (λ h. never Illegal.BadPage (inr (x, has, h))) (λ h. never Illegal.NoDeed (x, has, h)) (λ h. never Illegal.NotBacked (x, has, h));
+  clear = λ a b lives x has. false_from_ne_true (in_run (grain_of block.name) (length_of block) x) (λ h. never Illegal.LivesThere (x, h, record { address = a; live = b; lives = lives; has = has }));
+  turn = equal_of block.name.turn (gives_in es (address_of block.name)) (never Illegal.WrongTurn);
+}
+admits_of f es (Event.End k name epoch) never = (place_of f (address_of name) (never Illegal.BadPage), live_of es name (never Illegal.NotLive))
+admits_of f es (Event.Reject k name why) never = (place_of f (address_of name) (never Illegal.BadPage), reason_of es name why (never Illegal.WrongReason))
+
+-- ---- and where it may come next, none applies
+deed_never : (f : Profile) (es : List Event) (k page : ℕ) (d : Directory) → Admits f es (Event.Deed k page d) → (reason : Illegal) → Applies f es (Event.Deed k page d) reason → ⊥
+deed_never f es k page d may Illegal.BadPage h = not_outside f page may.0 h
+deed_never f es k page d may Illegal.BadHeap h = let heap : d.heap < f.heaps = may.1 in let other : f.heaps ≤ d.heap = h in omega arith
+deed_never f es k page d may Illegal.DeedTwice h = h may.2
+deed_never f es k page d may _ h = h
+
+back_never : (f : Profile) (es : List Event) (k page : ℕ) → Admits f es (Event.Back k page) → (reason : Illegal) → Applies f es (Event.Back k page) reason → ⊥
+back_never f es k page may Illegal.BadPage h = not_outside f page may.0 h
+back_never f es k page may Illegal.NoDeed h = may.1 h
+back_never f es k page may Illegal.BackedTwice h = false≢true (sym may.2 ∙ h)
+back_never f es k page may _ h = h
+
+unback_never : (f : Profile) (es : List Event) (k page epoch : ℕ) → Admits f es (Event.Unback k page epoch) → (reason : Illegal) → Applies f es (Event.Unback k page epoch) reason → ⊥
+unback_never f es k page epoch may Illegal.BadPage h = not_outside f page may.0 h
+unback_never f es k page epoch may Illegal.NotBacked h = false≢true (sym h ∙ may.1)
+unback_never f es k page epoch may Illegal.LivesThere h = false≢true (sym (may.2 h.0) ∙ h.1)
+unback_never f es k page epoch may Illegal.TooYoung h = let old : epoch_in es page + f.age ≤ epoch = may.3 in let young : epoch < epoch_in es page + f.age = h in omega arith
+unback_never f es k page epoch may _ h = h
+
+not_no_run : (f : Profile) (es : List Event) (block : Block) → MayGive f es block → IsNoRun f block → ⊥
+not_no_run f es block may (inl (inl h)) = h may.aligned
+not_no_run f es block may (inl (inr (inl h))) = let some : 0 < block.room = may.some in let none : block.room ≡ 0 = h in omega arith
+not_no_run f es block may (inl (inr (inr h))) = h may.whole
+not_no_run f es block may (inr h) = not_outside f (h.0 / 256) (may.bears h.0 h.1).exists h.2
+
+first_grain : (f : Profile) (es : List Event) (block : Block) → MayGive f es block → IsGrainOf block (grain_of block.name)
+first_grain f es block may =
+    let some : 0 < block.room = may.some in
+    let whole : block.room % 16 ≡ 0 = may.whole in
+    first_of_run (grain_of block.name) (length_of block) (omega (arith, some, whole))
+
+give_never : (f : Profile) (es : List Event) → Run f es → (k : ℕ) (block : Block) → Admits f es (Event.Give k block) → (reason : Illegal) → Applies f es (Event.Give k block) reason → ⊥
+give_never f es run k block may Illegal.BadPage h = not_no_run f es block may h
+give_never f es run k block may Illegal.BadHeap h =
+    let bears = may.bears (grain_of block.name) (first_grain f es block may) in
+    let heap : block.heap < f.heaps = subst (λ n. n < f.heaps) bears.of_heap (deed_heaps f es run (grain_of block.name / 256) bears.directory bears.deed) in
+    let other : f.heaps ≤ block.heap = h in omega arith
+give_never f es run k block may Illegal.NoDeed h = let bears = may.bears h.0 h.1 in h.2 (bears.directory, bears.deed, bears.of_heap)
+give_never f es run k block may Illegal.NotBacked h = false≢true (sym h.2 ∙ (may.bears h.0 h.1).backed)
+give_never f es run k block may Illegal.LivesThere h = false≢true (sym (may.clear h.2.address h.2.live h.2.lives h.0 h.2.has) ∙ h.1)
+give_never f es run k block may Illegal.WrongTurn h = h may.turn
+give_never f es run k block may _ h = h
+
+end_never : (f : Profile) (es : List Event) (k : ℕ) (name : Name) (epoch : ℕ) → Admits f es (Event.End k name epoch) → (reason : Illegal) → Applies f es (Event.End k name epoch) reason → ⊥
+end_never f es k name epoch may Illegal.BadPage h = not_no_place f (address_of name) may.0 h
+end_never f es k name epoch may Illegal.NotLive h = h may.1
+end_never f es k name epoch may _ h = h
+
+reject_never : (f : Profile) (es : List Event) (k : ℕ) (name : Name) (why : Why) → Admits f es (Event.Reject k name why) → (reason : Illegal) → Applies f es (Event.Reject k name why) reason → ⊥
+reject_never f es k name why may Illegal.BadPage h = not_no_place f (address_of name) may.0 h
+reject_never f es k name why may Illegal.WrongReason h = h may.1
+reject_never f es k name why may _ h = h
+
+pub never_of : (f : Profile) (es : List Event) → Run f es → (e : Event) → Admits f es e → (reason : Illegal) → Applies f es e reason → ⊥
+never_of f es run (Event.Deed k page d) may = deed_never f es k page d may
+never_of f es run (Event.Back k page) may = back_never f es k page may
+never_of f es run (Event.Unback k page epoch) may = unback_never f es k page epoch may
+never_of f es run (Event.Give k block) may = give_never f es run k block may
+never_of f es run (Event.End k name epoch) may = end_never f es k name epoch may
+never_of f es run (Event.Reject k name why) may = reject_never f es k name why may
+
+-- ---- one reason is the first
+abbrev numbered : ℕ → Illegal
+numbered n = if n == 1 then Illegal.BadPage else if n == 2 then Illegal.BadHeap else if n == 3 then Illegal.DeedTwice else if n == 4 then Illegal.NoDeed
+    else if n == 5 then Illegal.BackedTwice else if n == 6 then Illegal.NotBacked else if n == 7 then Illegal.LivesThere else if n == 8 then Illegal.TooYoung
+    else if n == 9 then Illegal.WrongTurn else if n == 10 then Illegal.NotLive else Illegal.WrongReason
+
+numbers_tell : (reason : Illegal) → numbered (reason_number reason) ≡ reason
+numbers_tell Illegal.BadPage = refl
+numbers_tell reason = refl
+
+pub one_first : (f : Profile) (es : List Event) (e : Event) (reason other : Illegal) → IsFirst f es e reason → IsFirst f es e other → reason ≡ other
+one_first f es e reason other first first' = sym (numbers_tell reason) ∙ (ap numbered same ∙ numbers_tell other)
+  where
+    same : reason_number reason ≡ reason_number other
+    same =
+        let low : reason_number other ≤ reason_number reason = le_of (reason_number other) (reason_number reason) (λ h. first'.others reason h first.applies) in
+        let high : reason_number reason ≤ reason_number other = le_of (reason_number reason) (reason_number other) (λ h. first.others other h first'.applies) in
+        omega (arith, low, high)
+
+-- ==== The first reason of an event, by what a machine keeps.
 
 -- ---- runs
 -- a block of whole grains has its first and its last grain
@@ -249,3 +437,247 @@ pub ends_within : (f : Profile) (pages : List Page) (places : List Place) (cover
 ends_within f pages places covered name block some is = ∥∥₁_elim some le_prop (λ s.
     let live = is s.0 s.1 in
     subst (λ (b : Block). grain_of name + length_of b ≤ grains_of f) live.2 (live_within f s.0 s.1.run (address_of name) live.0 live.1))
+
+-- ==== What a machine keeps at its opening.
+
+pub opens : (f : Profile) (pages : List Page) (places : List Place) (covered : List Bool) → pages ≡ replicate (f.pages + 1) blank_page → places ≡ replicate (grains_of f) blank_place → covered ≡ replicate (grains_of f) false
+    → Shows f pages places covered []
+opens f pages places covered e e' e'' = record {
+  run = tt;
+  pages_are = λ page h. rw e (get_or-replicate (f.pages + 1) page blank_page blank_page (omega arith));
+  places_are = λ g h. rw e' (get_or-replicate (grains_of f) g blank_place blank_place h);
+  covered_are = λ x h. rw e'' (subst (IsCovered [] x) (sym (get_or-replicate (grains_of f) x false false h)) (λ (c : Covers [] x). none-some _ c.lives));
+}
+
+-- ==== What a machine keeps after an event that may come next is what the events lead to.
+
+-- ---- one element is written
+pub written : {X : Type 0} (xs : List X) (d : X) (i most : ℕ) (x : X) (old new : ℕ → X) → i < length xs → ((j : ℕ) → j < most → get_or xs j d ≡ old j) → x ≡ new i → ((j : ℕ) → i ≢ j → old j ≡ new j)
+    → (j : ℕ) → j < most → get_or (set xs i x) j d ≡ new j
+written xs d i most x old new low before here others j within = elim (eqb_tells i j) [
+  | inl h ↦ subst (λ n. get_or (set xs i x) n d ≡ new n) h.1 (get_or-set_same xs i x d low ∙ here)
+  | inr h ↦ get_or-set_other xs i j x d (λ e. h.1 (sym e)) ∙ (before j within ∙ others j h.1)
+]
+
+-- ---- covered grains, where the live blocks are the same
+same_cover : (es es' : List Event) (x : ℕ) → ((a : ℕ) → live_in es' a ≡ live_in es a) → Covers es x → Covers es' x
+same_cover es es' x same c = record { address = c.address; live = c.live; lives = same c.address ∙ c.lives; has = c.has }
+
+same_covered : (es es' : List Event) (x : ℕ) (t : Bool) → ((a : ℕ) → live_in es' a ≡ live_in es a) → IsCovered es x t → IsCovered es' x t
+same_covered es es' x true same is = same_cover es es' x same is
+same_covered es es' x false same is = λ c. is (same_cover es' es x (λ a. sym (same a)) c)
+
+-- ---- deeds, backs and unbacks
+pub deed_shows : (f : Profile) (pages : List Page) (places : List Place) (covered : List Bool) (es : List Event) → Shows f pages places covered es → (k page : ℕ) (d : Directory) → Admits f es (Event.Deed k page d)
+    → (p : Page) → p ≡ page_in es page → page < length pages → Shows f (set pages page (record p { directory = Some d })) places covered (Event.Deed k page d ∷ es)
+deed_shows f pages places covered es shows k page d may p is low = record {
+  run = (may, shows.run);
+  pages_are = λ q h. written pages blank_page page (f.pages + 1) (record p { directory = Some d }) (page_in es) (page_in (Event.Deed k page d ∷ es)) low (λ j l. shows.pages_are j (omega (arith, l)))
+      (ap (λ (r : Page). record r { directory = Some d }) is ∙ ap (λ t. record { directory = if t then Some d else deed_in es page; backed = backed_in es page; epoch = epoch_in es page }) (sym (eq-eqb page page refl)))
+      (λ j ne. ap (λ t. record { directory = if t then Some d else deed_in es j; backed = backed_in es j; epoch = epoch_in es j }) (sym (ne_eqb page j ne))) q (omega (arith, h));
+  places_are = shows.places_are;
+  covered_are = λ x h. same_covered es (Event.Deed k page d ∷ es) x (get_or covered x false) (λ a. refl) (shows.covered_are x h);
+}
+
+pub back_shows : (f : Profile) (pages : List Page) (places : List Place) (covered : List Bool) (es : List Event) → Shows f pages places covered es → (k page : ℕ) → Admits f es (Event.Back k page)
+    → (p : Page) → p ≡ page_in es page → page < length pages → Shows f (set pages page (record p { backed = true })) places covered (Event.Back k page ∷ es)
+back_shows f pages places covered es shows k page may p is low = record {
+  run = (may, shows.run);
+  pages_are = λ q h. written pages blank_page page (f.pages + 1) (record p { backed = true }) (page_in es) (page_in (Event.Back k page ∷ es)) low (λ j l. shows.pages_are j (omega (arith, l)))
+      (ap (λ (r : Page). record r { backed = true }) is ∙ ap (λ t. record { directory = deed_in es page; backed = if t then true else backed_in es page; epoch = epoch_in es page }) (sym (eq-eqb page page refl)))
+      (λ j ne. ap (λ t. record { directory = deed_in es j; backed = if t then true else backed_in es j; epoch = epoch_in es j }) (sym (ne_eqb page j ne))) q (omega (arith, h));
+  places_are = shows.places_are;
+  covered_are = λ x h. same_covered es (Event.Back k page ∷ es) x (get_or covered x false) (λ a. refl) (shows.covered_are x h);
+}
+
+pub unback_shows : (f : Profile) (pages : List Page) (places : List Place) (covered : List Bool) (es : List Event) → Shows f pages places covered es → (k page epoch : ℕ) → Admits f es (Event.Unback k page epoch)
+    → (p : Page) → p ≡ page_in es page → page < length pages → Shows f (set pages page (record p { backed = false })) places covered (Event.Unback k page epoch ∷ es)
+unback_shows f pages places covered es shows k page epoch may p is low = record {
+  run = (may, shows.run);
+  pages_are = λ q h. written pages blank_page page (f.pages + 1) (record p { backed = false }) (page_in es) (page_in (Event.Unback k page epoch ∷ es)) low (λ j l. shows.pages_are j (omega (arith, l)))
+      (ap (λ (r : Page). record r { backed = false }) is ∙ ap (λ t. record { directory = deed_in es page; backed = if t then false else backed_in es page; epoch = epoch_in es page }) (sym (eq-eqb page page refl)))
+      (λ j ne. ap (λ t. record { directory = deed_in es j; backed = if t then false else backed_in es j; epoch = epoch_in es j }) (sym (ne_eqb page j ne))) q (omega (arith, h));
+  places_are = shows.places_are;
+  covered_are = λ x h. same_covered es (Event.Unback k page epoch ∷ es) x (get_or covered x false) (λ a. refl) (shows.covered_are x h);
+}
+
+pub reject_shows : (f : Profile) (pages : List Page) (places : List Place) (covered : List Bool) (es : List Event) → Shows f pages places covered es → (k : ℕ) (name : Name) (why : Why) → Admits f es (Event.Reject k name why)
+    → Shows f pages places covered (Event.Reject k name why ∷ es)
+reject_shows f pages places covered es shows k name why may = record {
+  run = (may, shows.run);
+  pages_are = shows.pages_are;
+  places_are = shows.places_are;
+  covered_are = λ x h. same_covered es (Event.Reject k name why ∷ es) x (get_or covered x false) (λ a. refl) (shows.covered_are x h);
+}
+
+-- ---- gives
+off_place : (a g : ℕ) → a % 16 ≡ 0 → a / 16 ≢ g → a ≢ 16 * g
+off_place a g h ne e = ne (omega (arith, h, e))
+
+-- the range of a block
+in_range : (g n x : ℕ) → (in_run g n x ≡ true → ⊥) → x < g + n → x < g
+in_range g n x out high = elim (leb_tells g x) [ inl h ↦ absurd (out (to_run g n x h.1 high)) | inr h ↦ h.1 ]
+
+-- a grain that is outside of what was marked is as it was
+unmarked : (covered covered' : List Bool) (g n x : ℕ) → ((y : ℕ) → y < g → get_or covered' y false ≡ get_or covered y false) → ((y : ℕ) → g + n ≤ y → get_or covered' y false ≡ get_or covered y false)
+    → (in_run g n x ≡ true → ⊥) → get_or covered' x false ≡ get_or covered x false
+unmarked covered covered' g n x below above out = elim (leb_tells (g + n) x) [ inl h ↦ above x h.1 | inr h ↦ below x (in_range g n x out h.1) ]
+
+give_covered : (f : Profile) (es : List Event) → Run f es → (k : ℕ) (block : Block) → MayGive f es block → (x : ℕ) (t : Bool) → (in_run (grain_of block.name) (length_of block) x ≡ true → ⊥) → IsCovered es x t
+    → IsCovered (Event.Give k block ∷ es) x t
+give_covered f es run k block may x true out c = record { address = c.address; live = c.live; lives = ap (λ t. if t then Some record { actor = k; block = block } else live_in es c.address) (ne_eqb (address_of block.name) c.address other) ∙ c.lives; has = c.has }
+  where
+    other : address_of block.name ≢ c.address
+    other e = none-some _ (sym (no_block f es block c.address (live_in es c.address) refl may e (λ b h. live_long f es run c.address b h)) ∙ c.lives)
+give_covered f es run k block may x false out never = λ c. by c (address_of block.name == c.address) refl c.lives
+  where
+    by : (c : Covers (Event.Give k block ∷ es) x) (t : Bool) → (address_of block.name == c.address) ≡ t → (if t then Some record { actor = k; block = block } else live_in es c.address) ≡ Some c.live → ⊥
+    by c true e is =
+        let same : block ≡ c.live.block = ap (λ (l : Live). l.block) (same_Some _ _ is) in
+        out (ap (λ n. in_run (n / 16) (length_of block) x) (eqb-true (address_of block.name) c.address e) ∙ (ap (λ (b : Block). in_run (c.address / 16) (length_of b) x) same ∙ c.has))
+    by c false e is = never (record { address = c.address; live = c.live; lives = is; has = c.has })
+
+new_cover : (es : List Event) (k : ℕ) (block : Block) (x : ℕ) → in_run (grain_of block.name) (length_of block) x ≡ true → Covers (Event.Give k block ∷ es) x
+new_cover es k block x has = record {
+  address = address_of block.name;
+  live = record { actor = k; block = block };
+  lives = ap (λ t. if t then Some record { actor = k; block = block } else live_in es (address_of block.name)) (eq-eqb (address_of block.name) (address_of block.name) refl);
+  has = has;
+}
+
+covered_by : (es : List Event) (x : ℕ) (t : Bool) → t ≡ true → Covers es x → IsCovered es x t
+covered_by es x true e c = c
+covered_by es x false e c = absurd (false≢true e)
+
+uncovered_by : (es : List Event) (x : ℕ) (t : Bool) → t ≡ false → (Covers es x → ⊥) → IsCovered es x t
+uncovered_by es x true e never = absurd (false≢true (sym e))
+uncovered_by es x false e never = never
+
+pub give_shows : (f : Profile) (pages : List Page) (places : List Place) (covered covered' : List Bool) (es : List Event) → Shows f pages places covered es → (k : ℕ) (block : Block) → Admits f es (Event.Give k block)
+    → (gives : ℕ) → gives ≡ gives_in es (address_of block.name) → grain_of block.name < length places
+    → IsEach (grain_of block.name) (grain_of block.name + length_of block) (λ x. get_or covered' x false ≡ true)
+    → ((y : ℕ) → y < grain_of block.name → get_or covered' y false ≡ get_or covered y false) → ((y : ℕ) → grain_of block.name + length_of block ≤ y → get_or covered' y false ≡ get_or covered y false)
+    → Shows f pages (set places (grain_of block.name) (record { block = Some block; gives = gives + 1 })) covered' (Event.Give k block ∷ es)
+give_shows f pages places covered covered' es shows k block may gives is low set' below above = record {
+  run = (may, shows.run);
+  pages_are = shows.pages_are;
+  places_are = written places blank_place (grain_of block.name) (grains_of f) (record { block = Some block; gives = gives + 1 }) (place_in es) (place_in (Event.Give k block ∷ es)) low shows.places_are here others;
+  covered_are = λ x h. by x h (in_run (grain_of block.name) (length_of block) x) refl;
+}
+  where
+    here : record { block = Some block; gives = gives + 1 } ≡ place_in (Event.Give k block ∷ es) (grain_of block.name)
+    here =
+        let e : 16 * grain_of block.name ≡ address_of block.name = at_place (address_of block.name) may.aligned in
+        let t : (address_of block.name == 16 * grain_of block.name) ≡ true = eq-eqb (address_of block.name) (16 * grain_of block.name) (sym e) in
+        ap (λ n. record { block = Some block; gives = n + 1 }) (is ∙ ap (gives_in es) (sym e))
+        ∙ ap (λ t. record { block = block_of (if t then Some record { actor = k; block = block } else live_in es (16 * grain_of block.name)); gives = if t then gives_in es (16 * grain_of block.name) + 1 else gives_in es (16 * grain_of block.name) }) (sym t)
+
+    others : (g : ℕ) → grain_of block.name ≢ g → place_in es g ≡ place_in (Event.Give k block ∷ es) g
+    others g ne =
+        let t : (address_of block.name == 16 * g) ≡ false = ne_eqb (address_of block.name) (16 * g) (off_place (address_of block.name) g may.aligned ne) in
+        ap (λ t. record { block = block_of (if t then Some record { actor = k; block = block } else live_in es (16 * g)); gives = if t then gives_in es (16 * g) + 1 else gives_in es (16 * g) }) (sym t)
+
+    by : (x : ℕ) → x < grains_of f → (t : Bool) → in_run (grain_of block.name) (length_of block) x ≡ t → IsCovered (Event.Give k block ∷ es) x (get_or covered' x false)
+    by x h true e =
+        let on = run_of (grain_of block.name) (length_of block) x e in
+        covered_by (Event.Give k block ∷ es) x (get_or covered' x false) (set' x on.0 on.1) (new_cover es k block x e)
+    by x h false e =
+        let out : in_run (grain_of block.name) (length_of block) x ≡ true → ⊥ = λ i. false≢true (sym e ∙ i) in
+        subst (IsCovered (Event.Give k block ∷ es) x) (sym (unmarked covered covered' (grain_of block.name) (length_of block) x below above out))
+        (give_covered f es shows.run k block may x (get_or covered x false) out (shows.covered_are x h))
+
+-- ---- ends
+-- a page is met by the run exactly where it is in the range of its pages
+met_of : (g n p : ℕ) → g / 256 ≤ p → p < (g + n + 255) / 256 → meets_page g n p ≡ true
+met_of g n p low high = to_meet g n p (omega (arith, low)) (omega (arith, high))
+
+under_of : (g n p : ℕ) → p < g / 256 → meets_page g n p ≡ false
+under_of g n p low = let first : 256 * p + 256 ≤ g = omega (arith, low) in grind (arith, nat_tests, first)
+
+over_of : (g n p : ℕ) → (g + n + 255) / 256 ≤ p → meets_page g n p ≡ false
+over_of g n p high = let last : g + n ≤ 256 * p = omega (arith, high) in grind (arith, nat_tests, last)
+
+touches_of : (f : Profile) (es : List Event) → Run f es → (name : Name) (block : Block) → IsLiveBlock es name block → (p : ℕ) → touches (live_in es (address_of name)) p ≡ meets_page (grain_of name) (length_of block) p
+touches_of f es run name block live p = ap (λ o. touches o p) live.1 ∙ (ap (λ n. meets_page (n / 16) (length_of live.0.block) p) (lives_where f es run (address_of name) live.0 live.1) ∙ ap (λ (b : Block). meets_page (grain_of name) (length_of b) p) live.2)
+
+ended_page : (es : List Event) (k : ℕ) (name : Name) (epoch p : ℕ) (t : Bool) (q : Page) → touches (live_in es (address_of name)) p ≡ t → q ≡ (if t then ended_at epoch (page_in es p) else page_in es p) → q ≡ page_in (Event.End k name epoch ∷ es) p
+ended_page es k name epoch p true q e is = is ∙ ap (λ t. record { directory = deed_in es p; backed = backed_in es p; epoch = if t then max (epoch_in es p) epoch else epoch_in es p }) (sym e)
+ended_page es k name epoch p false q e is = is ∙ ap (λ t. record { directory = deed_in es p; backed = backed_in es p; epoch = if t then max (epoch_in es p) epoch else epoch_in es p }) (sym e)
+
+-- a live block beside the one that ends
+apart_from : (f : Profile) (es : List Event) → Run f es → (k : ℕ) (name : Name) (epoch : ℕ) (block : Block) → IsLiveBlock es name block → (x : ℕ) → Covers (Event.End k name epoch ∷ es) x → (in_run (grain_of name) (length_of block) x ≡ true → ⊥) × Covers es x
+apart_from f es run k name epoch block live x c = by (address_of name == c.address) refl c.lives
+  where
+    by : (t : Bool) → (address_of name == c.address) ≡ t → (if t then None else live_in es c.address) ≡ Some c.live → (in_run (grain_of name) (length_of block) x ≡ true → ⊥) × Covers es x
+    by true e is = absurd (none-some _ is)
+    by false e is = (
+      (λ i. false≢true (sym (live_apart f es run c.address (address_of name) c.live live.0 is live.1 (λ same. false≢true (sym e ∙ eq-eqb (address_of name) c.address (sym same))) x c.has) ∙ (ap (λ (b : Block). in_run (grain_of name) (length_of b) x) live.2 ∙ i))),
+      record { address = c.address; live = c.live; lives = is; has = c.has },
+    )
+
+still_covers : (es : List Event) (k : ℕ) (name : Name) (epoch : ℕ) (block : Block) → IsLiveBlock es name block → (x : ℕ) → (in_run (grain_of name) (length_of block) x ≡ true → ⊥) → Covers es x → Covers (Event.End k name epoch ∷ es) x
+still_covers es k name epoch block live x out c = record { address = c.address; live = c.live; lives = ap (λ t. if t then None else live_in es c.address) (ne_eqb (address_of name) c.address other) ∙ c.lives; has = c.has }
+  where
+    other : address_of name ≢ c.address
+    other e =
+        let same : live.0 ≡ c.live = same_Some _ _ (sym live.1 ∙ (ap (live_in es) e ∙ c.lives)) in
+        out (ap (λ n. in_run (n / 16) (length_of block) x) e ∙ (ap (λ (b : Block). in_run (c.address / 16) (length_of b) x) (sym live.2 ∙ ap (λ (l : Live). l.block) same) ∙ c.has))
+
+end_covered : (f : Profile) (es : List Event) → Run f es → (k : ℕ) (name : Name) (epoch : ℕ) (block : Block) → IsLiveBlock es name block → (x : ℕ) (t : Bool) → (in_run (grain_of name) (length_of block) x ≡ true → ⊥) → IsCovered es x t
+    → IsCovered (Event.End k name epoch ∷ es) x t
+end_covered f es run k name epoch block live x true out c = still_covers es k name epoch block live x out c
+end_covered f es run k name epoch block live x false out never = λ c. never (apart_from f es run k name epoch block live x c).1
+
+pub end_shows : (f : Profile) (pages pages' : List Page) (places : List Place) (covered covered' : List Bool) (es : List Event) → Shows f pages places covered es → (k : ℕ) (name : Name) (epoch : ℕ) → IsPlace f (address_of name)
+    → (block : Block) → IsLiveBlock es name block → (p : Place) → p ≡ place_in es (grain_of name) → grain_of name < length places
+    → IsEach (grain_of name) (grain_of name + length_of block) (λ x. get_or covered' x false ≡ false)
+    → ((y : ℕ) → y < grain_of name → get_or covered' y false ≡ get_or covered y false) → ((y : ℕ) → grain_of name + length_of block ≤ y → get_or covered' y false ≡ get_or covered y false)
+    → IsEach (grain_of name / 256) ((grain_of name + length_of block + 255) / 256) (λ q. get_or pages' q blank_page ≡ ended_at epoch (get_or pages q blank_page))
+    → ((q : ℕ) → q < grain_of name / 256 → get_or pages' q blank_page ≡ get_or pages q blank_page) → ((q : ℕ) → (grain_of name + length_of block + 255) / 256 ≤ q → get_or pages' q blank_page ≡ get_or pages q blank_page)
+    → Admits f es (Event.End k name epoch) × Shows f pages' (set places (grain_of name) (record p { block = None })) covered' (Event.End k name epoch ∷ es)
+end_shows f pages pages' places covered covered' es shows k name epoch place block live p is low cset cbelow cabove pset pbelow pabove = (
+  may,
+  record {
+    run = (may, shows.run);
+    pages_are = page;
+    places_are = written places blank_place (grain_of name) (grains_of f) (record p { block = None }) (place_in es) (place_in (Event.End k name epoch ∷ es)) low shows.places_are here others;
+    covered_are = λ x h. by x h (in_run (grain_of name) (length_of block) x) refl;
+  },
+)
+  where
+    may : Admits f es (Event.End k name epoch)
+    may = (place, (live.0, live.1, ap (λ (b : Block). b.name.turn) live.2 ∙ live.3))
+
+    page : (q : ℕ) → q ≤ f.pages → get_or pages' q blank_page ≡ page_in (Event.End k name epoch ∷ es) q
+    page q within = elim (leb_tells (grain_of name / 256) q) [
+      | inl l ↦ elim (leb_tells ((grain_of name + length_of block + 255) / 256) q) [
+        | inl m ↦ ended_page es k name epoch q false (get_or pages' q blank_page) (touches_of f es shows.run name block live q ∙ over_of (grain_of name) (length_of block) q m.1) (pabove q m.1 ∙ shows.pages_are q within)
+        | inr m ↦ ended_page es k name epoch q true (get_or pages' q blank_page) (touches_of f es shows.run name block live q ∙ met_of (grain_of name) (length_of block) q l.1 m.1) (pset q l.1 m.1 ∙ ap (ended_at epoch) (shows.pages_are q within))
+      ]
+      | inr l ↦ ended_page es k name epoch q false (get_or pages' q blank_page) (touches_of f es shows.run name block live q ∙ under_of (grain_of name) (length_of block) q l.1) (pbelow q l.1 ∙ shows.pages_are q within)
+    ]
+
+    here : record p { block = None } ≡ place_in (Event.End k name epoch ∷ es) (grain_of name)
+    here =
+        let e : 16 * grain_of name ≡ address_of name = at_place (address_of name) place.1 in
+        let t : (address_of name == 16 * grain_of name) ≡ true = eq-eqb (address_of name) (16 * grain_of name) (sym e) in
+        ap (λ (q : Place). record q { block = None }) is ∙ ap (λ t. record { block = block_of (if t then None else live_in es (16 * grain_of name)); gives = gives_in es (16 * grain_of name) }) (sym t)
+
+    others : (g : ℕ) → grain_of name ≢ g → place_in es g ≡ place_in (Event.End k name epoch ∷ es) g
+    others g ne =
+        let t : (address_of name == 16 * g) ≡ false = ne_eqb (address_of name) (16 * g) (off_place (address_of name) g place.1 ne) in
+        ap (λ t. record { block = block_of (if t then None else live_in es (16 * g)); gives = gives_in es (16 * g) }) (sym t)
+
+    by : (x : ℕ) → x < grains_of f → (t : Bool) → in_run (grain_of name) (length_of block) x ≡ t → IsCovered (Event.End k name epoch ∷ es) x (get_or covered' x false)
+    by x h true e =
+        let on = run_of (grain_of name) (length_of block) x e in
+        uncovered_by (Event.End k name epoch ∷ es) x (get_or covered' x false) (cset x on.0 on.1) (λ c. (apart_from f es shows.run k name epoch block live x c).0 e)
+    by x h false e =
+        let out : in_run (grain_of name) (length_of block) x ≡ true → ⊥ = λ i. false≢true (sym e ∙ i) in
+        subst (IsCovered (Event.End k name epoch ∷ es) x) (sym (unmarked covered covered' (grain_of name) (length_of block) x cbelow cabove out))
+        (end_covered f es shows.run k name epoch block live x (get_or covered x false) out (shows.covered_are x h))
+
+-- ---- a machine stands for some run, also after the event
+pub shown_after : (f : Profile) (pages pages' : List Page) (places places' : List Place) (covered covered' : List Bool) (e : List Event → Event) → ((es : List Event) → Shows f pages places covered es → Shows f pages' places' covered' (e es ∷ es))
+    → ∥ ((es : List Event) × Shows f pages places covered es) ∥₁ → ∥ ((es : List Event) × Shows f pages' places' covered' es) ∥₁
+shown_after f pages pages' places places' covered covered' e after some = ∥∥₁_map some (λ s. (e s.0 ∷ s.0, after s.0 s.1))

@@ -16,7 +16,6 @@ pub fn blocks_are_apart()
 {}
 
 /// A block stays on backed pages with deeds of its heap as long as it lives. So memory of one heap is never memory of another.
-#[tactic(auto, using(crate::proofs::LiveBlocks::all_borne))]
 pub fn blocks_are_borne()
     ensures { (f : Profile) (es : List Event) → Run f es → AreBorne f es }
 {}
@@ -30,6 +29,7 @@ pub fn blocks_are_counted()
 
 /// What may come next and why an event may not are said apart, and agree: an event may come next in a run exactly where none of
 /// the eleven reasons applies to it. Where some apply, one of them is the first.
+#[tactic(auto, using(crate::proofs::Verdicts::admits_of, crate::proofs::Verdicts::never_of, crate::proofs::Verdicts::one_first))]
 pub fn reasons_are_complete()
     ensures none { (f : Profile) (es : List Event) → Run f es → (e : Event) → ((reason : Illegal) → Applies f es e reason → ⊥) ↔ Admits f es e }
     ensures one { (f : Profile) (es : List Event) (e : Event) (reason other : Illegal) → IsFirst f es e reason → IsFirst f es e other → reason ≡ other }

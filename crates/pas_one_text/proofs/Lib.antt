@@ -1,1 +1,4 @@
+pub mod Seen
 mod Rows
+mod Examples
+mod Faults

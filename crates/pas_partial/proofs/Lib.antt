@@ -1,3 +1,2 @@
-pub mod InRows
 pub mod LowestRow
 pub mod Refilled

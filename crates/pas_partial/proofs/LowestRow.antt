@@ -1,15 +1,95 @@
--- The free slots of a class in a mask: the lowest of them, and its row.
-use Rattle.std.proofs.Common.{◌≡◌, ℕ, ◌↔◌, IsTrue, true, ap, sym, ◌∙◌, arith, true≢false}
-use Rattle.pas_profile.specs.Classes.{IsClass, class_grains, IsSlotStart}
-use Rattle.pas_profile.proofs.ClassFacts.{class_grains_positive, first_slot, slot_end, slot_lt}
+-- Rows of slots, and the lowest that is free.
+use Rattle.std.proofs.Common.{◌≡◌, ℕ, zero, suc, ◌+◌, ◌-◌, ◌*◌, ◌<◌, ◌≤◌, ◌↔◌, IsTrue, nat_le, Bool, true, ◌&&◌, ◌||◌, ap, sym, ◌∙◌, subst, arith, inl, inr, ◌⊎◌, true≢false}
+use Rattle.std.proofs.Math.Nat.{suc-mul, zero-mul}
+use Rattle.std.proofs.lemmas.Bool.{and_from, and_parts, or_cases, leb-true, le-leb, cases_lt}
+use Rattle.pas_profile.specs.Runs.{in_run}
+use Rattle.pas_profile.proofs.Runs.{run_of, to_run}
 use Rattle.pas_bits.specs.declared.mask.Mask4.{Mask4}
 use Rattle.pas_bits.specs.Masks.{is_set, AreSet, AreClear, IsLowestSet}
+use Rattle.pas_partial.specs.Rows.{IsInRow, IsFreeSlot, rows}
+use Rattle.pas_profile.specs.Classes.{IsClass, class_grains, IsSlotStart}
+use Rattle.pas_profile.proofs.ClassFacts.{class_grains_positive, first_slot, slot_end, slot_lt}
 use Rattle.pas_segregated.specs.Masks.{start_of, AreStarts}
 use Rattle.pas_rights.specs.Looks.{AllFree}
 use Rattle.pas_segregated.proofs.Starts.{start_at, start_below}
 use Rattle.pas_choice.specs.Choices.{IsUnfit, IsChosen}
-use Rattle.pas_partial.specs.Rows.{IsFreeSlot, rows}
-use Rattle.pas_partial.proofs.InRows.{AreRow, row_as, row_last, row_first}
+
+-- ==== A row of slots, longer by one place each time.
+
+-- the row is that of these places
+abbrev pub AreRow : Mask4 → ℕ → ℕ → ℕ → Mask4 → Type 0
+AreRow mask first step n row = (s : ℕ) → IsTrue (is_set row s) ↔ IsInRow (λ x. is_set mask x ≡ true) first step n s
+
+-- under what says less
+pub row_as : (Good Fair : ℕ → Type 0) (first step n s : ℕ) → ((x : ℕ) → Good x → Fair x) → IsInRow Good first step n s → IsInRow Fair first step n s
+row_as Good Fair first step n s fair row = (row.0, row.1, row.2, λ j le. fair (first + j * step) (row.3 j le))
+
+-- the last place of a row is good
+pub row_last : (Good : ℕ → Type 0) (first step n s : ℕ) → IsInRow Good first step n s → Good s
+row_last Good first step n s row = subst Good (sym row.2) (row.3 row.0 (omega arith))
+
+-- its first place
+pub row_first : (Good : ℕ → Type 0) (first step n : ℕ) → 1 ≤ n → Good first → IsInRow Good first step n first
+row_first Good first step n some good = (
+  0,
+  omega (arith, some),
+  let z = zero-mul step in omega (arith, z),
+  λ j le.
+      let none : j ≡ 0 = omega (arith, le) in let z : j * step ≡ 0 = ap (λ i. i * step) none ∙ zero-mul step in subst Good (omega (arith, z)) good,
+)
+
+pub row_one : (mask row : Mask4) (first step : ℕ) → is_set mask first ≡ true → ((s : ℕ) → is_set row s ≡ in_run first 1 s) → AreRow mask first step 1 row
+row_one mask row first step good run s = (
+  λ h. let at = run_of first 1 s (sym (run s) ∙ h) in let low = at.0 in let high = at.1 in
+      let e : first ≡ s = omega (arith, low, high) in subst (IsInRow (λ x. is_set mask x ≡ true) first step 1) e (row_first (λ x. is_set mask x ≡ true) first step 1 (omega arith) good),
+  λ here.
+      let lt = here.1 in let e = here.2 in let none : here.0 ≡ 0 = omega (arith, lt) in let z : here.0 * step ≡ 0 = ap (λ i. i * step) none ∙ zero-mul step in
+      run s ∙ to_run first 1 s (omega (arith, e, z)) (omega (arith, e, z)),
+)
+
+either_true : (x y : Bool) → (x ≡ true) ⊎ (y ≡ true) → (x || y) ≡ true
+either_true x y h = grind arith
+
+module _ (mask row moved joined more : Mask4) (first step n : ℕ) (some : 1 ≤ n) (within : (s : ℕ) → is_set mask s ≡ true → s < 256) (moved_is : (s : ℕ) → s < 256 → is_set moved s ≡ (nat_le step s && is_set row (s - step)))
+    (joined_is : (s : ℕ) → is_set joined s ≡ (is_set moved s && is_set mask s)) (more_is : (s : ℕ) → is_set more s ≡ (is_set row s || is_set joined s)) (row_is : AreRow mask first step n row) where
+  abbrev Good : ℕ → Type 0
+  Good x = is_set mask x ≡ true
+
+  -- a place after the row
+  after : (s : ℕ) → is_set mask s ≡ true → is_set moved s ≡ true → IsInRow Good first step (n + 1) s
+  after s good h =
+      let at = and_parts (nat_le step s) (is_set row (s - step)) (sym (moved_is s (within s good)) ∙ h) in let le = leb-true step s at.0 in
+      let before = (row_is (s - step)).0 at.1 in let i = before.0 in let lt = before.1 in let e = before.2 in let next = suc-mul i step in
+      let place : s ≡ first + suc i * step = omega (arith, le, e, next) in (
+        suc i,
+        omega (arith, lt),
+        place,
+        λ j le. elim (cases_lt j (suc i)) [
+          | inl lower ↦ before.3 j (omega (arith, lower))
+          | inr last ↦ let same : suc i ≡ j = omega (arith, le, last) in subst (λ k. Good (first + k * step)) same (subst Good place good)
+        ],
+      )
+
+  -- and each place of the longer row is one of the row, or after it
+  before : (s i : ℕ) → i < n + 1 → s ≡ first + i * step → ((j : ℕ) → j ≤ i → Good (first + j * step)) → (is_set row s ≡ true) ⊎ (is_set moved s ≡ true)
+  before s zero lt e good = inl ((row_is s).1 (0, omega (arith, some), e, good))
+  before s (suc i) lt e good =
+      let next = suc-mul i step in let last : Good s = subst Good (sym e) (good (suc i) (omega arith)) in
+      inr (moved_is s (within s last) ∙ and_from (nat_le step s) (is_set row (s - step)) (le-leb step s (omega (arith, e, next))) ((row_is (s - step)).1 (i, omega (arith, lt), omega (arith, e, next), λ j le. good j (omega (arith, le)))))
+
+  pub row_more : AreRow mask first step (n + 1) more
+  row_more s = (
+    λ h. elim (or_cases (is_set row s) (is_set joined s) (sym (more_is s) ∙ h)) [
+      | inl had ↦ let was = (row_is s).0 had in let lt = was.1 in (was.0, omega (arith, lt), was.2, was.3)
+      | inr new ↦ let at = and_parts (is_set moved s) (is_set mask s) (sym (joined_is s) ∙ new) in after s at.1 at.0
+    ],
+    λ here. more_is s ∙ either_true (is_set row s) (is_set joined s) (elim (before s here.0 here.1 here.2 here.3) [
+      | inl had ↦ inl had
+      | inr new ↦ inr (joined_is s ∙ and_from (is_set moved s) (is_set mask s) new (row_last Good first step (n + 1) s here))
+    ]),
+  )
+
+-- ==== The free slots of a class in a mask: the lowest of them, and its row.
 
 module _ (class : ℕ) (free slots : Mask4) (is : IsClass class) (whole : (s : ℕ) → IsTrue (is_set slots s) ↔ (IsSlotStart class s × AreSet free s (class_grains class))) where
   free_slot : (s : ℕ) → is_set slots s ≡ true → IsFreeSlot class (is_set free) s

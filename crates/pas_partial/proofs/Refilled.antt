@@ -23,7 +23,7 @@ use Rattle.pas_segregated.proofs.Starts.{start_at}
 use Rattle.pas_search.proofs.Found.{KeepsNew, found_call, left_after}
 use Rattle.pas_partial.specs.Refills.{shared_directory, shared_slots}
 use Rattle.pas_partial.specs.Rows.{IsFreeSlot, IsLowestRow, partial}
-use Rattle.pas_partial.proofs.InRows.{row_last, row_first}
+use Rattle.pas_partial.proofs.LowestRow.{row_last, row_first}
 
 module _ (heap class : ℕ) (is : IsClass class) {tells : Bool} {σ σ1 : Standing} (served : Served Mask4) (searches : Searches (partial class) tells (shared_directory heap) σ σ1 (Ok served)) where
   abbrev d : Directory
@@ -99,6 +99,7 @@ module _ (heap class : ℕ) (is : IsClass class) {tells : Bool} {σ σ1 : Standi
         some = some;
         took = searches.outcome.serves;
         choice = searches.outcome.choice;
+        marks = searches.outcome.marks;
         few = searches.outcome.few;
         events = searches.outcome.events;
         leaves = left.order;

@@ -1,4 +1,1 @@
-pub mod Passes
-pub mod Stepping
-pub mod Storming
-pub mod Walk
+pub mod Desks

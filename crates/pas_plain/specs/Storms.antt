@@ -1,6 +1,6 @@
 -- Two actors at one plain region, of whom one acts between the steps of the other.
 use Rattle.std.specs.Prelude.{◌+◌, ◌-◌, ◌^◌, ◌≤◌, ◌≡◌, ◌≢◌, List, length, min, reverse}
-use Rattle.std.proofs.Common.{ap, sym, subst, ◌∙◌}
+use Rattle.std.proofs.Common.{ap, sym, ◌∙◌}
 use Rattle.std.proofs.Math.Nat.{sub-add_cancel}
 use Rattle.std.proofs.lemmas.List.{length-reverse}
 use Rattle.pas_steps.specs.Calls.{Calls}
@@ -64,4 +64,4 @@ pub spare_own : (desk : PlainDesk) (foreign : PlainPass) (v : View) (l : Whole) 
 spare_own desk foreign v l stood =
     let shown = ap length (shown_own desk foreign v l stood) ∙ length-reverse (events_of (actor_of (pass_of desk)) v) in
     ap (λ n. room_of_pass (pass_of desk) - length (events_shown (pass_of desk)) + n) (sym shown)
-    ∙ sub-add_cancel {n = room_of_pass (pass_of desk)} {m = length (events_shown (pass_of desk))} (subst (λ n. n ≤ room_of_pass (pass_of desk)) ((pass_of desk).notes.room.events.ok.0) (pass_of desk).notes.room.within)
+    ∙ sub-add_cancel {n = room_of_pass (pass_of desk)} {m = length (events_shown (pass_of desk))} (pass_of desk).notes.room.within

@@ -87,7 +87,7 @@ impl PlainDesk {
 
 impl Desk for PlainDesk {
     ghost use Rattle.std.specs.Prelude.{◌+◌, ◌-◌, ◌^◌, true, length, min, reverse};
-    ghost use Rattle.std.proofs.Common.{ap, sym, subst, ◌∙◌, ◌≤◌};
+    ghost use Rattle.std.proofs.Common.{ap, sym, ◌∙◌};
     ghost use Rattle.std.proofs.lemmas.List.{length-reverse};
     ghost use Rattle.std.proofs.Math.Nat.{sub-add_cancel};
     ghost use Rattle.pas_steps.specs.Events.{events_of};
@@ -139,7 +139,7 @@ impl Desk for PlainDesk {
 
     ghost shows = { λ desk v l stood. stood.pass.shown ∙ ap (λ v. reverse (events_of (actor_of desk.pass) v)) stood.part_is };
 
-    ghost spares = { λ desk v l stood. ap (λ n. room_of_pass desk.pass - length (events_shown desk.pass) + n) (sym (ap length (stood.pass.shown ∙ ap (λ v. reverse (events_of (actor_of desk.pass) v)) stood.part_is) ∙ length-reverse (events_of (actor_of desk.pass) v))) ∙ sub-add_cancel {n = room_of_pass desk.pass} {m = length (events_shown desk.pass)} (subst (λ n. n ≤ room_of_pass desk.pass) (desk.pass.notes.room.events.ok.0) desk.pass.notes.room.within) };
+    ghost spares = { λ desk v l stood. ap (λ n. room_of_pass desk.pass - length (events_shown desk.pass) + n) (sym (ap length (stood.pass.shown ∙ ap (λ v. reverse (events_of (actor_of desk.pass) v)) stood.part_is) ∙ length-reverse (events_of (actor_of desk.pass) v))) ∙ sub-add_cancel {n = room_of_pass desk.pass} {m = length (events_shown desk.pass)} desk.pass.notes.room.within };
 
     ghost counts = { λ desk v l stood. stood.pass.count ∙ ap (λ v. min (length v) (2 ^ 64 - 1)) stood.part_is };
 

@@ -1,7 +1,6 @@
 -- What every kit of a plan is made of.
 use Rattle.std.specs.Prelude.{ℕ, ◌<◌, ◌≡◌, List, [], length, Option, Some, All, slice_index_or}
-use Rattle.pas_profile.specs.Rooms.{shown, size_of_room}
-use Rattle.pas_profile.specs.declared.room.EventRoom.{EventRoom}
+use Rattle.pas_profile.specs.Rooms.{shown, size_of_room, EventRoom}
 use Rattle.pas_cache.specs.Caches.{cached}
 use Rattle.pas_answers.specs.Replays.{empty_cache}
 use Rattle.pas_cache.specs.declared.cache.ThreadCache.{ThreadCache}

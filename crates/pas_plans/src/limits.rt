@@ -6,7 +6,7 @@ ghost use Rattle.pas_answers.specs.Fit.{IsBelow, AreBelow, AllBelow};
 ghost use Rattle.pas_answers.specs.Replays.{phases_of};
 
 use pas_profile::NoMemory;
-use pas_report::Records;
+use pas_report::{Records, room_for_replay};
 use pas_trace::{Op, Phase, Plan, What};
 use std::alloc::Global;
 
@@ -49,5 +49,5 @@ pub fn records_for(alloc: Global, plan: &Plan) -> Result<Records, NoMemory>
     ensures empty { IfOk result (λ out. records_in out ≡ []) }
     ensures room { IfOk result (λ out. room_of out ≡ plan.now.total + length (phases_of plan.now) + 1) }
 {
-    Records::try_new(alloc, plan.total, plan.phases.as_slice().len() as u32)
+    room_for_replay(alloc, plan.total, plan.phases.as_slice().len() as u32)
 }

@@ -23,6 +23,6 @@ pub use event::{Event, FreeFault, NoRoom, Outcome, Range, Why};
 pub use life::{life_word, read_life};
 pub use name::{Address, Block, Name};
 pub use profile::Profile;
-pub use room::{EventRoom, NoMemory};
+pub use room::{EventRoom, NoMemory, Room};
 pub use routing::{room_for, route};
 pub use word::{Layout, Word};

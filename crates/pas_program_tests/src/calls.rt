@@ -77,6 +77,21 @@ pub fn writes<R: AllocGlobal + Threads + Wait + Sync>(
     Ok(outcome.is(status, text.as_bytes()))
 }
 
+/// Whether a call with these words writes of each of the traces the text at its place.
+pub fn writes_each<R: AllocGlobal + Threads + Wait + Sync>(
+    rt: &R,
+    words: &[&str],
+    traces: &[&str],
+    texts: &[&str],
+) -> Result<bool, AllocError> {
+    for at in 0..traces.len() {
+        if at >= texts.len() || !writes(rt, words, traces[at], 0, texts[at])? {
+            return Ok(false);
+        }
+    }
+    Ok(true)
+}
+
 /// Whether a replay of a small trace writes nothing where the read of this number fails, and has the status 3.
 pub fn stops_at_read<R: AllocGlobal + Threads + Wait + Sync>(
     rt: &R,

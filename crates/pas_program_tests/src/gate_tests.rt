@@ -1,9 +1,8 @@
 //! The workers of a phase run at once.
 ghost use Rattle.std.specs.Prelude.{◌≤◌, length};
 
-use pas_replay::records_for;
-use pas_threads::{Gate, SharedKit, on_threads};
-use pas_trace::read_trace;
+use crate::traces::replayed_on_threads;
+use pas_threads::Gate;
 use std::sync::Wait;
 use std::sync::atomic::AtomicBool;
 use std::sync::atomic::Ordering::SeqCst;
@@ -75,13 +74,8 @@ impl Meeting {
 fn meet<R: AllocGlobal + Threads + Wait + Sync>(rt: &R, text: &[u8]) -> Result<bool, Fail>
     requires { length text.now ≤ 16777216 }
 {
-    let Ok(plan) = read_trace(rt.alloc(), text) else {
-        return Ok(false);
-    };
-    let kit = SharedKit::try_new(rt.alloc(), &plan)?;
-    let mut records = records_for(rt.alloc(), &plan)?;
     let meeting = Meeting::new();
-    let _state = on_threads(rt, &plan, kit, &meeting, &mut records);
+    let _replayed = replayed_on_threads(rt, text, &meeting)?;
     Ok(meeting.have_met())
 }
 

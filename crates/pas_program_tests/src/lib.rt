@@ -2,16 +2,26 @@
 #![tactic(auto)]
 
 #[cfg(test)]
+mod alone;
+#[cfg(test)]
+mod at_once;
+#[cfg(test)]
 mod calls;
 #[cfg(test)]
 mod estimate_tests;
 #[cfg(test)]
 mod gate_tests;
 #[cfg(test)]
+mod in_turn;
+#[cfg(test)]
+mod lawful;
+#[cfg(test)]
 mod machine_tests;
 #[cfg(test)]
 mod order_tests;
 #[cfg(test)]
 mod run_tests;
+#[cfg(test)]
+mod threads_tests;
 #[cfg(test)]
 mod traces;

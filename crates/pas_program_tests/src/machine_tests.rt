@@ -1,38 +1,12 @@
 //! The machine as a program takes each event of each replay.
 
-use crate::traces::{filling, replayed};
+use crate::traces::{MOST_BYTES, filling, replayed};
+use crate::{alone, at_once, in_turn};
 use pas_generate::trace_of;
 use pas_machine::Machine;
 use pas_report::Record;
 use std::alloc::{AllocError, Global};
 use std::test::Fail;
-
-/// The most bytes of a trace.
-const MOST_BYTES: usize = 16_777_216;
-
-/// Traces whose replays have events and refusals of every kind.
-const TRACES: [&str; 20] = [
-    "pas 1 pages 1 threads 1 heaps 1 age 2\na 1 1 0 16 16\na 1 2 0 32 16\nf 1 2\nf 1 1\nf 1 1\n",
-    "pas 1 pages 1 threads 2 heaps 1 age 2\na 1 1 0 16 16\na 2 2 0 16 16\nf 2 2\n",
-    "pas 1 pages 1 threads 1 heaps 1 age 2\na 1 1 0 16 16\ntick 3\nf 1 1\nstop 1\ntick 4\npass\ntick 5\npass\npass\na 1 2 0 16 16\n",
-    "pas 1 pages 3 threads 1 heaps 2 age 2\na 1 1 0 16 16\na 1 2 1 8192 16\na 1 3 1 4096 16\n",
-    "pas 1 pages 4 threads 1 heaps 1 age 2\na 1 1 0 24 16\nf 1 1\n",
-    "pas 1 pages 4 threads 1 heaps 1 age 2",
-    "pas 1 pages 8 threads 1 heaps 1 age 2\na 1 1 0 0 16\na 1 2 0 1 16\na 1 3 0 512 16\na 1 4 0 513 16\n",
-    "pas 1 pages 4 threads 1 heaps 1 age 2\na 1 1 0 130 128\na 1 2 0 16 4096\na 1 3 0 16 4096\n",
-    "pas 1 pages 1 threads 1 heaps 2 age 2\na 1 1 0 16 16\nf 1 1\nstop 1\na 1 2 1 16 16\nf 1 2\n",
-    "pas 1 pages 1 threads 2 heaps 1 age 2\na 1 1 0 16 16\na 2 2 0 16 16\nphase\nidle 0\na 2 3 0 16 16\n",
-    "pas 1 pages 4 threads 1 heaps 1 age 2\na 1 1 0 24 16\nf 1 1\nf 1 1\n",
-    "pas 1 pages 1 threads 2 heaps 1 age 2\na 1 1 0 16 16\nf 1 1\nstop 1\na 2 2 0 16 16\nf 1 1\nflush 1\n",
-    "pas 1 pages 1 threads 1 heaps 1 age 2\na 1 1 0 32 16\nr 1 0x00001000 1\nr 1 0x00001010 0\nr 1 0x00000008 0\nr 1 0x00001008 0\nr 1 0x00002000 0\nr 1 0x00001000 0\n",
-    "pas 1 pages 1 threads 1 heaps 1 age 2\na 1 1 0 528 16\na 1 2 0 528 16\na 1 3 0 528 16\nf 1 2\nflush 1\na 1 4 0 528 16\nf 1 4\nflush 1\na 1 5 0 529 16\n",
-    "pas 1 pages 4 threads 1 heaps 1 age 2\na 1 1 0 2049 16\na 1 2 0 8192 16\nf 1 1\nf 1 2\nflush 1\na 1 3 0 16384 16\n",
-    "pas 1 pages 1 threads 1 heaps 1 age 2\na 1 1 0 16 16\ntick 3\nf 1 1\nstop 1\ntick 4\npass\ntick 5\npass\na 1 2 0 16 16\n",
-    "pas 1 pages 1 threads 1 heaps 1 age 2\na 1 1 0 16 16\nf 1 1\nstop 1\na 1 2 0 16 16\npass\n",
-    "pas 1 pages 1 threads 1 heaps 1 age 2\na 1 1 0 512 16\na 1 2 0 512 16\na 1 3 0 512 16\na 1 4 0 512 16\na 1 5 0 512 16\na 1 6 0 512 16\na 1 7 0 512 16\na 1 8 0 512 16\nf 1 1\nf 1 2\nf 1 3\nf 1 4\nf 1 5\nf 1 6\nf 1 7\nf 1 8\nflush 1\npass\n",
-    "pas 1 pages 1 threads 1 heaps 2 age 2\nshared 1\na 1 1 1 16 16\na 1 2 1 48 16\na 1 3 1 16 16\n",
-    "pas 1 pages 33 threads 2 heaps 3 age 2\na 1 1 0 16 16\na 1 2 0 32 16\na 1 3 0 48 16\na 1 4 0 64 16\na 1 5 0 80 16\na 1 6 0 96 16\na 1 7 0 112 16\na 1 8 0 128 16\na 1 9 0 160 16\na 1 10 0 192 16\na 1 11 0 224 16\na 1 12 0 256 16\na 1 13 0 320 16\na 1 14 0 384 16\na 1 15 0 448 16\na 1 16 0 512 16\na 1 17 1 16 16\na 1 18 1 32 16\na 1 19 1 48 16\na 1 20 1 64 16\na 1 21 1 80 16\na 1 22 1 96 16\na 1 23 1 112 16\na 1 24 1 128 16\na 1 25 1 160 16\na 1 26 1 192 16\na 1 27 1 224 16\na 1 28 1 256 16\na 1 29 1 320 16\na 1 30 1 384 16\na 1 31 1 448 16\na 1 32 1 512 16\na 1 33 2 16 16\na 2 34 0 16 16\na 2 35 0 32 16\n",
-];
 
 /// Whether the machine takes the event of the record, if it has one.
 fn takes(machine: &mut Machine, shown: &Record) -> bool {
@@ -57,11 +31,21 @@ fn is_taken(alloc: Global, text: &[u8]) -> Result<bool, Fail> {
     Ok(true)
 }
 
+/// Whether the machine takes each event of the replays of these traces.
+fn are_taken(alloc: Global, traces: &[&str]) -> Result<bool, Fail> {
+    for trace in traces {
+        if !is_taken(alloc, trace.as_bytes())? {
+            return Ok(false);
+        }
+    }
+    Ok(true)
+}
+
 #[test]
 fn small_traces_are_taken(rt: HostRuntime) -> Result<(), Fail> {
-    for at in 0..20 {
-        assert!(rt; is_taken(rt.alloc(), TRACES[at].as_bytes())?);
-    }
+    assert!(rt; are_taken(rt.alloc(), alone::TRACES.as_slice())?);
+    assert!(rt; are_taken(rt.alloc(), in_turn::TRACES.as_slice())?);
+    assert!(rt; are_taken(rt.alloc(), at_once::TRACES.as_slice())?);
     Ok(())
 }
 

@@ -1,8 +1,9 @@
 //! Replays in the order of the text, generated traces, and calls that do neither.
 ghost use Rattle.std.specs.Prelude.{◌≡◌, ◌≤◌, ◌⊎◌, length};
 
-use crate::calls::{ROOM, may_be_cut_off, outcome_of, stops_at_read, writes};
-use crate::traces::{TRACE, TRANSCRIPT, replayed};
+use crate::calls::{ROOM, may_be_cut_off, outcome_of, stops_at_read, writes, writes_each};
+use crate::traces::{TRACE, TRANSCRIPT, asking, filling, replayed};
+use crate::{alone, at_once, in_turn};
 use pas_bitfit::end_bits;
 use pas_bits::Mask4;
 use pas_generate::trace_of;
@@ -95,46 +96,6 @@ fn failing_writes(rt: HostRuntime) -> Result<(), Fail> {
     Ok(())
 }
 
-/// Traces, and what each is replayed to.
-const TRACES: [&str; 12] = [
-    "pas 1 pages 4 threads 1 heaps 1 age 2",
-    "pas 1 pages 1 threads 1 heaps 1 age 2\na 1 1 0 16 16\na 1 2 0 32 16\nf 1 2\nf 1 1\nf 1 1\n",
-    "pas 1 pages 1 threads 1 heaps 2 age 2\na 1 1 0 16 16\nf 1 1\nstop 1\na 1 2 1 16 16\nf 1 2\n",
-    "pas 1 pages 1 threads 2 heaps 1 age 2\na 1 1 0 16 16\nf 1 1\nstop 1\na 2 2 0 16 16\nf 1 1\nflush 1\n",
-    "pas 1 pages 1 threads 1 heaps 1 age 2\na 1 1 0 32 16\nr 1 0x00001000 1\nr 1 0x00001010 0\nr 1 0x00000008 0\nr 1 0x00001008 0\nr 1 0x00002000 0\nr 1 0x00001000 0\n",
-    "pas 1 pages 1 threads 2 heaps 1 age 2\na 1 1 0 16 16\na 2 2 0 16 16\nf 2 2\n",
-    "pas 1 pages 4 threads 2 heaps 1 age 2\nflush 2\nphase\nstop 1\n",
-    "pas 1 pages 4 threads 1 heaps 1 age 2\na 1 1 0 2049 16\n",
-    "pas 1 pages 4 threads 1 heaps 1 age 2\na 1 1 0 16384 16\na 1 2 0 2049 16\n",
-    "pas 1 pages 4 threads 1 heaps 1 age 2\ntick 7\ntick 5\n",
-    "pas 1 pages 4 threads 1 heaps 1 age 2\npass\n",
-    "pas 1 pages 4 threads 3 heaps 1 age 2\nstop 2\ntick 2\nidle 2\nphase\nidle 3\nidle 0\n",
-];
-
-const TRANSCRIPTS: [&str; 12] = [
-    "close\nreport\ntotal deeds 0 backed 0 live 0 given 0 ended 0\n",
-    "1 deed page 1 heap 0 class 16\n1 back page 1\n1 give 0x00001000 turn 0 room 16 heap 0\n1 no-space name 2\n1 skipped name 2\nclose\n1 freed 0x00001000 turn 0 epoch 0\n1 ended 0x00001000 turn 0\nreport\npage 1 heap 0 class 16 live 0 free 256 stamp 0 marks backed+offered+hinted\ntotal deeds 1 backed 1 live 0 given 1 ended 1\n",
-    "1 deed page 1 heap 0 class 16\n1 back page 1\n1 give 0x00001000 turn 0 room 16 heap 0\n1 freed 0x00001000 turn 0 epoch 0\n1 no-space name 2\n1 skipped name 2\nclose\nreport\npage 1 heap 0 class 16 live 0 free 256 stamp 0 marks backed+offered+hinted\ntotal deeds 1 backed 1 live 0 given 1 ended 1\n",
-    "1 deed page 1 heap 0 class 16\n1 back page 1\n1 give 0x00001000 turn 0 room 16 heap 0\n1 freed 0x00001000 turn 0 epoch 0\n2 give 0x00001000 turn 1 room 16 heap 0\n1 ended 0x00001000 turn 0\nclose\nreport\npage 1 heap 0 class 16 live 1 free 255 stamp 0 marks backed+offered+hinted\ntotal deeds 1 backed 1 live 1 given 2 ended 1\n",
-    "1 deed page 1 heap 0 class 32\n1 back page 1\n1 give 0x00001000 turn 0 room 32 heap 0\n1 outside 0x00000008 turn 0\n1 unaligned 0x00001008 turn 0\n1 outside 0x00002000 turn 0\nclose\n1 no-block 0x00001000 turn 1\n1 no-block 0x00001010 turn 0\n1 freed 0x00001000 turn 0 epoch 0\nreport\npage 1 heap 0 class 32 live 0 free 256 stamp 0 marks backed+offered+hinted\ntotal deeds 1 backed 1 live 0 given 1 ended 1\n",
-    "1 deed page 1 heap 0 class 16\n1 back page 1\n1 give 0x00001000 turn 0 room 16 heap 0\n2 held 1 name 2\n2 skipped name 2\nclose\nreport\npage 1 heap 0 class 16 live 1 free 255 stamp 0 marks backed+offered\ntotal deeds 1 backed 1 live 1 given 1 ended 0\n",
-    "phase 2\nclose\nreport\ntotal deeds 0 backed 0 live 0 given 0 ended 0\n",
-    "1 deed page 1 heap 0 large\n1 back page 1\n1 give 0x00001000 turn 0 room 4096 heap 0\nclose\nreport\n\
-         page 1 heap 0 large live 1 free 0 stamp 0 marks backed+parked\ntotal deeds 1 backed 1 live 1 given 1 ended 0\n",
-    "1 deed page 1 heap 0 large\n1 deed page 2 heap 0 large\n1 deed page 3 heap 0 large\n1 deed page 4 heap 0 large\n\
-         1 back page 1\n1 back page 2\n1 back page 3\n1 back page 4\n1 give 0x00001000 turn 0 room 16384 heap 0\n\
-         1 no-space name 2\nclose\nreport\n\
-         page 1 heap 0 large live 1 free 0 stamp 0 marks backed+parked\n\
-         page 2 heap 0 large live 0 free 0 stamp 0 marks backed+parked\n\
-         page 3 heap 0 large live 0 free 0 stamp 0 marks backed+parked\n\
-         page 4 heap 0 large live 0 free 0 stamp 0 marks backed+parked\n\
-         total deeds 4 backed 4 live 1 given 1 ended 0\n",
-    "0 tick 7\n0 tick 7\nclose\nreport\ntotal deeds 0 backed 0 live 0 given 0 ended 0\n",
-    "0 pass 0\nclose\nreport\ntotal deeds 0 backed 0 live 0 given 0 ended 0\n",
-    "0 tick 2\n0 stopped 1\n0 stopped 3\nphase 2\n0 stopped 1\n0 stopped 2\n0 stopped 3\nclose\nreport\n\
-         total deeds 0 backed 0 live 0 given 0 ended 0\n",
-];
-
 /// Inputs that are no trace, and the first fault of each.
 const FAULTY: [&str; 6] = [
     "",
@@ -156,13 +117,95 @@ const FAULTS: [&str; 6] = [
 
 #[test]
 fn inputs_have_outcomes(rt: HostRuntime) -> Result<(), Fail> {
-    for at in 0..12 {
-        assert!(rt; writes(&rt, &["order"], TRACES[at], 0, TRANSCRIPTS[at])?);
-    }
     for at in 0..6 {
         assert!(rt; writes(&rt, &["order"], FAULTY[at], 1, FAULTS[at])?);
     }
     assert!(rt; may_be_cut_off(&rt, &["order"], "", 1, b"line 1: BadHeader\n".as_slice())?);
+    Ok(())
+}
+
+#[test]
+fn traces_have_transcripts(rt: HostRuntime) -> Result<(), Fail> {
+    let words = ["order"];
+    assert!(rt;
+        writes_each(
+            &rt,
+            &words,
+            alone::TRACES.as_slice(),
+            alone::TEXTS.as_slice()
+        )?
+    );
+    assert!(rt;
+        writes_each(
+            &rt,
+            &words,
+            in_turn::TRACES.as_slice(),
+            in_turn::TEXTS.as_slice()
+        )?
+    );
+    assert!(rt;
+        writes_each(
+            &rt,
+            &words,
+            at_once::TRACES.as_slice(),
+            at_once::TEXTS.as_slice()
+        )?
+    );
+    Ok(())
+}
+
+/// How a transcript ends of 86 requests of a class with 85 slots on a page.
+const PAST_A_PAGE: &str =
+    "1 give 0x00001fc0 turn 0 room 48 heap 0\n1 deed page 2 heap 0 class 48\n1 back page 2\n\
+     1 give 0x00002000 turn 0 room 48 heap 0\nclose\nreport\n\
+     page 1 heap 0 class 48 live 85 free 1 stamp 0 marks backed+parked\n\
+     page 2 heap 0 class 48 live 1 free 253 stamp 0 marks backed+offered\n\
+     total deeds 2 backed 2 live 86 given 86 ended 0\n";
+
+/// And of 65 frees, one more than a log has places for: before the last is logged the others end, in their order.
+const PAST_A_LOG: &str =
+    "1 give 0x00001400 turn 0 room 16 heap 0\n1 freed 0x00001000 turn 0 epoch 0\n\
+     1 freed 0x00001010 turn 0 epoch 0\n1 freed 0x00001020 turn 0 epoch 0\n1 freed 0x00001030 turn 0 epoch 0\n\
+     1 freed 0x00001040 turn 0 epoch 0\n1 freed 0x00001050 turn 0 epoch 0\n1 freed 0x00001060 turn 0 epoch 0\n\
+     1 freed 0x00001070 turn 0 epoch 0\n1 freed 0x00001080 turn 0 epoch 0\n1 freed 0x00001090 turn 0 epoch 0\n\
+     1 freed 0x000010a0 turn 0 epoch 0\n1 freed 0x000010b0 turn 0 epoch 0\n1 freed 0x000010c0 turn 0 epoch 0\n\
+     1 freed 0x000010d0 turn 0 epoch 0\n1 freed 0x000010e0 turn 0 epoch 0\n1 freed 0x000010f0 turn 0 epoch 0\n\
+     1 freed 0x00001100 turn 0 epoch 0\n1 freed 0x00001110 turn 0 epoch 0\n1 freed 0x00001120 turn 0 epoch 0\n\
+     1 freed 0x00001130 turn 0 epoch 0\n1 freed 0x00001140 turn 0 epoch 0\n1 freed 0x00001150 turn 0 epoch 0\n\
+     1 freed 0x00001160 turn 0 epoch 0\n1 freed 0x00001170 turn 0 epoch 0\n1 freed 0x00001180 turn 0 epoch 0\n\
+     1 freed 0x00001190 turn 0 epoch 0\n1 freed 0x000011a0 turn 0 epoch 0\n1 freed 0x000011b0 turn 0 epoch 0\n\
+     1 freed 0x000011c0 turn 0 epoch 0\n1 freed 0x000011d0 turn 0 epoch 0\n1 freed 0x000011e0 turn 0 epoch 0\n\
+     1 freed 0x000011f0 turn 0 epoch 0\n1 freed 0x00001200 turn 0 epoch 0\n1 freed 0x00001210 turn 0 epoch 0\n\
+     1 freed 0x00001220 turn 0 epoch 0\n1 freed 0x00001230 turn 0 epoch 0\n1 freed 0x00001240 turn 0 epoch 0\n\
+     1 freed 0x00001250 turn 0 epoch 0\n1 freed 0x00001260 turn 0 epoch 0\n1 freed 0x00001270 turn 0 epoch 0\n\
+     1 freed 0x00001280 turn 0 epoch 0\n1 freed 0x00001290 turn 0 epoch 0\n1 freed 0x000012a0 turn 0 epoch 0\n\
+     1 freed 0x000012b0 turn 0 epoch 0\n1 freed 0x000012c0 turn 0 epoch 0\n1 freed 0x000012d0 turn 0 epoch 0\n\
+     1 freed 0x000012e0 turn 0 epoch 0\n1 freed 0x000012f0 turn 0 epoch 0\n1 freed 0x00001300 turn 0 epoch 0\n\
+     1 freed 0x00001310 turn 0 epoch 0\n1 freed 0x00001320 turn 0 epoch 0\n1 freed 0x00001330 turn 0 epoch 0\n\
+     1 freed 0x00001340 turn 0 epoch 0\n1 freed 0x00001350 turn 0 epoch 0\n1 freed 0x00001360 turn 0 epoch 0\n\
+     1 freed 0x00001370 turn 0 epoch 0\n1 freed 0x00001380 turn 0 epoch 0\n1 freed 0x00001390 turn 0 epoch 0\n\
+     1 freed 0x000013a0 turn 0 epoch 0\n1 freed 0x000013b0 turn 0 epoch 0\n1 freed 0x000013c0 turn 0 epoch 0\n\
+     1 freed 0x000013d0 turn 0 epoch 0\n1 freed 0x000013e0 turn 0 epoch 0\n1 freed 0x000013f0 turn 0 epoch 0\n\
+     close\n1 freed 0x00001400 turn 0 epoch 0\nreport\n\
+     page 1 heap 0 class 16 live 0 free 256 stamp 0 marks backed+offered+hinted\n\
+     total deeds 1 backed 1 live 0 given 65 ended 65\n";
+
+/// Whether the transcript of the trace ends with this text.
+fn ends_with<R: AllocGlobal + Threads + Wait + Sync>(
+    rt: &R,
+    trace: &[u8],
+    text: &str,
+) -> Result<bool, AllocError> {
+    let outcome = outcome_of(rt, &["order"], trace, &[], &[], ROOM)?;
+    Ok(outcome.status == 0 && outcome.taken.ends_with(text.as_bytes()))
+}
+
+#[test]
+fn full_pages_and_logs_have_transcripts(rt: HostRuntime) -> Result<(), Fail> {
+    let slots = asking(rt.alloc(), 2, 86, 48)?;
+    assert!(rt; ends_with(&rt, &slots, PAST_A_PAGE)?);
+    let log = filling(rt.alloc(), 1, 65, 16)?;
+    assert!(rt; ends_with(&rt, &log, PAST_A_LOG)?);
     Ok(())
 }
 

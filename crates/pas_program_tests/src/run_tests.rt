@@ -1,45 +1,48 @@
 //! Replays with each thread's operations in a thread of their own.
 
-use crate::calls::{Outcome, ROOM, may_be_cut_off, outcome_of, stops_at_read, writes};
-use crate::traces::{TRACE, TRANSCRIPT, filling};
+use crate::calls::{Outcome, ROOM, may_be_cut_off, outcome_of, stops_at_read, writes, writes_each};
+use crate::traces::{TRACE, TRANSCRIPT, filling, of_two_threads};
+use crate::{alone, in_turn};
 use std::alloc::AllocError;
 use std::sync::Wait;
 use std::test::Fail;
 use std::thread::Threads;
 
-/// Traces with one thread and nothing for the scavenger.
-const ALONE: [&str; 10] = [
-    TRACE,
-    "pas 1 pages 4 threads 1 heaps 1 age 2",
-    "pas 1 pages 8 threads 1 heaps 1 age 2\na 1 1 0 0 16\na 1 2 0 1 16\na 1 3 0 512 16\na 1 4 0 513 16\n",
-    "pas 1 pages 4 threads 1 heaps 1 age 2\na 1 1 0 130 128\na 1 2 0 16 4096\na 1 3 0 16 4096\n",
-    "pas 1 pages 1 threads 1 heaps 2 age 2\na 1 1 0 16 16\nf 1 1\nstop 1\na 1 2 1 16 16\nf 1 2\n",
-    "pas 1 pages 4 threads 1 heaps 1 age 2\na 1 1 0 24 16\nf 1 1\nf 1 1\n",
-    "pas 1 pages 1 threads 1 heaps 1 age 2\na 1 1 0 32 16\nr 1 0x00001000 1\nr 1 0x00001010 0\nr 1 0x00000008 0\nr 1 0x00001008 0\nr 1 0x00002000 0\nr 1 0x00001000 0\n",
-    "pas 1 pages 1 threads 1 heaps 1 age 2\na 1 1 0 528 16\na 1 2 0 528 16\na 1 3 0 528 16\nf 1 2\nflush 1\na 1 4 0 528 16\nf 1 4\nflush 1\na 1 5 0 529 16\n",
-    "pas 1 pages 4 threads 1 heaps 1 age 2\na 1 1 0 2049 16\na 1 2 0 8192 16\nf 1 1\nf 1 2\nflush 1\na 1 3 0 16384 16\n",
-    "pas 1 pages 1 threads 1 heaps 2 age 2\nshared 1\na 1 1 1 16 16\na 1 2 1 48 16\na 1 3 1 16 16\n",
-];
-
-/// Whether `order` and `run` write the same of this trace.
+/// Whether `run` writes the same of this trace of one thread as `order`, and also where it has a second thread, so that it is replayed on threads.
 fn writes_the_same<R: AllocGlobal + Threads + Wait + Sync>(
     rt: &R,
     trace: &[u8],
 ) -> Result<bool, AllocError> {
     let order = outcome_of(rt, &["order"], trace, &[], &[], ROOM)?;
-    let run = outcome_of(rt, &["run"], trace, &[], &[], ROOM)?;
-    Ok(order.status == 0 && run.is(0, &order.taken))
+    let alone = outcome_of(rt, &["run"], trace, &[], &[], ROOM)?;
+    let changed = of_two_threads(rt.alloc(), trace)?;
+    let on_threads = outcome_of(rt, &["run"], &changed, &[], &[], ROOM)?;
+    Ok(order.status == 0 && alone.is(0, &order.taken) && on_threads.is(0, &order.taken))
 }
 
 #[test]
 fn one_thread_does_the_same_alone(rt: HostRuntime) -> Result<(), Fail> {
-    for at in 0..10 {
-        assert!(rt; writes_the_same(&rt, ALONE[at].as_bytes())?);
+    for at in 0..16 {
+        assert!(rt; writes_the_same(&rt, alone::TRACES[at].as_bytes())?);
     }
     let slots = filling(rt.alloc(), 2, 86, 48)?;
     assert!(rt; writes_the_same(&rt, &slots)?);
     let log = filling(rt.alloc(), 1, 65, 16)?;
     assert!(rt; writes_the_same(&rt, &log)?);
+    Ok(())
+}
+
+#[test]
+fn actors_in_turn_have_transcripts(rt: HostRuntime) -> Result<(), Fail> {
+    let words = ["run"];
+    assert!(rt;
+        writes_each(
+            &rt,
+            &words,
+            in_turn::TRACES.as_slice(),
+            in_turn::TEXTS.as_slice()
+        )?
+    );
     Ok(())
 }
 

@@ -3,8 +3,7 @@ use Rattle.std.proofs.Common.{◌≡◌, ℕ, ◌+◌, ◌-◌, ◌^◌, min, Li
 use Rattle.std.specs.Option.{option_to_list}
 use Rattle.std.proofs.lemmas.List.{reverse-append}
 use Rattle.pas_profile.specs.declared.event.Event.{Event}
-use Rattle.pas_profile.specs.declared.room.EventRoom.{EventRoom}
-use Rattle.pas_profile.specs.Rooms.{shown}
+use Rattle.pas_profile.specs.Rooms.{shown, EventRoom}
 use Rattle.pas_steps.specs.Events.{event_of, events_of, with_event}
 use Rattle.pas_steps.specs.Views.{View, epoch_after, epoch_of, or_zero}
 use Rattle.pas_steps.specs.Desks.{made}

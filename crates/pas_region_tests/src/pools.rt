@@ -73,7 +73,7 @@ fn each_seat_is_handed_out_once(rt: HostRuntime) -> Result<(), Fail> {
 fn takes_one(outcomes: &mut Outcomes) -> bool
     requires { length (pairs_in outcomes.old) < places_of outcomes.old }
 {
-    outcomes.push(1, Outcome::Young(5));
+    outcomes.push((1, Outcome::Young(5)));
     let taken = outcomes.as_slice() == [(1, Outcome::Young(5))].as_slice();
     outcomes.clear();
     taken && outcomes.as_slice().is_empty()

@@ -238,7 +238,7 @@ fn rooms_take_their_events(rt: HostRuntime) {
 fn moves_into(alloc: Global, size: u32, touched: u32) -> Result<bool, NoMemory>
     requires { 1 ≤ size }
 {
-    let mut before = EventRoom::try_new_touched(alloc, size, touched)?;
+    let mut before = EventRoom::try_new_touched(alloc, size, touched, EVENT)?;
     let is_sized = before.spare() == size;
     before.push(EVENT);
     let mut room = EventRoom::try_new(alloc, 2)?;

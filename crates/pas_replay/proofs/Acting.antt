@@ -13,9 +13,8 @@ use Rattle.pas_steps.proofs.Parts.{part_of_own, part_of_others}
 use Rattle.pas_plain.specs.Seats.{region_of, pass_of, standing_of}
 use Rattle.pas_plain.specs.declared.pass.PlainPass.{PlainPass}
 use Rattle.pas_plain.specs.declared.desk.PlainDesk.{PlainDesk}
-use Rattle.pas_report.specs.Rooms.{records_in, room_of}
+use Rattle.pas_report.specs.Rooms.{records_in, room_of, Records}
 use Rattle.pas_report.specs.declared.record.Record.{Record}
-use Rattle.pas_report.specs.declared.records.Records.{Records}
 use Rattle.pas_cache.specs.Caches.{Cached, cached, AtRest}
 use Rattle.pas_cache.specs.Calls.{Rests}
 use Rattle.pas_cache.specs.declared.cache.ThreadCache.{ThreadCache}

@@ -8,9 +8,8 @@ use Rattle.pas_trace.specs.Plans.{ops_of}
 use Rattle.pas_trace.specs.declared.plan.Op.{Op}
 use Rattle.pas_trace.specs.declared.plan.Phase.{Phase}
 use Rattle.pas_trace.specs.declared.plan.What.TheVariants.{Alloc}
-use Rattle.pas_report.specs.Rooms.{records_in, room_of}
+use Rattle.pas_report.specs.Rooms.{records_in, room_of, Records}
 use Rattle.pas_report.specs.declared.record.Record.{Record}
-use Rattle.pas_report.specs.declared.records.Records.{Records}
 use Rattle.pas_answers.specs.Acts.{Act, MarksPhase, Wakes, is_active, numbers_from, threads_where, active_threads, idle_threads, acts_of_op, acts_of_ops, phase_acts, close_acts, acts_from, acts_of}
 use Rattle.pas_answers.specs.Answers.{Progress, with_records, Follows}
 use Rattle.pas_answers.specs.Fit.{AreFit, cost_of_act, own_cost_of_act, unbacks_of_act}

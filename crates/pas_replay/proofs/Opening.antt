@@ -5,8 +5,7 @@ use Rattle.std.proofs.lemmas.List.{get_or_append_left, get_or-map}
 use Rattle.std.proofs.lemmas.List.Elements.{All-nil, All-push}
 use Rattle.std.proofs.Math.Seq.{get_or-append_seam}
 use Rattle.std.proofs.lemmas.Option.{same_Some}
-use Rattle.pas_profile.specs.Rooms.{shown, size_of_room}
-use Rattle.pas_profile.specs.declared.room.EventRoom.{EventRoom}
+use Rattle.pas_profile.specs.Rooms.{shown, size_of_room, EventRoom}
 use Rattle.pas_trace.specs.Plans.{bounds_of}
 use Rattle.pas_trace.specs.declared.plan.Plan.{Plan}
 use Rattle.pas_plain.specs.Plain.{PassStands, pass_for, passes_from}

@@ -23,10 +23,9 @@ use Rattle.pas_scavenger.proofs.Trying.{nothing_still}
 use Rattle.pas_plain.specs.Plain.{profile_of}
 use Rattle.pas_plain.specs.Seats.{region_of, standing_of}
 use Rattle.pas_plain.specs.declared.desk.PlainDesk.{PlainDesk}
-use Rattle.pas_report.specs.Rooms.{records_in, room_of}
+use Rattle.pas_report.specs.Rooms.{records_in, room_of, Records}
 use Rattle.pas_report.specs.declared.record.Record.{Record}
 use Rattle.pas_report.specs.declared.record.Said.{Said}
-use Rattle.pas_report.specs.declared.records.Records.{Records}
 use Rattle.pas_cache.specs.Caches.{Cached, cached}
 use Rattle.pas_cache.specs.declared.cache.ThreadCache.{ThreadCache}
 use Rattle.pas_passes.specs.Answers.{AnswersTick}

@@ -13,7 +13,7 @@ use Rattle.pas_steps.proofs.Parts.{part_of_own, part_of_others}
 use Rattle.pas_steps.proofs.Frames.{events_split}
 use Rattle.pas_plain.specs.Plain.{profile_of, actor_of, room_of_pass, RegionStands, PassStands}
 use Rattle.pas_plain.specs.Seats.{region_of, pass_of, standing_of, DeskStands}
-use Rattle.pas_plain.proofs.Passes.{pass_rests}
+use Rattle.pas_plain.proofs.Desks.{pass_rests}
 use Rattle.pas_plain.specs.declared.region.PlainRegion.{PlainRegion}
 use Rattle.pas_plain.specs.declared.pass.PlainPass.{PlainPass}
 use Rattle.pas_plain.specs.declared.desk.PlainDesk.{PlainDesk}

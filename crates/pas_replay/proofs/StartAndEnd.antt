@@ -17,9 +17,8 @@ use Rattle.pas_trace.specs.declared.plan.Plan.{Plan}
 use Rattle.pas_plain.specs.Plain.{profile_of, RegionStands}
 use Rattle.pas_plain.specs.declared.pass.PlainPass.{PlainPass}
 use Rattle.pas_plain.specs.declared.region.PlainRegion.{PlainRegion}
-use Rattle.pas_report.specs.Rooms.{records_in, room_of}
+use Rattle.pas_report.specs.Rooms.{records_in, room_of, Records}
 use Rattle.pas_report.specs.declared.record.Record.{Record}
-use Rattle.pas_report.specs.declared.records.Records.{Records}
 use Rattle.pas_cache.specs.Locals.{any_covers, any_keeps}
 use Rattle.pas_cache.specs.Caches.{Cached, AtRest}
 use Rattle.pas_cache.specs.declared.cache.ThreadCache.{ThreadCache}
@@ -27,11 +26,12 @@ use Rattle.pas_cache.proofs.FlushesAndFrees.{rests_empty}
 use Rattle.pas_segregated.specs.declared.slots.Slots.{Slots}
 use Rattle.pas_answers.specs.Acts.{Act, acts_of}
 use Rattle.pas_answers.specs.Calls.{owed_events}
-use Rattle.pas_answers.specs.Fit.{own_costs_of}
+use Rattle.pas_answers.specs.Fit.{AreFit, own_costs_of}
 use Rattle.pas_answers.specs.Names.{names_held}
 use Rattle.pas_answers.specs.Replays.{at_start, phases_of, empty_cache, empty_caches, Shows}
 use Rattle.pas_answers.specs.Ways.{InOrder}
 use Rattle.pas_answers.proofs.Consequences.{replays}
+use Rattle.pas_answers.proofs.TrueRefusals.{all_refuse}
 use Rattle.pas_answers.specs.declared.names.Names.{Names}
 use Rattle.pas_replay.specs.Kits.{IsFresh, IsKitOf}
 use Rattle.pas_replay.specs.Sessions.{pass_in, SeatStands, AreEmpty, Hand, hand_of, SoFar, owed_by}
@@ -114,18 +114,20 @@ module _ {f : Profile} {all : List Act} {h : Hand} (so : SoFar f all [] h) (empt
     ]
   ]
 
-pub shows : {plan : Plan} {region : PlainRegion} (actors : Actors) (table : Names) {out : Records} {state : State} → IsValid plan.profile
+pub shows : {plan : Plan} {region : PlainRegion} (actors : Actors) (table : Names) {out : Records} {state : State} (limit : ℕ) → IsValid plan.profile → AreFit plan.profile limit [] (acts_of plan.profile.threads (phases_of plan))
     → SoFar plan.profile (acts_of plan.profile.threads (phases_of plan)) [] (hand_of region actors table out) → AreEmpty actors.caches.items
     → the_profile_of state ≡ profile_of region
     → ((l : Whole) → RegionStands region l → (w : Word) → IsWordOf (profile_of region) w → word_in state w ≡ word_after l w)
     → Shows InOrder plan (records_in out) state
-shows {plan} {region} actors table {out} {state} valid so empty profile words =
+shows {plan} {region} actors table {out} {state} limit valid fit so empty profile words =
     let p = so.0 in
     let at = so.1 in
+    let legal = subst (λ (f : Profile). Legal f p.list) at.profile_is at.stands.legal in
+    let answers = at.answers p.list (records_in out) (refl, at.records_are) in
     record {
       whole = p.list;
-      replay = replays InOrder plan p.list p.list (records_in out) (records_in out) valid (at.answers p.list (records_in out) (refl, at.records_are)) refl refl
-          (subst (λ (f : Profile). Legal f p.list) at.profile_is at.stands.legal) (bare_at so empty);
+      replay = replays InOrder plan p.list p.list (records_in out) (records_in out) valid answers refl refl legal (bare_at so empty)
+          (all_refuse plan.profile limit [] (acts_of plan.profile.threads (phases_of plan)) at_start p.list (records_in out) valid fit legal answers);
       profile = profile ∙ at.profile_is;
       words = λ w of. words p.list at.stands w (subst (λ (f : Profile). IsWordOf f w) (sym at.profile_is) of);
     }

@@ -1,7 +1,6 @@
 -- A kit that nobody used, made for a plan.
 use Rattle.std.specs.Prelude.{ℕ, ◌+◌, ◌<◌, ◌≡◌, List, [], length, Option, Some, None, All, slice_index, slice_index_or}
-use Rattle.pas_profile.specs.Rooms.{shown, size_of_room}
-use Rattle.pas_profile.specs.declared.room.EventRoom.{EventRoom}
+use Rattle.pas_profile.specs.Rooms.{shown, size_of_room, EventRoom}
 use Rattle.pas_trace.specs.Plans.{bounds_of}
 use Rattle.pas_trace.specs.declared.plan.Plan.{Plan}
 use Rattle.pas_plain.specs.Plain.{profile_of, actor_of, room_of_pass, RegionStands, PassStands}

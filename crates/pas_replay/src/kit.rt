@@ -75,7 +75,7 @@ impl PlainKit {
 }
 
 /// Replays the plan in the order of the text, and says what was done. The state of the region at the end, at which no actor holds a grain, has
-/// a right or owes anything. Takes no memory.
+/// a right or owes anything. A request is refused only where nothing could serve it then. Takes no memory.
 pub fn in_order(plan: &Plan, kit: PlainKit, out: &mut Records) -> State
     requires plan { (text : List ℕ) × (length text ≤ 16777216) × IsPlanOf text plan.now }
     requires kit { IsKitOf plan.now kit }

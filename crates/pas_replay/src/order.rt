@@ -5,7 +5,7 @@ ghost use Rattle.pas_answers.specs.Acts.{Wakes, ReadsEpoch, StopsIdle, Ends, num
 ghost use Rattle.pas_replay.specs.Sessions.{SoFar, AreEmpty, MayGoOn, GoesOn, MayGoOnAt, GoesOnAt, Replays, hand_at, hand_of, IsTaken};
 ghost use Rattle.pas_plans.specs.Awake.{awake_in, idle_in};
 ghost use Rattle.pas_profile.specs.declared.profile.Profile.{Profile as TheProfile};
-ghost use Rattle.pas_report.specs.declared.records.Records.{Records as TheRecords};
+ghost use Rattle.pas_report.specs.Rooms.{Records as TheRecords};
 ghost use Rattle.pas_answers.specs.declared.names.Names.{Names as TheNames};
 
 use crate::seats::{Actors, SCAVENGER, operate, pass, read_epoch, rise, sit, tick, wake};

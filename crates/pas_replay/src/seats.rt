@@ -8,13 +8,12 @@ ghost use Rattle.pas_plain.specs.Plain.{profile_of, actor_of};
 ghost use Rattle.pas_plain.specs.Seats.{region_of, pass_of, standing_of};
 ghost use Rattle.pas_cache.specs.Caches.{Cached, AtRest};
 ghost use Rattle.pas_cache.specs.Calls.{Begins};
-ghost use Rattle.pas_report.specs.Rooms.{records_in, room_of};
+ghost use Rattle.pas_report.specs.Rooms.{records_in, room_of, Records as TheRecords};
 ghost use Rattle.pas_utility.specs.Outcomes.{places_of};
 ghost use Rattle.pas_passes.specs.Answers.{AnswersTick};
 ghost use Rattle.pas_answers.specs.Calls.{works, HasTurns, MayAnswer, Answers};
 ghost use Rattle.pas_answers.specs.Fit.{IsFitWhat};
 ghost use Rattle.pas_answers.specs.Names.{names_held};
-ghost use Rattle.pas_report.specs.declared.records.Records.{Records as TheRecords};
 ghost use Rattle.pas_answers.specs.declared.names.Names.{Names as TheNames};
 ghost use Rattle.pas_replay.specs.Sessions.{pass_in, hand_of, hand_at, IsTaken, MaySit, MayTakeSeat, TakesSeat, MayTakeTurn, TakesThreadTurn, Scavenges, MadePass, HasCache, spare_at};
 

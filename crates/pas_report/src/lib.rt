@@ -16,7 +16,7 @@ pub use lines::{event_line, push_record, record_line, said_line};
 pub use marking::{Marks, page_marks};
 pub use pages::{page_line, total_line};
 pub use record::{Record, Said};
-pub use records::Records;
+pub use records::{Records, room_for_replay};
 pub use reports::{has_deed_words, report};
 pub use text::{LINE_BYTES, Line};
 pub use transcript::write_lines;

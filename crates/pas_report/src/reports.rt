@@ -53,6 +53,7 @@ pub(crate) fn make_room<K: Sink>(sink: &mut K, lines: &mut Lines) -> Result<(), 
     ensures keeps { OnOk result ((before : Option (List ℕ)) (text : List ℕ) → IsPutOut before (K.held sink.old) lines.old.bytes text → IsPutOut before (K.held sink.new) lines.new.bytes text) }
     ensures room { OnOk result (array_string_len lines.new + 128 ≤ 65536) }
     ensures front { OnErr result ((before : Option (List ℕ)) (text : List ℕ) → IsPutOut before (K.held sink.old) lines.old.bytes text → WritesFront before (K.held sink.new) text) }
+    ensures sound { OnOk result (K.faults sink.new ≡ K.faults sink.old) }
     ensures failed { OnErr result (Rose (K.faults sink.old) (K.faults sink.new)) }
     ensures count { K.faults sink.old ≤ K.faults sink.new }
 {
@@ -70,6 +71,7 @@ pub fn report<K: Sink>(state: &State, sink: &mut K) -> Result<(), Failed>
     requires { AreDeedWords state.now }
     ensures whole { OnOk result (Writes (K.held sink.old) (K.held sink.new) (report_by_words state.now)) }
     ensures front { OnErr result (WritesFront (K.held sink.old) (K.held sink.new) (report_by_words state.now)) }
+    ensures sound { OnOk result (K.faults sink.new ≡ K.faults sink.old) }
     ensures failed { OnErr result (Rose (K.faults sink.old) (K.faults sink.new)) }
     ensures count { K.faults sink.old ≤ K.faults sink.new }
 {

@@ -1,5 +1,5 @@
 //! The lines of a replay's records, written to a sink.
-ghost use Rattle.std.specs.Prelude.{◌≤◌, All, OnOk, OnErr};
+ghost use Rattle.std.specs.Prelude.{◌≡◌, ◌≤◌, All, OnOk, OnErr};
 ghost use Rattle.pas_io.specs.Told.{Rose, Writes, WritesFront};
 ghost use Rattle.pas_report.specs.Lines.{CanShow, lines_of};
 
@@ -17,6 +17,7 @@ pub fn write_lines<K: Sink>(records: &[Record], sink: &mut K) -> Result<(), Fail
     requires { All CanShow records.now }
     ensures whole { OnOk result (Writes (K.held sink.old) (K.held sink.new) (lines_of records.now)) }
     ensures front { OnErr result (WritesFront (K.held sink.old) (K.held sink.new) (lines_of records.now)) }
+    ensures sound { OnOk result (K.faults sink.new ≡ K.faults sink.old) }
     ensures failed { OnErr result (Rose (K.faults sink.old) (K.faults sink.new)) }
     ensures count { K.faults sink.old ≤ K.faults sink.new }
 {

@@ -5,6 +5,7 @@ pub mod Takes
 pub mod Orders
 pub mod Debts
 pub mod Ends
+pub mod Hints
 pub mod Claimed
 pub mod PutsBack
 pub mod Gives

@@ -94,8 +94,7 @@ module _ (page : ℕ) (answers : ℕ → ℕ) where
 
 -- ---- the grains that blocks of a directory may cover
 and_true : (t : Bool) → (t && true) ≡ t
-and_true true = refl
-and_true false = refl
+and_true t = grind arith
 
 four_full : (i : ℕ) → i < 4 → slice_index ((2 ^ 64 - 1) ∷ (2 ^ 64 - 1) ∷ (2 ^ 64 - 1) ∷ (2 ^ 64 - 1) ∷ []) i ≡ 2 ^ 64 - 1
 four_full (suc (suc (suc (suc i)))) h = absurd (omega (arith, h))
@@ -128,8 +127,7 @@ module _ (d : Directory) (free usable both : Mask4) (are : (g : ℕ) → g < 256
   usable_none empty g lt set = false_from_ne_true (usable_by_kind d.kind g) (λ is. true≢false (sym (and_from (is_set free g) (is_set usable g) set (are g lt ∙ is)) ∙ sym (both_are g) ∙ empty g lt))
 
 both_false : (x y : Bool) → (x ≡ true → y ≡ false) → (x && y) ≡ false
-both_false true y h = h refl
-both_false false y h = refl
+both_false x y h = grind arith
 
 pub no_usable_word : (d : Directory) (free : Mask4) → IsDirectory d → HasNoUsable d free → (w : ℕ) → w < 4 → no_usable (deed_word_of d) w (words free w) ≡ true
 no_usable_word d free is none w small = all_below-from 64 (λ b. not (has_bit (words free w) b && usable_by (directory_read (deed_word_of d)) (64 * w + b))) (λ b lt. not_from_false _

@@ -1,10 +1,10 @@
 -- The grains of a mask of one page, put back word by word.
-use Rattle.std.proofs.Common.{◌≡◌, ℕ, ◌+◌, ◌/◌, ◌%◌, ◌≤◌, ◌==◌, nat_lt, Bool, true, false, ◌&&◌, ◌||◌, if◌then◌else◌, List, [], ◌∷◌, ◌++◌, length, slice_index, inl, inr, refl, ap, sym, ◌∙◌, subst, arith}
-use Rattle.std.proofs.lemmas.Bool.{eqb-true, lt-ltb, le-ltb, and_parts, and_right}
+use Rattle.std.proofs.Common.{◌≡◌, ◌≢◌, ℕ, zero, suc, ◌<◌, ◌+◌, ◌/◌, ◌%◌, ◌≤◌, ◌==◌, nat_lt, Bool, true, false, ◌&&◌, ◌||◌, if◌then◌else◌, List, [], ◌∷◌, ◌++◌, length, slice_index, inl, inr, refl, ap, sym, ◌∙◌, subst, arith, true≢false}
+use Rattle.std.proofs.lemmas.Bool.{cases_eq, eqb-true, lt-ltb, le-ltb, and_parts, and_right}
 use Rattle.std.proofs.lemmas.Bool.Decides.{nat_tests}
 use Rattle.pas_profile.specs.Classes.{has_bit}
 use Rattle.pas_bits.specs.declared.mask.Mask4.{Mask4}
-use Rattle.pas_bits.specs.Masks.{is_set}
+use Rattle.pas_bits.specs.Masks.{is_set, HasMember}
 use Rattle.pas_bits.proofs.Words.{none_of_zero}
 use Rattle.pas_steps.specs.Calls.{Calls, Does, Kept, Lost, now, put}
 use Rattle.pas_steps.specs.Desks.{Standing}
@@ -12,14 +12,16 @@ use Rattle.pas_steps.specs.Effects.{in_mask}
 use Rattle.pas_steps.specs.Frames.{IsOnPage, OnlyOn}
 use Rattle.pas_steps.specs.InTurn.{numbers_below}
 use Rattle.pas_steps.specs.Kinds.{Putting, Only, is_in, kind_of}
+use Rattle.pas_steps.specs.Past.{Once}
 use Rattle.pas_steps.specs.Views.{View, holds}
 use Rattle.pas_steps.specs.declared.step.Made.{Made}
 use Rattle.pas_steps.proofs.Apart.{unstamped_same}
 use Rattle.pas_steps.proofs.Called.{call_then, call_as}
 use Rattle.pas_steps.proofs.Calls.{does_none}
 use Rattle.pas_steps.proofs.InTurn.{in_turn_always, in_turn_length}
+use Rattle.pas_steps.proofs.Past.{once_earlier, once_later}
 use Rattle.pas_steps.proofs.Sets.{put_both, put_as, put_nothing}
-use Rattle.pas_rights.specs.Puts.{masked, MayPut, WordPut, PutsBelow, MayPutWord, PutsWord, PutsMask}
+use Rattle.pas_rights.specs.Puts.{masked, MayPut, WordPut, PutsBelow, PutsHere, MayPutWord, PutsWord, PutsMask}
 
 -- ---- one word
 pub none_in : (page word mask g : ℕ) → mask ≡ 0 → in_mask page word mask g ≡ false
@@ -86,6 +88,23 @@ puts_on page mask n = in_turn_always (λ word piece. WordPut page word (slice_in
 
 pub puts_few : (page : ℕ) (mask : Mask4) (steps : List Made) → PutsBelow page mask 4 steps → length steps ≤ 4
 puts_few page mask = in_turn_length (λ word piece. WordPut page word (slice_index mask.0 word) piece) 1 (λ word. word_few page word (slice_index mask.0 word)) (numbers_below 4)
+
+-- a word of the mask that has any grains is put
+word_made : (page word mask : ℕ) (steps : List Made) → WordPut page word mask steps → mask ≢ 0 → Once (PutsHere page) steps
+word_made page word mask steps (inl none) some = absurd (some none.0)
+word_made page word mask steps (inr puts) some = subst (Once (PutsHere page)) (sym puts.2) (inl (word, mask, refl))
+
+made_below : (page : ℕ) (mask : Mask4) (n w : ℕ) (steps : List Made) → PutsBelow page mask n steps → w < n → slice_index mask.0 w ≢ 0 → Once (PutsHere page) steps
+made_below page mask zero w steps h lt some = absurd (omega (arith, lt))
+made_below page mask (suc n) w steps h lt some = subst (Once (PutsHere page)) (sym h.4) (elim (cases_eq w n) [
+  | inl e ↦ once_earlier (PutsHere page) (PutsHere page) h.0 h.1 (λ m before put. put) (word_made page n (slice_index mask.0 n) h.0 h.2 (subst (λ k. slice_index mask.0 k ≢ 0) e some))
+  | inr ne ↦ once_later (PutsHere page) h.0 h.1 (made_below page mask n w h.1 h.3 (omega (arith, lt, ne)) some)
+])
+
+pub some_put : (page : ℕ) (mask : Mask4) (steps : List Made) → PutsBelow page mask 4 steps → HasMember mask → Once (PutsHere page) steps
+some_put page mask steps h some =
+    let b = some.0 in let lt = some.1 in
+    made_below page mask 4 (b / 64) steps h (omega (arith, lt)) (λ none. true≢false (sym some.2 ∙ ap (λ m. has_bit m (b % 64)) none ∙ none_of_zero (b % 64)))
 
 -- ---- the calls
 pub may_put_word : (page : ℕ) (mask : Mask4) (n : ℕ) (steps : List Made) (v : View) → PutsBelow page mask n steps → MayPut page mask v → Does (put (masked_below page mask n) page) v (steps ++ v) → MayPutWord page n (slice_index mask.0 n) (steps ++ v)

@@ -1,5 +1,5 @@
 -- Grains of a page are put back, and what follows that; and its right meanwhile.
-use Rattle.std.proofs.Common.{◌≡◌, ℕ, ◌+◌, ◌*◌, ◌/◌, ◌%◌, ◌==◌, Bool, true, false, if◌then◌else◌, List, [], ◌∷◌, ◌++◌, inl, inr, refl, ap, sym, ◌∙◌, subst, arith, append_assoc, length-append, true≢false}
+use Rattle.std.proofs.Common.{◌≡◌, ℕ, ◌+◌, ◌*◌, ◌/◌, ◌%◌, ◌==◌, Bool, true, false, if◌then◌else◌, List, [], ◌∷◌, ◌++◌, Option, None, Some, inl, inr, refl, ap, sym, ◌∙◌, subst, arith, append_assoc, length-append, true≢false}
 use Rattle.std.proofs.lemmas.Bool.{and_right, eqb-true}
 use Rattle.pas_profile.specs.declared.directory.Directory.{Directory}
 use Rattle.pas_profile.specs.declared.profile.Profile.{Profile}
@@ -11,11 +11,11 @@ use Rattle.pas_steps.specs.Clear.{IsClearOn}
 use Rattle.pas_steps.specs.Desks.{Standing, CanCall, made}
 use Rattle.pas_steps.specs.Frames.{IsOnPage, OnlyOn, GivesUp, KeepsRight}
 use Rattle.pas_steps.specs.Kinds.{Kinds, LookFree, LookBacked, Putting, Unparking, Hinting, Only, returning}
-use Rattle.pas_steps.specs.Views.{View, has_right, KnowsDeed}
+use Rattle.pas_steps.specs.Views.{View, holds, has_right, KnowsDeed}
 use Rattle.pas_steps.specs.declared.step.Made.{Made}
 use Rattle.pas_steps.specs.declared.step.Step.TheVariants.{Offer, Unpark}
 use Rattle.pas_steps.proofs.Adding.{agreed_first, agreed_later}
-use Rattle.pas_steps.proofs.Apart.{only_both, only_within, rights_same, unstamped_same, examines_same}
+use Rattle.pas_steps.proofs.Apart.{only_both, only_within, holds_same, rights_same, unstamped_same, examines_same}
 use Rattle.pas_steps.proofs.Called.{call_none, call_as, call_then, call_knows, next_call}
 use Rattle.pas_steps.proofs.Calls.{does_none, does_as, does_then, kept_first, returns_are}
 use Rattle.pas_steps.proofs.Kept.{returns_on}
@@ -26,6 +26,10 @@ use Rattle.pas_rights.specs.Looks.{looks_until, is_free, HintsWhere}
 use Rattle.pas_rights.specs.Puts.{masked, MayPut, PutsMask}
 use Rattle.pas_rights.specs.PutsBack.{giving_back, MayPutAndReturn, given_back, PutsAndReturns, MayPutAndLeave, put_and_left, PutsAndLeaves}
 use Rattle.pas_rights.specs.Returns.{ReofferSteps, ReturnSteps, Settles, Returned}
+use Rattle.pas_rights.specs.Words.{ones}
+use Rattle.pas_rights.specs.declared.reading.Used.{Used}
+use Rattle.pas_rights.proofs.Looks.{looks_held}
+use Rattle.pas_bits.proofs.Words.{full_bit}
 use Rattle.pas_rights.proofs.Debts.{leave_lacks}
 use Rattle.pas_rights.proofs.Orders.{until_only}
 use Rattle.pas_rights.proofs.Words.{keeps_by}
@@ -54,6 +58,30 @@ return_keeps f page d steps v h agreed right =
     let first : Agreed f v h.first = agreed_later f v looked h.first (agreed_later f v h.after (looked ++ h.first) all) in
     keeps_by page settling steps refl (subst (Only settling) (sym h.steps_are) (only_both settling h.after (looked ++ h.first) (hints_settle page (is_free h.used) h.after h.hints)
     (only_both settling looked h.first (only_within (LookFree ∷ []) settling looked refl (until_only page h.used)) (unparks_only f page d h.first v h.reoffers first right))))
+
+-- where a grain of the page is held its free words aren't all ones, so the page isn't hinted either
+abbrev pub unparking : Kinds
+unparking = LookFree ∷ Unparking ∷ []
+
+unparks_alone : (f : Profile) (page : ℕ) (d : Directory) (steps : List Made) (v : View) → ReofferSteps page d steps → Agreed f v steps → has_right v page ≡ true → Only unparking steps
+unparks_alone f page d steps v (inl h) agreed right = subst (Only unparking) (sym h.2) (refl, tt)
+unparks_alone f page d steps v (inr h) agreed right =
+    let here : Agreed f v (made (Offer page d) h.1 ∷ made (Unpark page) h.0 ∷ []) = subst (Agreed f v) h.3 agreed in
+    let whole : 64 * (page / 64) + page % 64 ≡ page = omega arith in
+    absurd (true≢false (sym h.2 ∙ here.1.0.right (page % 64) (omega arith) (ap (has_right v) whole ∙ right)))
+
+hints_not : (f : Profile) (page g : ℕ) (used : Option Used) (v : View) (after : List Made) → HintsWhere (is_free used) page after → Agreed f v (looks_until page used) → g / 256 ≡ page → holds v g ≡ true → Only unparking after
+hints_not f page g None v after h agreed at held = absurd (true≢false (sym (full_bit (g % 64) (omega arith)) ∙ looks_held page ones f 4 v agreed g at (omega arith) held))
+hints_not f page g (Some used) v after h agreed at held = subst (Only unparking) (sym h) tt
+
+pub return_holds : (f : Profile) (page : ℕ) (d : Directory) (steps : List Made) (v : View) → ReturnSteps page d steps → Agreed f v steps → has_right v page ≡ true → (g : ℕ) → g / 256 ≡ page → holds v g ≡ true → Only unparking steps
+return_holds f page d steps v h agreed right g at held =
+    let looked = looks_until page h.used in
+    let all : Agreed f v (h.after ++ (looked ++ h.first)) = subst (Agreed f v) h.steps_are agreed in
+    let before : Agreed f v (looked ++ h.first) = agreed_later f v h.after (looked ++ h.first) all in
+    let first : Only unparking h.first = unparks_alone f page d h.first v h.reoffers (agreed_later f v looked h.first before) right in
+    let after : Only unparking h.after = hints_not f page g h.used (h.first ++ v) h.after h.hints (agreed_first f v looked h.first before) at (holds_same unparking refl g h.first v first ∙ held) in
+    subst (Only unparking) (sym h.steps_are) (only_both unparking h.after (looked ++ h.first) after (only_both unparking looked h.first (only_within (LookFree ∷ []) unparking looked refl (until_only page h.used)) first))
 
 -- ---- the page is clear again where it was
 clear_again : (t : Bool) (q : ℕ) (v u : View) → (t ≡ true → IsClearOn q v → IsClearOn q u) → ClearAfter (later (if t then Lost else Kept) (if t then Kept else Kept)) q v u → IsClearOn q v → IsClearOn q u
@@ -143,6 +171,7 @@ module _ {σ σ1 : Standing} (page : ℕ) (d : Directory) (mask : Mask4) (puts :
     kinds = only_back left.steps (returns_are page left.steps left.returns);
     few = let all = length-append left.steps puts.steps in let a = left.few in let b = puts.few in omega (arith, all, a, b);
     only_puts = puts.kinds;
+    order = left.order;
     left = left.left;
     lacks = λ before. ap (λ s. has_right s page) (append_assoc left.steps puts.steps before) ∙ leave_lacks page d left.steps (puts.steps ++ before) left.order;
   }

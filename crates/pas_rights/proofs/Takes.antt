@@ -44,15 +44,10 @@ gets true had = refl
 gets false had = refl
 
 or_move : (a b h : Bool) → (a || (b || h)) ≡ ((b || a) || h)
-or_move true true h = refl
-or_move true false h = refl
-or_move false true h = refl
-or_move false false h = refl
+or_move a b h = grind arith
 
 one_test : (s p u a u' a' : Bool) → (s ≡ true → u ≡ u') → (s ≡ true → a ≡ a') → (((s && p) && u) && a) ≡ (s && (p && (u' && a')))
-one_test true true u a u' a' f g = ap (λ x. x && a) (f refl) ∙ ap (λ x. u' && x) (g refl)
-one_test true false u a u' a' f g = refl
-one_test false p u a u' a' f g = refl
+one_test s p u a u' a' f g = grind arith
 
 -- the grain is got by the take of this word
 abbrev got_word : ℕ → ℕ → ℕ → ℕ → ℕ → Bool

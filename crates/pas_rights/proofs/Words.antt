@@ -75,5 +75,4 @@ pub bit_on : (m : Mask4) (page b : ℕ) → b < 256 → has_bit (slice_index m.0
 bit_on m page b lt = let at : (page * 256 + b) % 256 ≡ b = omega (arith, lt) in bit_of m ((page * 256 + b) / 64 % 4) (page * 256 + b) refl ∙ ap (is_set m) at
 
 pub or_none : (x y : Bool) → y ≡ false → x ≡ (x || y)
-or_none true y e = refl
-or_none false y e = sym e
+or_none x y e = grind arith

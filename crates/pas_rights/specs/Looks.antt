@@ -2,13 +2,15 @@
 use Rattle.std.specs.Prelude.{ℕ, ◌<◌, ◌≤◌, ◌+◌, ◌≡◌, ◌≢◌, Bool, true, false, ◌⊎◌, List, [], ◌∷◌, Option, None, Some, MatchOption}
 use Rattle.pas_bits.specs.declared.mask.Mask4.{Mask4}
 use Rattle.pas_bits.specs.Masks.{is_set, AllSetBelow}
+use Rattle.pas_profile.specs.Classes.{has_bit}
 use Rattle.pas_profile.specs.declared.directory.Directory.{Directory}
 use Rattle.pas_profile.specs.declared.word.Word.TheVariants as Word
 use Rattle.pas_steps.specs.Desks.{Standing, AnyView, Adds, made}
 use Rattle.pas_steps.specs.Evidence.{Readings}
+use Rattle.pas_steps.specs.Past.{Since}
 use Rattle.pas_steps.specs.Views.{usable_by_kind, all_ones}
 use Rattle.pas_steps.specs.declared.step.Made.{Made}
-use Rattle.pas_steps.specs.declared.step.Step.TheVariants.{Look, Hint}
+use Rattle.pas_steps.specs.declared.step.Step.TheVariants.{Look, Take, Hint}
 use Rattle.pas_rights.specs.Words.{each_word, words, ones}
 use Rattle.pas_rights.specs.declared.reading.Used.{Used}
 
@@ -72,6 +74,27 @@ HintsWhere false page steps = steps ≡ []
 abbrev pub is_free : Option Used → Bool
 is_free None = true
 is_free (Some used) = false
+
+-- ---- what a hint rests on
+-- this look read the page as backed; this one read each grain of the free word as free
+abbrev pub ReadsBacked : ℕ → Made → List Made → Type 0
+ReadsBacked page m before = (m.step ≡ Look (Word.Backed page)) × (m.answer ≡ 1)
+
+abbrev pub ReadsAllFree : ℕ → ℕ → Made → List Made → Type 0
+ReadsAllFree page word m before = (m.step ≡ Look (Word.Free page word)) × ((b : ℕ) → b < 64 → has_bit m.answer b ≡ true)
+
+-- the step takes no grain of the page
+abbrev pub TakesNone : ℕ → Made → List Made → Type 0
+TakesNone page m before = (word mask : ℕ) → m.step ≡ Take page word mask → ⊥
+
+-- these steps read the page as backed and each of its grains as free, and took none of them since
+pub record ReadsEmpty (page : ℕ) (before : List Made) : Type 0 where
+  pub backed : Since (ReadsBacked page) (TakesNone page) before
+  pub free : (word : ℕ) → word < 4 → Since (ReadsAllFree page word) (TakesNone page) before
+
+-- the step hints no page but one that was read so
+abbrev pub HintsEmpty : Made → List Made → Type 0
+HintsEmpty m before = (page : ℕ) → m.step ≡ Hint page → ReadsEmpty page before
 
 -- ---- of private functions
 pub record Hinted (page : ℕ) (desk desk' : Standing) : Type 0 where

@@ -29,6 +29,10 @@ WordPut page word mask steps = ((mask ≡ 0) × (steps ≡ [])) ⊎ ((mask ≢ 0
 abbrev pub PutsBelow : ℕ → Mask4 → ℕ → List Made → Type 0
 PutsBelow page mask n steps = InTurn (λ word piece. WordPut page word (slice_index mask.0 word) piece) (numbers_below n) steps
 
+-- the step puts grains of the page back
+abbrev pub PutsHere : ℕ → Made → List Made → Type 0
+PutsHere page m before = (word : ℕ) × (mask : ℕ) × (m.step ≡ Put page word mask)
+
 -- The grains of the mask were put back, by a put for each free word of the page that has any, and by nothing else.
 pub record PutsMask (page : ℕ) (mask : Mask4) (desk desk' : Standing) : Type 0 where
   pub steps : List Made

@@ -12,7 +12,7 @@ use Rattle.pas_steps.specs.Kinds.{Kinds, Taking, Putting, Only, returning}
 use Rattle.pas_steps.specs.Past.{Once}
 use Rattle.pas_steps.specs.Views.{View, holds, has_right, KnowsDeed}
 use Rattle.pas_steps.specs.declared.step.Made.{Made}
-use Rattle.pas_rights.specs.Leaves.{LosesHere}
+use Rattle.pas_rights.specs.Leaves.{LeaveSteps, LosesHere}
 use Rattle.pas_rights.specs.Puts.{masked, MayPut, PutsBelow}
 use Rattle.pas_rights.specs.Returns.{ReturnSteps}
 
@@ -67,5 +67,6 @@ pub record PutsAndLeaves (page : ℕ) (d : Directory) (mask : Mask4) (desk desk'
   pub kinds : Only giving_back (after ++ puts)
   pub few : length (after ++ puts) ≤ 15
   pub only_puts : Only (Putting ∷ []) puts
+  pub order : LeaveSteps page d after
   pub left : Once (LosesHere page) after
   pub lacks : (before : List Made) → has_right ((after ++ puts) ++ before) page ≡ false

@@ -1,18 +1,30 @@
--- Readings of one page, with steps that stood before, which left the page alone.
-use Rattle.std.proofs.Common.{◌≡◌, ℕ, ◌+◌, ◌*◌, ◌/◌, ◌<◌, true, false, ◌||◌, List, [], ◌∷◌, ◌++◌, inl, inr, refl, ap, sym, ◌∙◌, true≢false, arith}
+-- Readings of pages, and the runs that they show.
+use Rattle.std.proofs.Common.{◌≡◌, ℕ, ◌+◌, ◌*◌, ◌/◌, ◌<◌, true, false, ◌||◌, List, [], ◌∷◌, ◌++◌, inl, inr, refl, ap, sym, ◌∙◌, true≢false, arith, ◌≢◌, ◌-◌, ◌≤◌, Bool, if◌then◌else◌, subst, MatchBool, ◌%◌, ◌^◌, length-append}
 use Rattle.pas_profile.specs.Classes.{has_bit}
 use Rattle.pas_profile.specs.declared.directory.Directory.{Directory}
-use Rattle.pas_steps.specs.Views.{held_after, grain_move, holds, has_right}
+use Rattle.pas_steps.specs.Views.{held_after, grain_move, holds, has_right, all_ones}
 use Rattle.pas_steps.specs.Past.{Once, Since}
 use Rattle.pas_steps.specs.Kinds.{Kinds, kind_of, place_of, is_in, apart, moving, righting, Only}
 use Rattle.pas_steps.specs.declared.step.Step.{Step}
 use Rattle.pas_steps.specs.declared.step.Made.{Made}
-use Rattle.pas_steps.specs.declared.step.Step.TheVariants.{Deed, Park}
-use Rattle.pas_steps.proofs.Apart.{in_apart, holds_same, rights_same}
+use Rattle.pas_steps.specs.declared.step.Step.TheVariants.{Deed, Park, Look}
+use Rattle.pas_steps.proofs.Apart.{in_apart, holds_same, rights_same, only_both}
 use Rattle.pas_steps.proofs.Frames.{right_own}
-use Rattle.pas_steps.proofs.Past.{once_later, once_earlier, always_map, always_both}
-use Rattle.pas_steps.specs.Evidence.{OneHere, NoDeedHere}
-use Rattle.pas_scan.specs.Usable.{DeedReadHere, OfHere, IsAllFree, WholeHere, ReadUsable, ParksNotHere, IsFresh, UnusableHere, MakesNoDeedHere, LeftAlone}
+use Rattle.pas_steps.proofs.Past.{once_later, once_earlier, always_map, always_both, once_map}
+use Rattle.pas_steps.specs.Evidence.{OneHere, NoDeedHere, ReadsEligible, ReadsDeed, ReadsFree}
+use Rattle.pas_scan.specs.Usable.{DeedReadHere, OfHere, IsAllFree, WholeHere, ReadUsable, ParksNotHere, IsFresh, UnusableHere, MakesNoDeedHere, LeftAlone, UsedHere}
+use Rattle.std.proofs.lemmas.Bool.{cases_lt}
+use Rattle.pas_profile.specs.declared.profile.Profile.{Profile}
+use Rattle.pas_scan.specs.Runs.{HasUnusable, IsFirstRun, HasNoRun, page_looks, FreeLookHere, UsedLookHere, LooksFree, ReadsUsable}
+use Rattle.pas_profile.specs.Directories.{number_of, deed_word_of}
+use Rattle.pas_profile.specs.declared.word.Word.TheVariants as Word
+use Rattle.pas_steps.specs.Desks.{Standing, AnyView, Adds, made}
+use Rattle.pas_steps.proofs.Adding.{adds_call}
+use Rattle.pas_bits.proofs.Words.{full_bit}
+use Rattle.pas_steps.proofs.Bits.{all_set}
+use Rattle.std.proofs.Math.Bool.{or-false}
+
+-- ==== Readings of one page, with steps that stood before, which left the page alone.
 
 -- ---- what the call holds, where the steps before it hold nothing
 pub holds_own : (g : ℕ) (ys xs : List Made) → holds xs g ≡ false → holds (ys ++ xs) g ≡ holds ys g
@@ -91,3 +103,173 @@ usable_later d p ys xs (inr whole) = inr record {
 
 pub deed_before : (p : ℕ) (ys xs : List Made) → Once (DeedReadHere p) ys → Once (DeedReadHere p) (ys ++ xs)
 deed_before p ys xs h = once_earlier (DeedReadHere p) (DeedReadHere p) ys xs (λ m before h. h) h
+
+-- ==== The run of usable pages that ends before a page, and the lower runs.
+
+-- The pages from `next` to below `page` were read. The last `length` pages before it are usable, those below `next` by earlier steps, and each run
+-- that begins before these has a page that isn't.
+pub record RunSoFar (d : Directory) (from next n page length : ℕ) (steps : List Made) : Type 0 where
+  pub short : length < n
+  pub within : from + length ≤ page
+  pub usable : (p : ℕ) → page ≤ p + length → next ≤ p → p < page → ReadUsable d p steps
+  pub lower : (s : ℕ) → from ≤ s → s + length < page → HasUnusable d n s steps
+  pub deeds : (p : ℕ) → next ≤ p → p < page → Once (DeedReadHere p) steps
+
+unusable_later : (d : Directory) (n s : ℕ) (ys xs : List Made) → HasUnusable d n s xs → HasUnusable d n s (ys ++ xs)
+unusable_later d n s ys xs h = (h.0, h.1, once_later (UnusableHere d h.0) ys xs h.2)
+
+pub run_none : (d : Directory) (from next n length : ℕ) → from ≤ next → next < from + n → length ≡ next - from → RunSoFar d from next n next length []
+run_none d from next n length le some long = record {
+  short = omega (arith, le, some, long);
+  within = omega (arith, le, long);
+  usable = λ p ge high lt. absurd (omega (arith, high, lt));
+  lower = λ s ge lt. absurd (omega (arith, ge, lt, le, long));
+  deeds = λ p ge lt. absurd (omega (arith, ge, lt));
+}
+
+deeds_more : (from page : ℕ) (ys xs : List Made) → ((p : ℕ) → from ≤ p → p < page → Once (DeedReadHere p) xs) → Once (DeedReadHere page) ys → (p : ℕ) → from ≤ p → p < page + 1 → Once (DeedReadHere p) (ys ++ xs)
+deeds_more from page ys xs before here p ge lt = elim (cases_lt p page) [
+  | inl low ↦ once_later (DeedReadHere p) ys xs (before p ge low)
+  | inr high ↦ let same : page ≡ p = omega (arith, lt, high) in subst (λ q. Once (DeedReadHere q) (ys ++ xs)) same (deed_before page ys xs here)
+]
+
+-- one usable page more
+pages_more : (d : Directory) (next page length : ℕ) (ys xs : List Made) → LeftAlone page xs → ((p : ℕ) → page ≤ p + length → next ≤ p → p < page → ReadUsable d p xs) → ReadUsable d page ys → (p : ℕ) → page + 1 ≤ p + (length + 1) → next ≤ p → p < page + 1 → ReadUsable d p (ys ++ xs)
+pages_more d next page length ys xs alone before here p ge le lt = elim (cases_lt p page) [
+  | inl low ↦ usable_later d p ys xs (before p (omega (arith, ge)) le low)
+  | inr high ↦ let same : page ≡ p = omega (arith, lt, high) in subst (λ q. ReadUsable d q (ys ++ xs)) same (usable_before d page ys xs alone here)
+]
+
+lower_more : (d : Directory) (from n page length : ℕ) (ys xs : List Made) → ((s : ℕ) → from ≤ s → s + length < page → HasUnusable d n s xs) → (s : ℕ) → from ≤ s → s + (length + 1) < page + 1 → HasUnusable d n s (ys ++ xs)
+lower_more d from n page length ys xs before s ge lt = unusable_later d n s ys xs (before s ge (omega (arith, lt)))
+
+-- a page that isn't usable
+lower_bad : (d : Directory) (from n page length : ℕ) (ys xs : List Made) → LeftAlone page xs → length < n → ((s : ℕ) → from ≤ s → s + length < page → HasUnusable d n s xs) → Once (UnusableHere d page) ys → (s : ℕ) → from ≤ s → s + 0 < page + 1 → HasUnusable d n s (ys ++ xs)
+lower_bad d from n page length ys xs alone short before here s ge lt = elim (cases_lt (s + length) page) [
+  | inl low ↦ unusable_later d n s ys xs (before s ge low)
+  | inr high ↦ (page, (omega (arith, lt), omega (arith, high, short)), unusable_before d page ys xs alone here)
+]
+
+pub run_more : (d : Directory) (from next n page length : ℕ) (ys xs : List Made) (usable : Bool) → LeftAlone page xs → from ≤ page → RunSoFar d from next n page length xs → Once (DeedReadHere page) ys → MatchBool usable (ReadUsable d page ys) (Once (UnusableHere d page) ys)
+    → (if usable then length + 1 else 0) ≢ n → RunSoFar d from next n (page + 1) (if usable then length + 1 else 0) (ys ++ xs)
+run_more d from next n page length ys xs true alone le so_far deed here ne = let short = so_far.short in let within = so_far.within in record {
+  short = omega (arith, short, ne);
+  within = omega (arith, within);
+  usable = pages_more d next page length ys xs alone so_far.usable here;
+  lower = lower_more d from n page length ys xs so_far.lower;
+  deeds = deeds_more next page ys xs so_far.deeds deed;
+}
+run_more d from next n page length ys xs false alone le so_far deed here ne = let short = so_far.short in record {
+  short = omega (arith, short);
+  within = omega (arith, le);
+  usable = λ p ge high lt. absurd (omega (arith, ge, lt));
+  lower = lower_bad d from n page length ys xs alone so_far.short so_far.lower here;
+  deeds = deeds_more next page ys xs so_far.deeds deed;
+}
+
+-- the run is long enough
+pub run_found : (f : Profile) (d : Directory) (from next n page length : ℕ) (ys xs : List Made) (usable : Bool) → 1 ≤ n → LeftAlone page xs → page ≤ f.pages → RunSoFar d from next n page length xs → Once (DeedReadHere page) ys → MatchBool usable (ReadUsable d page ys) (Once (UnusableHere d page) ys)
+    → (if usable then length + 1 else 0) ≡ n → IsFirstRun f d from next n (ys ++ xs) (page + 1 - n)
+run_found f d from next n page length ys xs false some alone le so_far deed here e = absurd (omega (arith, some, e))
+run_found f d from next n page length ys xs true some alone le so_far deed here e = let within = so_far.within in record {
+  from_there = omega (arith, within, e);
+  of_region = omega (arith, within, e, le);
+  usable = λ p in_run above. let low = in_run.0 in let high = in_run.1 in pages_more d next page length ys xs alone so_far.usable here p (omega (arith, within, e, low)) above (omega (arith, within, e, high));
+  lower = λ s ge lt. lower_more d from n page length ys xs so_far.lower s ge (omega (arith, within, e, lt));
+  deeds = λ p ge lt. deeds_more next page ys xs so_far.deeds deed p ge (omega (arith, within, e, lt));
+}
+
+-- no run is
+pub run_ended : (f : Profile) (d : Directory) (from next n page length : ℕ) (xs : List Made) → f.pages + 1 ≤ page → RunSoFar d from next n page length xs → HasNoRun f d from next n xs
+run_ended f d from next n page length xs end so_far = let short = so_far.short in record {
+  runs = λ s ge le. so_far.lower s ge (omega (arith, short, le, end));
+  deeds = λ p ge le. so_far.deeds p ge (omega (arith, le, end));
+}
+
+-- ==== The looks at one page, and what they show.
+
+-- ---- free words
+-- looks at free words, by steps that hold nothing
+free_here : (page word : ℕ) (m : Made) (before : List Made) → FreeLookHere page word m before → WholeHere page word m before
+free_here page word m before h = (
+  subst (ReadsFree page word) (sym h.0) ReadsFree.Looks,
+  λ b lt. ap (λ n. has_bit n b || holds before (page * 256 + (64 * word + b))) h.1 ∙ ap (λ t. t || holds before (page * 256 + (64 * word + b))) (full_bit b lt),
+)
+
+used_not_free : (page word a : ℕ) (before : List Made) → a < 2 ^ 64 → a ≢ all_ones → ((b : ℕ) → b < 64 → holds before (page * 256 + (64 * word + b)) ≡ false) → IsAllFree page word a before → ⊥
+used_not_free page word a before small ne none free = ne (all_set a small (λ b lt. sym (or-false (has_bit a b)) ∙ ap (λ t. has_bit a b || t) (sym (none b lt)) ∙ free b lt))
+
+used_once : (page : ℕ) (ys : List Made) → Only page_looks ys → Once (UsedLookHere page) ys → Once (UsedHere page) ys
+used_once page [] are h = absurd h
+used_once page (m ∷ ys) are (inl h) = inl (h.0, h.1, subst (ReadsFree page h.0) (sym h.2) ReadsFree.Looks, used_not_free page h.0 m.answer ys h.4 h.3 (λ b lt. holds_none_by page_looks refl (page * 256 + (64 * h.0 + b)) ys are.1))
+used_once page (m ∷ ys) are (inr h) = inr (used_once page ys are.1 h)
+
+-- ---- one page: a look at its deed word, one at its eligible word, and looks at its free words
+abbrev pub deed_look : ℕ → ℕ → Made
+deed_look page a = made (Look (Word.Deed page)) a
+
+abbrev pub eligible_look : Directory → ℕ → ℕ → Made
+eligible_look d page a = made (Look (Word.Eligible (number_of d) (page / 64))) a
+
+abbrev pub two_looks : Directory → ℕ → ℕ → ℕ → List Made
+two_looks d page a e = eligible_look d page e ∷ deed_look page a ∷ []
+
+pub deed_read : (page a : ℕ) → Once (DeedReadHere page) (deed_look page a ∷ [])
+deed_read page a = inl ReadsDeed.Looks
+
+pub bare : (d : Directory) (page a : ℕ) → a ≡ 0 → ReadUsable d page (deed_look page a ∷ [])
+bare d page a e = inl (inl (ReadsDeed.Looks, e))
+
+pub other_deed : (d : Directory) (page a : ℕ) → a ≢ 0 → a ≢ deed_word_of d → Once (UnusableHere d page) (deed_look page a ∷ [])
+other_deed d page a some ne = inl (inl (ReadsDeed.Looks, some, ne))
+
+of_deed : (d : Directory) (page a : ℕ) → a ≡ deed_word_of d → Once (OfHere d page) (deed_look page a ∷ [])
+of_deed d page a e = inl (ReadsDeed.Looks, e)
+
+pub not_offered : (d : Directory) (page a e : ℕ) → a ≡ deed_word_of d → has_bit e (page % 64) ≡ false → Once (UnusableHere d page) (two_looks d page a e)
+not_offered d page a e is bit = inl (inr (inl (((ReadsEligible.Looks (number_of d) (page / 64) refl refl, bit, refl), inl (λ h. cc, tt)), of_deed d page a is)))
+
+all_looks : (d : Directory) (page a e : ℕ) (ys : List Made) → Only page_looks ys → Only page_looks (ys ++ two_looks d page a e)
+all_looks d page a e ys only = only_both page_looks ys (two_looks d page a e) only (refl, (refl, tt))
+
+used_word : (d : Directory) (page a e : ℕ) (ys : List Made) → Only page_looks ys → Once (UsedLookHere page) ys → Once (UnusableHere d page) (ys ++ two_looks d page a e)
+used_word d page a e ys are h =
+    once_map (UsedHere page) (UnusableHere d page) (ys ++ two_looks d page a e) (λ m before u. inr (inr u)) (used_once page (ys ++ two_looks d page a e) (all_looks d page a e ys are) (once_earlier (UsedLookHere page) (UsedLookHere page) ys (two_looks d page a e) (λ m before h. h) h))
+
+offered_whole : (d : Directory) (page a e : ℕ) (ys : List Made) → a ≡ deed_word_of d → has_bit e (page % 64) ≡ true → ((w : ℕ) → w < 4 → Once (FreeLookHere page w) ys) → ReadUsable d page (ys ++ two_looks d page a e)
+offered_whole d page a e ys is bit free =
+    let base = two_looks d page a e in
+    inr record {
+      of = once_later (OfHere d page) ys base (inr (of_deed d page a is));
+      offered = once_later (OneHere d page) ys base (inl (ReadsEligible.Looks (number_of d) (page / 64) refl refl, bit, refl));
+      free = λ w lt. once_map (FreeLookHere page w) (WholeHere page w) (ys ++ base) (free_here page w) (once_earlier (FreeLookHere page w) (FreeLookHere page w) ys base (λ m before h. h) (free w lt));
+    }
+
+deed_was_read : (d : Directory) (page a e : ℕ) (ys : List Made) → Once (DeedReadHere page) (ys ++ two_looks d page a e)
+deed_was_read d page a e ys = once_later (DeedReadHere page) ys (two_looks d page a e) (inr (deed_read page a))
+
+-- ---- the looks at free words, one more
+pub free_more : (page word a : ℕ) (ys : List Made) → a ≡ all_ones → ((w : ℕ) → w < word → Once (FreeLookHere page w) ys) → (w : ℕ) → w < word + 1 → Once (FreeLookHere page w) (made (Look (Word.Free page word)) a ∷ ys)
+free_more page word a ys e before w lt = elim (cases_lt w word) [
+  | inl low ↦ inr (before w low)
+  | inr high ↦ let same : w ≡ word = omega (arith, lt, high) in inl (ap (λ i. Look (Word.Free page i)) (sym same), e)
+]
+
+-- ---- all looks at a page that is of the directory and offered
+pub reads_by : {σ σ1 σ2 : Standing} (d : Directory) (page a e : ℕ) (free : Bool) → Adds σ σ1 AnyView (two_looks d page a e) → a ≡ deed_word_of d → has_bit e (page % 64) ≡ true → LooksFree page σ1 σ2 free → ReadsUsable d page σ σ2 free
+reads_by d page a e true adds is bit h = record {
+  steps = h.steps ++ two_looks d page a e;
+  adds = adds_call adds h.adds (λ v l stood met. tt);
+  kinds = all_looks d page a e h.steps h.kinds;
+  few = (let n = length-append h.steps (two_looks d page a e) in let four = h.few in omega (arith, n, four));
+  deed = deed_was_read d page a e h.steps;
+  outcome = offered_whole d page a e h.steps is bit h.outcome;
+}
+reads_by d page a e false adds is bit h = record {
+  steps = h.steps ++ two_looks d page a e;
+  adds = adds_call adds h.adds (λ v l stood met. tt);
+  kinds = all_looks d page a e h.steps h.kinds;
+  few = (let n = length-append h.steps (two_looks d page a e) in let four = h.few in omega (arith, n, four));
+  deed = deed_was_read d page a e h.steps;
+  outcome = used_word d page a e h.steps h.kinds h.outcome;
+}

@@ -1,41 +1,375 @@
--- One page whose empty bit was cleared, up to its outcome, and what the steps show of it.
-use Rattle.std.proofs.Common.{◌≡◌, ℕ, ◌/◌, ◌%◌, ◌<◌, ◌==◌, nat_lt, Bool, true, false, ◌&&◌, List, [], ◌∷◌, ◌++◌, Option, Some, None, refl, ap, sym, ◌∙◌, subst, arith, inl, inr, ◌≢◌, not, if◌then◌else◌}
-use Rattle.std.proofs.lemmas.Bool.{and_from, and_right, eq-eqb, ne_eqb, lt-ltb, le-ltb}
+-- What the scavenger does on one page whose empty bit was cleared.
+use Rattle.std.proofs.Common.{◌≡◌, ℕ, ◌*◌, ◌/◌, ◌%◌, ◌<◌, ◌==◌, nat_lt, Bool, true, false, ◌&&◌, ◌||◌, length, slice_index, slice_set, refl, ap, sym, ◌∙◌, arith, inl, inr, get_or-set_same, get_or-set_other, true≢false, ◌+◌, not, if◌then◌else◌, List, [], ◌∷◌, ◌++◌, Option, None, Some, subst, bit_and, ◌≢◌, ◌≤◌, append_assoc, length-append}
+use Rattle.std.proofs.Math.Bool.{or-false}
+use Rattle.std.proofs.lemmas.Bool.{cases_eq, cases_lt, eq-eqb, ne_eqb, lt-ltb, le-ltb, ltb-true, eqb-true, cases_Bool, and_from, and_right}
+use Rattle.pas_profile.specs.Classes.{has_bit}
+use Rattle.pas_profile.specs.Runs.{in_run}
+use Rattle.pas_profile.proofs.Runs.{to_run, run_of}
 use Rattle.pas_bits.specs.declared.mask.Mask4.{Mask4}
 use Rattle.pas_bits.specs.Masks.{is_set}
-use Rattle.pas_profile.specs.Directories.{deed_word_of}
+use Rattle.pas_bits.proofs.Words.{none_past, full_bit}
+use Rattle.pas_steps.proofs.Sets.{same_truth, kept_kept}
+use Rattle.pas_rights.specs.Words.{full, ones}
+use Rattle.pas_rights.proofs.Looks.{full_set, looks_only}
 use Rattle.pas_profile.specs.declared.directory.Directory.{Directory}
-use Rattle.pas_profile.specs.declared.event.Outcome.{Outcome}
-use Rattle.pas_profile.specs.declared.event.Outcome.TheVariants.{Bare, InUse, NotOffered, Unbacked}
-use Rattle.pas_profile.specs.declared.word.Word.TheVariants as Word
-use Rattle.pas_rights.specs.Claims.{Claims}
-use Rattle.pas_rights.specs.Looks.{looks, looks_until, IsUsed, AreUsed, ReadsUntilUsed}
-use Rattle.pas_rights.specs.Puts.{masked}
-use Rattle.pas_rights.specs.Words.{ones}
-use Rattle.pas_rights.specs.declared.reading.Used.{Used}
-use Rattle.pas_rights.proofs.Looks.{looks_only}
-use Rattle.pas_rights.proofs.Orders.{same_page, ends, until_only}
-use Rattle.pas_steps.specs.Calls.{Calls}
-use Rattle.pas_steps.specs.Clear.{HasNothing}
-use Rattle.pas_steps.specs.Desks.{Standing, CanCall, Makes, made}
-use Rattle.pas_steps.specs.Evidence.{ReadsFree}
-use Rattle.pas_steps.specs.Kinds.{Taking, Only, LookFree}
-use Rattle.pas_steps.specs.Past.{Once}
-use Rattle.pas_steps.specs.Views.{View, all_ones, examines, known_epoch, KnowsDeed, known_deed, ReadBacked, holds}
+use Rattle.pas_steps.specs.Calls.{Kept, Gained, now, on_page, Does, Calls, Lost, ClearAfter}
+use Rattle.pas_steps.specs.Clear.{IsClear, HasNothing}
+use Rattle.pas_steps.specs.Desks.{made, Standing, Makes, Adds, CanCall}
+use Rattle.pas_steps.specs.Kinds.{LookFree, Taking, Only, Kinds, LookDeed, LookBacked, LookStamp, Claiming, Hinting, Unbacking, Unhinting, apart, unstamping, within, Putting, returning}
+use Rattle.pas_steps.specs.Views.{View, Gets, Stays, held_after, holds, has_right, all_ones, examines, holds_on, holds_all, knows_backed, known_stamp, or_zero, known_epoch, KnowsDeed, known_deed, ReadBacked}
 use Rattle.pas_steps.specs.declared.step.Made.{Made}
-use Rattle.pas_steps.specs.declared.step.Step.TheVariants.{Look, TakeRight, Hint, Take}
-use Rattle.pas_steps.proofs.Adding.{adds_under}
-use Rattle.pas_steps.proofs.Apart.{epoch_same, holds_same, only_within}
+use Rattle.pas_steps.specs.declared.step.Step.TheVariants.{TakeRight, Unhint, Look, Hint}
+use Rattle.pas_steps.proofs.Apart.{holds_same, rights_same, unstamped_same, only_within, only_both, epoch_same, events_same, no_events}
+use Rattle.pas_steps.proofs.Calls.{opening, owes_over, unexamined_over, returns_are, does_then}
+use Rattle.pas_rights.specs.Takes.{takes}
+use Rattle.pas_rights.specs.declared.reading.Used.{Used}
+use Rattle.pas_rights.proofs.Orders.{same_page, until_only, until_few, leave_few, return_few, leave_returns, return_returns, ends}
+use Rattle.pas_rights.proofs.Takes.{takes_only, got_below, takes_hold as grains_held, takes_few as grains_few}
+use Rattle.pas_scavenger.specs.Puttings.{IsAt, none, BackSteps, MayPutBack, PutsBack}
+use Rattle.pas_scavenger.specs.Readings.{was_free, takes_until, TakesUntilUsed}
+use Rattle.pas_profile.specs.declared.profile.Profile.{Profile}
+use Rattle.pas_profile.specs.declared.word.Word.TheVariants as Word
+use Rattle.pas_steps.specs.Agreement.{Agreed}
+use Rattle.pas_steps.specs.Allowed.{IsEpochKnown, MayUnback}
+use Rattle.pas_steps.proofs.Adding.{adds_none, adds_step, adds_under}
+use Rattle.pas_steps.proofs.Backed.{any_from}
+use Rattle.pas_steps.proofs.Bits.{all_below-from}
+use Rattle.pas_scavenger.specs.Judgements.{MayJudge, used_at, Judged, JudgesPage}
+use Rattle.pas_profile.specs.declared.event.Event.{Event}
+use Rattle.pas_profile.specs.declared.event.Outcome.{Outcome}
+use Rattle.pas_profile.specs.declared.event.Outcome.TheVariants.{Unbacked, Bare, Young, InUse, NotOffered}
+use Rattle.pas_rights.specs.Looks.{AreUsed, looks, looks_until, IsUsed, ReadsUntilUsed}
+use Rattle.pas_rights.proofs.Puts.{puts_kinds, puts_few}
+use Rattle.pas_rights.proofs.PutsBack.{may_return as may_settle, returned_call}
+use Rattle.pas_steps.specs.Events.{events_by}
+use Rattle.pas_scavenger.specs.Pages.{first_looks, AsksSteps, EndsWithout, EndsWith, ExamineSteps, unback_of, quiet, examining, MayTake, TakesPage, TakesSteps, MayExamine, ReadsDirectory, ExaminesPage}
+use Rattle.pas_rights.specs.Leaves.{MayLeave, Leaves}
+use Rattle.pas_rights.specs.Puts.{masked, PutsMask}
+use Rattle.pas_rights.specs.PutsBack.{MayPutAndReturn, given_back}
+use Rattle.pas_rights.specs.Returns.{Returned}
 use Rattle.pas_steps.proofs.Called.{call_as, call_then, call_knows, next_call, call_none, call_step}
-use Rattle.pas_steps.proofs.Calls.{unexamined_over}
+use Rattle.pas_profile.specs.Directories.{deed_word_of}
+use Rattle.pas_rights.specs.Claims.{Claims}
+use Rattle.pas_steps.specs.Evidence.{ReadsFree}
+use Rattle.pas_steps.specs.Past.{Once}
 use Rattle.pas_steps.proofs.Past.{once_later}
 use Rattle.pas_scavenger.specs.Evidence.{UsedByOthers, UnbackedHere}
-use Rattle.pas_scavenger.specs.Judgements.{Judged, MayJudge, JudgesPage, used_at}
-use Rattle.pas_scavenger.specs.Pages.{MayTake, TakesPage, first_looks, AsksSteps, TakesSteps, ExamineSteps, MayExamine, ReadsDirectory, ExaminesPage}
-use Rattle.pas_scavenger.specs.Puttings.{IsAt, MayPutBack, PutsBack, none}
-use Rattle.pas_scavenger.specs.Readings.{was_free, takes_until, TakesUntilUsed}
-use Rattle.pas_scavenger.proofs.Shapes.{judged_sized, examine_sized, examine_event, taken_on}
-use Rattle.pas_scavenger.proofs.States.{idle, at_idle, at_takes, at_as, takes_are, takes_examined, at_claim, rests, takes_hold, until_holds}
+
+-- ==== The grains that were taken, as a mask.
+
+pub all_grains : (g : ℕ) → is_set full g ≡ nat_lt (g / 64) 4
+all_grains g = elim (cases_lt g 256) [
+  | inl lt ↦ full_set g lt ∙ sym (lt-ltb (g / 64) 4 (omega (arith, lt)))
+  | inr ge ↦ none_past full g refl ge ∙ sym (le-ltb (g / 64) 4 (omega (arith, ge)))
+]
+
+run_below : (word g : ℕ) → in_run 0 (word * 64) g ≡ nat_lt (g / 64) word
+run_below word g = same_truth (in_run 0 (word * 64) g) (nat_lt (g / 64) word)
+    (λ h. let at = run_of 0 (word * 64) g h in let high = at.1 in lt-ltb (g / 64) word (omega (arith, high)))
+    (λ h. let lt = ltb-true (g / 64) word h in to_run 0 (word * 64) g (omega arith) (omega (arith, lt)))
+
+or_last : (x y : Bool) → x ≡ false → (x || y) ≡ y
+or_last x y h = grind arith
+
+-- a run of all grains of the words below this one, and the word
+pub grains_before : (run : Mask4) (word value : ℕ) → length run.0 ≡ 4 → word < 4 → ((g : ℕ) → is_set run g ≡ in_run 0 (word * 64) g)
+    → (g : ℕ) → has_bit (slice_index (slice_set run.0 word value) (g / 64)) (g % 64) ≡ (nat_lt (g / 64) word || ((word == g / 64) && has_bit value (g % 64)))
+grains_before run word value four lt before g =
+    let bit = has_bit value (g % 64) in
+    elim (cases_eq word (g / 64)) [
+      | inl e ↦
+          let at : word < length run.0 = omega (arith, four, lt) in
+          ap (λ n. has_bit (slice_index (slice_set run.0 word value) n) (g % 64)) (sym e) ∙ ap (λ n. has_bit n (g % 64)) (rw get_or-set_same refl)
+          ∙ sym (or_last (nat_lt (g / 64) word) ((word == g / 64) && bit) (le-ltb (g / 64) word (omega (arith, e))) ∙ ap (λ t. t && bit) (eq-eqb word (g / 64) e))
+      | inr ne ↦
+          let other : (g / 64 ≡ word → ⊥) = λ e. ne (sym e) in
+          ap (λ n. has_bit n (g % 64)) (rw get_or-set_other refl) ∙ before g ∙ run_below word g
+          ∙ sym (ap (λ t. nat_lt (g / 64) word || (t && bit)) (ne_eqb word (g / 64) ne) ∙ or-false (nat_lt (g / 64) word))
+    ]
+
+-- ==== Takes of the grains of a page, and what the actor holds and has on the way through one page.
+
+-- ---- the steps
+pub takes_are : (page : ℕ) (used : Option Used) → Only (Taking ∷ []) (takes_until page used)
+takes_are page None = takes_only page ones ones 4
+takes_are page (Some used) = (refl, takes_only page ones ones used.word)
+
+-- ---- what is held then
+both_order : (x p : Bool) → (x && (p && true)) ≡ (p && x)
+both_order x p = grind arith
+
+-- all grains of the words below n are got
+below : (page n g : ℕ) → got_below page ones ones n g ≡ ((page == g / 256) && nat_lt (g % 256 / 64) n)
+below page n g =
+    let p = page == g / 256 in let word : g / 64 % 4 ≡ g % 256 / 64 = omega arith in
+    ap (λ b. nat_lt (g / 64 % 4) n && (p && (b && b))) (full_bit (g % 64) (omega arith)) ∙ both_order (nat_lt (g / 64 % 4) n) p ∙ ap (λ w. p && nat_lt w n) word
+
+one_take : (s p u b r : Bool) → u ≡ true → held_after (if ((s && p) && u) && b then Gets else Stays) (p && r) ≡ (p && (r || (s && b)))
+one_take s p false b r e = absurd (true≢false (sym e))
+one_take true true true true true e = refl
+one_take true true true true false e = refl
+one_take true true true false true e = refl
+one_take true true true false false e = refl
+one_take true false true b r e = refl
+one_take false true true b true e = refl
+one_take false true true b false e = refl
+one_take false false true b r e = refl
+
+or_none : (x y : Bool) → y ≡ false → (x || y) ≡ x
+or_none x y h = grind arith
+
+pub takes_hold : (page n g : ℕ) (v : View) → holds v g ≡ false → holds (takes page ones ones n ++ v) g ≡ ((page == g / 256) && nat_lt (g % 256 / 64) n)
+takes_hold page n g v none = grains_held page ones ones n g v ∙ or_none (got_below page ones ones n g) (holds v g) none ∙ below page n g
+
+pub until_holds : (page : ℕ) (used : Option Used) (g : ℕ) (v : View) → holds v g ≡ false → holds (takes_until page used ++ v) g ≡ ((page == g / 256) && was_free used (g % 256))
+until_holds page None g v none = takes_hold page 4 g v none
+until_holds page (Some used) g v none =
+    let p = page == g / 256 in let w = used.word in let a = used.value in let r = nat_lt (g % 256 / 64) w in
+    let word : g / 64 % 4 ≡ g % 256 / 64 = omega arith in let bit : g % 64 ≡ g % 256 % 64 = omega arith in
+    ap (held_after (if (((w == g / 64 % 4) && p) && has_bit all_ones (g % 64)) && has_bit a (g % 64) then Gets else Stays)) (takes_hold page w g v none)
+    ∙ one_take (w == g / 64 % 4) p (has_bit all_ones (g % 64)) (has_bit a (g % 64)) r (full_bit (g % 64) (omega arith))
+    ∙ ap (λ n. p && (r || ((w == n) && has_bit a (g % 64)))) word ∙ ap (λ n. p && (r || ((w == g % 256 / 64) && has_bit a n))) bit
+
+-- a take of all grains of a word ends the examination, whatever it read
+ends_it : (a : ℕ) → (not (a == all_ones) || not (bit_and a all_ones == 0)) ≡ true
+ends_it a = elim (cases_Bool (a == all_ones)) [
+  | inl e ↦ subst (λ x. (not (x == all_ones) || not (bit_and x all_ones == 0)) ≡ true) (sym (eqb-true a all_ones e)) refl
+  | inr e ↦ ap (λ t. not t || not (bit_and a all_ones == 0)) e
+]
+
+ends_at : (page a : ℕ) (was : Bool) → (if (page == page) && (not (a == all_ones) || not (bit_and a all_ones == 0)) then false else was) ≡ false
+ends_at page a was = ap (λ t. if t && (not (a == all_ones) || not (bit_and a all_ones == 0)) then false else was) (same_page page) ∙ ap (λ t. if t then false else was) (ends_it a)
+
+pub takes_examined : (page : ℕ) (used : Option Used) (v : View) → examines (takes_until page used ++ v) page ≡ false
+takes_examined page None v = ends_at page all_ones (examines (takes page ones ones 3 ++ v) page)
+takes_examined page (Some used) v = ends_at page used.value (examines (takes page ones ones used.word ++ v) page)
+
+-- ---- from one state to the next
+at_over : {page : ℕ} {grains grains' : ℕ → Bool} {right right' : Bool} (ks : Kinds) → apart ks unstamping ≡ true → apart ks opening ≡ true → apart ks (Unhinting ∷ []) ≡ true → (steps : List Made) (v : View) → Only ks steps
+    → IsAt page grains right v → ((g : ℕ) → holds (steps ++ v) g ≡ grains' g) → ((q : ℕ) → has_right (steps ++ v) q ≡ (right' && (page == q))) → IsAt page grains' right' (steps ++ v)
+at_over ks u o n steps v only at held rights = record {
+  held = held;
+  rights = rights;
+  stamped = λ q. unstamped_same ks u q steps v only ∙ at.stamped q;
+  owes = λ q. owes_over ks o q steps v only (at.owes q);
+  examined = λ q ne. unexamined_over ks n q steps v only (at.examined q ne);
+}
+
+-- looks, hints and unbacks
+abbrev pub idle : Kinds
+idle = LookFree ∷ LookDeed ∷ LookBacked ∷ LookStamp ∷ Hinting ∷ Unbacking ∷ []
+
+pub at_idle : {page : ℕ} {grains : ℕ → Bool} {right : Bool} (steps : List Made) (v : View) → Only idle steps → IsAt page grains right v → IsAt page grains right (steps ++ v)
+at_idle steps v only at = at_over idle refl refl refl steps v only at (λ g. holds_same idle refl g steps v only ∙ at.held g) (λ q. rights_same idle refl q steps v only ∙ at.rights q)
+
+got_right : (got here : Bool) → now (if here then (if got then Gained else Kept) else Kept) false ≡ (got && here)
+got_right true true = refl
+got_right true false = refl
+got_right false true = refl
+got_right false false = refl
+
+pub at_claim : (page : ℕ) (d : Directory) (a : ℕ) (got : Bool) (v : View) → Does (on_page page (if got then Gained else Kept) Kept) v (made (TakeRight page d) a ∷ v) → IsAt page none false v → IsAt page none got (made (TakeRight page d) a ∷ v)
+at_claim page d a got v does at = at_over (Claiming ∷ []) refl refl refl (made (TakeRight page d) a ∷ []) v (refl, tt) at (λ g. does.held g ∙ at.held g)
+    (λ q. does.right q ∙ ap (now (if page == q then (if got then Gained else Kept) else Kept)) (at.rights q) ∙ got_right got (page == q))
+
+abbrev pub got_on : ℕ → Option Used → ℕ → Bool
+got_on page used g = (page == g / 256) && was_free used (g % 256)
+
+pub at_takes : (page : ℕ) (used : Option Used) (v : View) → IsAt page none true v → IsAt page (got_on page used) true (takes_until page used ++ v)
+at_takes page used v at = at_over (Taking ∷ []) refl refl refl (takes_until page used) v (takes_are page used) at (λ g. until_holds page used g v (at.held g))
+    (λ q. rights_same (Taking ∷ []) refl q (takes_until page used) v (takes_are page used) ∙ at.rights q)
+
+-- ---- at the beginning and at the end
+pub at_unhint : (page a : ℕ) (v : View) → HasNothing v → IsAt page none false (made (Unhint page) a ∷ v)
+at_unhint page a v rests = record {
+  held = rests.grains;
+  rights = rests.rights;
+  stamped = λ q. (rests.clear.on q).stamped;
+  owes = λ q. let owes = (rests.clear.on q).owes in record { checks = owes.checks; hint = owes.hint };
+  examined = λ q ne. ap (λ t. if t && has_bit a (q % 64) then true else examines v q) (ne_eqb page q (λ e. ne (sym e))) ∙ (rests.clear.on q).examined;
+}
+
+pub is_clear : {page : ℕ} {grains : ℕ → Bool} {right : Bool} {v : View} → IsAt page grains right v → examines v page ≡ false → IsClear v
+is_clear {page} {v = v} at ended = record {
+  on = λ q. record {
+    stamped = at.stamped q;
+    owes = at.owes q;
+    examined = elim (cases_eq q page) [ inl e ↦ ap (examines v) e ∙ ended | inr ne ↦ at.examined q ne ];
+  };
+}
+
+pub rests : {page : ℕ} {v : View} → IsAt page none false v → examines v page ≡ false → HasNothing v
+rests at ended = record { grains = at.held; rights = at.rights; clear = is_clear at ended }
+
+-- the same grains in other words
+pub at_as : {page : ℕ} {grains : ℕ → Bool} (grains' : ℕ → Bool) {right : Bool} {v : View} → IsAt page grains right v → ((g : ℕ) → grains g ≡ grains' g) → IsAt page grains' right v
+at_as grains' at same = record { held = λ g. at.held g ∙ same g; rights = at.rights; stamped = at.stamped; owes = at.owes; examined = at.examined }
+
+-- ==== Whether a page may be unbacked, and what the judgement of a page leaves.
+
+abbrev pub two_looks : ℕ → ℕ → ℕ → List Made
+two_looks page b stamp = made (Look (Word.Stamp page)) stamp ∷ made (Look (Word.Backed page)) b ∷ []
+
+may_unback : (f : Profile) (page epoch b stamp : ℕ) (used : Option Used) (v : View) → used ≡ None → b ≢ 0 → stamp + f.age ≤ epoch → MayJudge page epoch used v → Agreed f v (two_looks page b stamp) → MayUnback f (two_looks page b stamp ++ v) page
+may_unback f page epoch b stamp used v whole some old met agreed =
+    let held = met.held whole in
+    let small = agreed.1.0.small in
+    let one : (b == 1) ≡ true = eq-eqb b 1 (omega (arith, small, some)) in
+    let on : holds_on v page ≡ true = any_from 256 (λ i. holds v (page * 256 + i)) 0 (omega arith) (held (page * 256 + 0) (omega arith)) in
+    let all : holds_all v page ≡ true = all_below-from 256 (λ i. holds v (page * 256 + i)) (λ k lt. held (page * 256 + k) (omega (arith, lt))) in
+    let read : knows_backed (made (Look (Word.Backed page)) b ∷ v) page ≡ true
+    = and_from (if page == page then b == 1 else knows_backed v page) (holds_on v page) (ap (λ t. if t then b == 1 else knows_backed v page) (same_page page) ∙ one) on in
+    record {
+      held = held;
+      stamped = met.stamped;
+      backed = and_from (knows_backed (made (Look (Word.Backed page)) b ∷ v) page) (holds_on v page) read on;
+      stamp = stamp;
+      known =
+          let known = known_stamp (made (Look (Word.Backed page)) b ∷ v) page in
+          ap (λ t. if t then (if page == page then Some stamp else known) else None) all ∙ ap (λ t. if t then Some stamp else known) (same_page page);
+      read = subst IsEpochKnown (sym met.epoch_is) tt;
+      old = subst (λ o. stamp + f.age ≤ or_zero o) (sym met.epoch_is) old;
+    }
+
+module _ {σ σ1 σ2 : Standing} (page epoch b stamp : ℕ) (used : Option Used) (backed : Makes σ σ1 (Look (Word.Backed page)) b) (stamped : Makes σ1 σ2 (Look (Word.Stamp page)) stamp) where
+  pub looked : Adds σ σ2 (MayJudge page epoch used) (two_looks page b stamp)
+  looked = adds_step (adds_step adds_none backed (λ v l stood met. tt)) stamped (λ v l stood met. tt)
+
+  pub age_is : (f : Profile) → f ≡ σ2.seat.profile → f.age ≡ σ.seat.profile.age
+  age_is f is = ap (λ g. g.age) is ∙ ap (λ s. s.profile.age) looked.seat_is
+
+  pub allowed : (f : Profile) → f ≡ σ2.seat.profile → used ≡ None → b ≢ 0 → stamp + f.age ≤ epoch → (v : View) (l : _) → σ.stands v l → MayJudge page epoch used v → MayUnback σ.seat.profile (two_looks page b stamp ++ v) page
+  allowed f is whole some old v l stood met = may_unback σ.seat.profile page epoch b stamp used v whole some (subst (λ a. stamp + a ≤ epoch) (age_is f is) old) met (looked.agreed v l stood met)
+
+-- ==== The steps for one page: their kinds, their number and their event.
+
+-- ---- kinds, and how many they are
+-- steps of these kinds, at most so many
+pub record Sized (ks : Kinds) (n : ℕ) (steps : List Made) : Type 0 where
+  pub only : Only ks steps
+  pub few : length steps ≤ n
+
+sized : (ks : Kinds) (n : ℕ) {steps : List Made} → Only ks steps → length steps ≤ n → Sized ks n steps
+sized ks n only few = record { only = only; few = few }
+
+sized_both : {ks : Kinds} {m n : ℕ} {ys xs : List Made} → Sized ks m ys → Sized ks n xs → Sized ks (m + n) (ys ++ xs)
+sized_both {ks} {ys = ys} {xs = xs} a b = let all = length-append ys xs in let few = a.few in let more = b.few in record { only = only_both ks ys xs a.only b.only; few = omega (arith, all, few, more) }
+
+sized_as : {ks : Kinds} {m : ℕ} {steps : List Made} (ls : Kinds) → within ks ls ≡ true → Sized ks m steps → Sized ls m steps
+sized_as {ks} {steps = steps} ls w a = record { only = only_within ks ls steps w a.only; few = a.few }
+
+sized_at : {ks : Kinds} {n : ℕ} {xs steps : List Made} → steps ≡ xs → Sized ks n xs → Sized ks n steps
+sized_at {ks} {n} e a = subst (Sized ks n) (sym e) a
+
+first_sized : (page b : ℕ) (used : Option Used) → AreUsed used → Sized quiet 5 (first_looks page b used)
+first_sized page b used are = sized_both {m = 4} {n = 1} (sized_as quiet refl (sized (LookFree ∷ []) 4 (until_only page used) (until_few page used are))) (sized quiet 1 (refl, tt) (omega arith))
+
+pub asks_sized : (page : ℕ) (d : Directory) (got : Bool) (steps : List Made) → AsksSteps page d got steps → Sized quiet 7 steps
+asks_sized page d got steps h = let first = first_sized page h.backed None tt in let few = first.few in sized_at h.steps_are (sized quiet 7 (refl, (refl, first.only)) (omega (arith, few)))
+
+without_sized : (page : ℕ) (outcome : Outcome) (steps : List Made) → EndsWithout page outcome steps → Sized quiet 8 steps
+without_sized page Bare steps h = sized_at h (sized quiet 8 (refl, tt) (omega arith))
+without_sized page (InUse w v) steps h = let first = first_sized page h.0 (Some (used_at w v)) h.2 in let few = first.few in sized_at h.3 (sized quiet 8 first.only (omega (arith, few)))
+without_sized page NotOffered steps h = let asked = asks_sized page h.0 false h.2 h.3 in let few = asked.few in sized_at h.4 (sized quiet 8 (refl, asked.only) (omega (arith, few)))
+without_sized page (Young s) steps h = absurd h
+without_sized page Unbacked steps h = absurd h
+
+back_sized : (page : ℕ) (d : Directory) (grains : Mask4) (steps : List Made) → BackSteps page d grains steps → Sized quiet 23 steps
+back_sized page d grains steps h = sized_at h.steps_are
+    (sized_both {m = 11} {n = 12} (sized_as quiet refl (sized returning 11 (returns_are page h.left (leave_returns page d h.left h.leaves)) (leave_few page d h.left h.leaves)))
+    (sized_both {m = 8} {n = 4} (sized_as quiet refl (sized returning 8 (returns_are page h.after (return_returns page d h.after h.returns)) (return_few page d h.after h.returns)))
+    (sized_as quiet refl (sized (Putting ∷ []) 4 (puts_kinds page grains 4 h.puts h.order) (puts_few page grains h.puts h.order)))))
+
+takes_few : (page : ℕ) (used : Option Used) → AreUsed used → length (takes_until page used) ≤ 4
+takes_few page None are = grains_few page ones ones 4
+takes_few page (Some used) are = let lt = are.within in let n = grains_few page ones ones used.word in omega (arith, lt, n)
+
+takes_sized : (page : ℕ) (used : Option Used) → AreUsed used → Sized quiet 4 (takes_until page used)
+takes_sized page used are = sized_as quiet refl (sized (Taking ∷ []) 4 (takes_are page used) (takes_few page used are))
+
+pub judged_sized : (age epoch page : ℕ) (used : Option Used) (outcome : Outcome) (steps : List Made) → Judged age epoch page used outcome steps → Sized idle 3 steps
+judged_sized age epoch page used (InUse w v) steps h = sized_at h.1 (sized idle 3 tt (omega arith))
+judged_sized age epoch page used Bare steps h = sized_at h.1 (sized idle 3 (refl, tt) (omega arith))
+judged_sized age epoch page used (Young s) steps h = sized_at h.4 (sized idle 3 (refl, (refl, tt)) (omega arith))
+judged_sized age epoch page used Unbacked steps h = sized_at h.6 (sized idle 3 (refl, (refl, (refl, tt))) (omega arith))
+judged_sized age epoch page used NotOffered steps h = absurd h
+
+pub examine_sized : (age epoch page : ℕ) (outcome : Outcome) (steps : List Made) → ExamineSteps age epoch page outcome steps → Sized examining 37 steps
+examine_sized age epoch page outcome steps (inl h) = let w = without_sized page outcome steps h in let few = w.few in sized_as examining refl (sized quiet 37 w.only (omega (arith, few)))
+examine_sized age epoch page outcome steps (inr h) = let t = h.takes in
+    sized_at (h.steps_are ∙ ap (λ s. s ++ h.asked) t.steps_are)
+    (sized_both {m = 30} {n = 7} (sized_both {m = 23} {n = 7} (sized_as examining refl (back_sized page h.directory t.grains t.back t.puts))
+    (sized_both {m = 3} {n = 4} (sized_as examining refl (judged_sized age epoch page t.used outcome t.after t.judged)) (sized_as examining refl (takes_sized page t.used t.are))))
+    (sized_as examining refl (asks_sized page h.directory true h.asked h.asks)))
+
+-- ---- the event
+judged_event : (k age epoch page : ℕ) (used : Option Used) (outcome : Outcome) (steps rest : List Made) (v : View) → Judged age epoch page used outcome steps → Only quiet rest → known_epoch v ≡ Some epoch → events_by k v (steps ++ rest) ≡ unback_of k epoch page outcome
+judged_event k age epoch page used (InUse w a) steps rest v h only known = ap (λ s. events_by k v (s ++ rest)) h.1 ∙ no_events quiet refl k v rest only
+judged_event k age epoch page used Bare steps rest v h only known = ap (λ s. events_by k v (s ++ rest)) h.1 ∙ no_events quiet refl k v (made (Look (Word.Backed page)) 0 ∷ rest) (refl, only)
+judged_event k age epoch page used (Young s) steps rest v h only known = ap (λ s. events_by k v (s ++ rest)) h.4 ∙ no_events quiet refl k v (two_looks page h.0 s ++ rest) (refl, (refl, only))
+judged_event k age epoch page used Unbacked steps rest v h only known =
+    let looked = two_looks page h.0 h.1 ++ rest in
+    ap (λ s. events_by k v (s ++ rest)) h.6 ∙ ap (λ o. Event.Unback k page (or_zero o) ∷ events_by k v looked) (epoch_same quiet refl looked v (refl, (refl, only)) ∙ known)
+    ∙ ap (λ es. Event.Unback k page epoch ∷ es) (no_events quiet refl k v looked (refl, (refl, only)))
+judged_event k age epoch page used NotOffered steps rest v h only known = absurd h
+
+without_none : (k epoch page : ℕ) (outcome : Outcome) (steps : List Made) → EndsWithout page outcome steps → unback_of k epoch page outcome ≡ []
+without_none k epoch page Unbacked steps h = absurd h
+without_none k epoch page Bare steps h = refl
+without_none k epoch page (Young s) steps h = absurd h
+without_none k epoch page (InUse w v) steps h = refl
+without_none k epoch page NotOffered steps h = refl
+
+-- the steps of an examination with the right, in order
+pub taken_on : (age epoch page : ℕ) (outcome : Outcome) (steps : List Made) (h : EndsWith age epoch page outcome steps) → steps ≡ h.takes.back ++ (h.takes.after ++ (takes_until page h.takes.used ++ h.asked))
+taken_on age epoch page outcome steps h = let t = h.takes in
+    h.steps_are ∙ ap (λ s. s ++ h.asked) t.steps_are ∙ append_assoc t.back (t.after ++ takes_until page t.used) h.asked ∙ ap (λ s. t.back ++ s) (append_assoc t.after (takes_until page t.used) h.asked)
+
+pub examine_event : (k age epoch page : ℕ) (outcome : Outcome) (steps : List Made) (v : View) → ExamineSteps age epoch page outcome steps → known_epoch v ≡ Some epoch → events_by k v steps ≡ unback_of k epoch page outcome
+examine_event k age epoch page outcome steps v (inl h) known = no_events quiet refl k v steps (without_sized page outcome steps h).only ∙ sym (without_none k epoch page outcome steps h)
+examine_event k age epoch page outcome steps v (inr h) known =
+    let t = h.takes in let rest = takes_until page t.used ++ h.asked in
+    let quiet_rest : Only quiet rest = only_both quiet (takes_until page t.used) h.asked (takes_sized page t.used t.are).only (asks_sized page h.directory true h.asked h.asks).only in
+    ap (events_by k v) (taken_on age epoch page outcome steps h)
+    ∙ events_same quiet refl k v t.back (t.after ++ rest) (back_sized page h.directory t.grains t.back t.puts).only
+    ∙ judged_event k age epoch page t.used outcome t.after rest v t.judged quiet_rest known
+
+-- ==== All grains are put back, and their page is left.
+
+lost : (t : Bool) → now (if t then Lost else Kept) t ≡ false
+lost true = refl
+lost false = refl
+
+may_put : (page : ℕ) (d : Directory) (grains : Mask4) (v : View) → MayPutBack page d grains v → MayPutAndReturn page d grains v
+may_put page d grains v met = record { deed = met.deed; puts = record { held = λ g here. met.at.held g ∙ here; stamped = met.at.stamped page } }
+
+module _ {σ σ1 : Standing} (page : ℕ) (d : Directory) (grains : Mask4) (puts : PutsMask page grains σ σ1) where
+  pub may_return : CanCall σ (MayPutBack page d grains) → CanCall σ1 (KnowsDeed page d)
+  may_return can = may_settle page d grains puts (record { view = can.view; whole = can.whole; stood = can.stood; met = may_put page d grains can.view can.met })
+
+  module _ {σ2 : Standing} (ret : Returned page d σ1 σ2) where
+    -- the grains are gone, and the deed is known still
+    back_call : Calls σ σ2 (MayPutBack page d grains) (λ v w. Does (given_back (masked page grains)) v w × KnowsDeed page d w) (ret.steps ++ puts.steps)
+    back_call = call_knows page d (call_as (Does (given_back (masked page grains))) (returned_call page d grains puts ret) (may_put page d grains) (λ v w met does. does)) (λ v met. met.deed)
+
+    may_leave : (v : View) → MayPutBack page d grains v → Does (given_back (masked page grains)) v ((ret.steps ++ puts.steps) ++ v) × KnowsDeed page d ((ret.steps ++ puts.steps) ++ v) → MayLeave page d ((ret.steps ++ puts.steps) ++ v)
+    may_leave v met back = record { right = back.0.right page ∙ met.at.rights page ∙ same_page page; deed = back.1 }
+
+    pub can_leave : CanCall σ (MayPutBack page d grains) → CanCall σ2 (MayLeave page d)
+    can_leave can = next_call back_call can may_leave
+
+    pub puts_back : {σ3 : Standing} → Leaves page d σ2 σ3 → PutsBack page d grains σ σ3
+    puts_back leave = record {
+      steps = leave.steps ++ (ret.steps ++ puts.steps);
+      calls = call_then (λ v w. HasNothing w) back_call leave.calls may_leave (λ v met back left. record {
+        grains = λ g. left.does.held g ∙ back.0.held g ∙ ap (now (if masked page grains g then Lost else Kept)) (met.at.held g) ∙ lost (masked page grains g);
+        rights = λ q. left.does.right q ∙ ap (now (if page == q then Lost else Kept)) (back.0.right q ∙ met.at.rights q) ∙ lost (page == q);
+        clear = record { on = λ q. subst (λ t. ClearAfter t q v (leave.steps ++ ((ret.steps ++ puts.steps) ++ v))) (kept_kept (page == q)) ((does_then back.0 left.does).clear q) ((is_clear met.at met.ended).on q) };
+      });
+      order = record { puts = puts.steps; order = puts.order; after = ret.steps; returns = ret.order; left = leave.steps; leaves = leave.order; steps_are = refl };
+    }
+
+-- ==== One page whose empty bit was cleared, up to its outcome, and what the steps show of it.
 
 -- ---- the calls
 -- these grains were taken, and the page is no longer examined

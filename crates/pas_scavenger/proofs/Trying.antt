@@ -28,7 +28,7 @@ use Rattle.pas_steps.proofs.Frames.{events_append}
 use Rattle.pas_utility.specs.Outcomes.{pair}
 use Rattle.pas_scavenger.specs.Pages.{ExamineSteps, unback_of, examining, MayExamine, ExaminesPage}
 use Rattle.pas_scavenger.specs.Passes.{Tried, with_outcome, outcomes_in, pages_set, trying, unbacks_in, IsReady, Tries, TriesPage, WordRead, WordSteps, all_tried, passing, Passes}
-use Rattle.pas_scavenger.proofs.States.{at_unhint, rests}
+use Rattle.pas_scavenger.proofs.Examinations.{at_unhint, rests}
 use Rattle.pas_steps.specs.InTurn.{InTurn, numbers_below}
 use Rattle.pas_profile.specs.declared.word.Word.TheVariants as Word
 

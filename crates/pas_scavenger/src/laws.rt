@@ -13,6 +13,7 @@ pub fn used_by_others()
 {}
 
 /// A page is unbacked only while all its grains are held, by a stamp that was read before and is old enough for the epoch.
+#[tactic(auto, using(crate::proofs::Examinations::unbacked_when_old))]
 pub fn unbacked_when_old()
     ensures { (age epoch page : ℕ) (steps : List Made) → ExamineSteps age epoch page Unbacked steps → Once (UnbackedHere age epoch page) steps }
 {}

@@ -26,7 +26,7 @@ fn try_page<D: Desk>(desk: &mut D, page: u32, epoch: u64, out: &mut Outcomes)
     let old = desk.unhint(page);
     if has_page(old, page) {
         let outcome = examine(desk, page, epoch);
-        out.push(page, outcome);
+        out.push((page, outcome));
     }
 }
 

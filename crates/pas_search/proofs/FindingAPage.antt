@@ -1,5 +1,5 @@
 -- The answer of a search: an offered page serves, a page does whose deed was made, or the request is refused; and what it says of the states at entry and exit.
-use Rattle.std.proofs.Common.{◌≡◌, ℕ, ◌+◌, ◌*◌, ◌/◌, ◌<◌, ◌≤◌, true, false, List, [], ◌∷◌, ◌++◌, refl, sym, ◌∙◌, subst, arith, ◌⊎◌, inl, inr, append_assoc, true≢false, ◌≢◌, ◌==◌, if◌then◌else◌, ap, Result, Ok, Err, MatchResult, Bool, length, length-append, suc, Some, None}
+use Rattle.std.proofs.Common.{◌≡◌, ℕ, ◌+◌, ◌*◌, ◌/◌, ◌%◌, ◌&&◌, ◌<◌, ◌≤◌, true, false, List, [], ◌∷◌, ◌++◌, refl, sym, ◌∙◌, subst, arith, ◌⊎◌, inl, inr, append_assoc, true≢false, ◌≢◌, ◌==◌, if◌then◌else◌, ap, Result, Ok, Err, MatchResult, Bool, length, length-append, suc, Some, None}
 use Rattle.std.proofs.lemmas.Bool.{cases_Bool, cases_lt, eq-eqb, ne_eqb}
 use Rattle.pas_profile.specs.declared.directory.Directory.{Directory}
 use Rattle.pas_profile.specs.declared.profile.Profile.{Profile}
@@ -11,7 +11,7 @@ use Rattle.pas_steps.specs.Past.{Once, Always, Since}
 use Rattle.pas_steps.specs.Frames.{OnlyScans}
 use Rattle.pas_steps.proofs.Kept.{scans_look, looks_read, deed_stays}
 use Rattle.pas_steps.proofs.Past.{once_later, once_earlier, once_map}
-use Rattle.pas_steps.specs.Evidence.{UnfitHere, ZeroHere, DeedHere, ParkedHere, ParkedLater, LeftHere, LacksAfter, MissingHere, HeldHere, Accounted, AllDeeds, ReadsDeed, KeptHere, Searched, NoDeedHere, GetsRight, IsAntitone}
+use Rattle.pas_steps.specs.Evidence.{UnfitHere, ZeroHere, DeedHere, ParkedHere, ParkedLater, LeftHere, LacksAfter, MissingHere, HeldHere, Accounted, AllDeeds, ReadsDeed, KeptHere, Searched, NoDeedHere, GetsRight, GetsHere, IsAntitone}
 use Rattle.pas_scan.specs.Marks.{is_marked}
 use Rattle.pas_scan.specs.Scan.{IsMember, AllParked, IsVerdict, last_block, Judges}
 use Rattle.pas_search.specs.Serving.{Rule}
@@ -19,7 +19,8 @@ use Rattle.pas_search.specs.Searches.{search_steps, Searching, AllAccounted, IsR
 use Rattle.pas_search.proofs.PagesThatServe.{no_deeds, served_search, deeds_serves, AreVain, reads_vain, vain_lacks, vain_search, searched, vain_searching, ready, got_search, finds}
 use Rattle.pas_search.proofs.ForBackEnds.{events_quiet, room_kept}
 use Rattle.pas_steps.proofs.Frames.{right_own, events_append, lacks_now}
-use Rattle.pas_profile.specs.Directories.{deed_word_of, number_of}
+use Rattle.pas_profile.specs.Classes.{has_bit}
+use Rattle.pas_profile.specs.Directories.{deed_word_of, deed_word_numbered, number_of}
 use Rattle.pas_profile.specs.Profiles.{IsValid, IsPage, IsDirectoryOf}
 use Rattle.pas_profile.specs.declared.word.Word.TheVariants as Word
 use Rattle.pas_profile.proofs.Codecs.{deed_word_of-positive}
@@ -29,10 +30,11 @@ use Rattle.pas_steps.specs.Lists.{Whole, part, word_after, Legal}
 use Rattle.pas_steps.specs.Desks.{triples, Seat, Standing, AnyView, made, Adds, CanCall}
 use Rattle.pas_steps.specs.declared.step.Step.{Step}
 use Rattle.pas_steps.proofs.Parts.{part_of_own}
-use Rattle.pas_core.proofs.DeedWords.{known_is}
+use Rattle.pas_core.proofs.DeedWords.{known_is, numbered_ne}
 use Rattle.pas_core.proofs.Spots.{is_offered, is_parked, spotted}
 use Rattle.pas_search.specs.Kinds.{searching, AreSearch, IsDeedOrBack, deeds_made}
-use Rattle.pas_search.specs.Telling.{IsOfferedFit, HasNoFit, IsLowestOffered, IsLowestBare, IsInHands, IsTrueReason, IsTold}
+use Rattle.pas_core.specs.Fits.{IsOfferedFit, HasNoFit}
+use Rattle.pas_search.specs.Telling.{IsLowestOffered, IsLowestBare, IsInHands, IsTrueReason, IsTold}
 use Rattle.pas_search.specs.declared.serving.Served.{Served}
 use Rattle.pas_core.proofs.OneActorRights.{spot_same, zero_told, one_told, parked_told, entry_lacks, legal_before, offered_deed, offered_lacks, not_in_hands}
 use Rattle.pas_core.proofs.OneActorGrains.{LendsNone, unfit_entry, unfit_exit, fit_entry, deed_quiet, deed_exit, deed_none, lends_none}
@@ -217,7 +219,7 @@ module _ {F : Type 0} (rule : Rule F) (f : Profile) (k : ℕ) (l : Whole) (d : D
   reason NoSpace is = λ page hands. accounted_out NoSpace is page (is.answer (part k l) agreed page hands.of_region.0 (let high = hands.of_region.1 in omega (arith, high))) hands
   reason (Held p) is = (held_in_hands (Held p) is p is.answer, λ other lt hands. accounted_out (Held p) is other (is.answer.lower (part k l) agreed other hands.of_region.0 lt) hands)
 
-  all_told : (answer : Result (Served F) NoRoom) → MatchResult answer (IsServed rule f d xs) (IsRefused rule.no_fit f d xs) → IsTold (λ (s : Served F). s.page) rule.no_fit f d l w answer
+  pub all_told : (answer : Result (Served F) NoRoom) → MatchResult answer (IsServed rule f d xs) (IsRefused rule.no_fit f d xs) → IsTold (λ (s : Served F). s.page) rule.no_fit f d l w answer
   all_told (Ok served) h = served_told served h
   all_told (Err room) h = (entry_none room h, exit_none room h, reason room h)
 
@@ -233,9 +235,24 @@ pub record Ends {F : Type 0} (rule : Rule F) (d : Directory) (desk desk' : Stand
 pub ends_offered : {F : Type 0} {rule : Rule F} {σ σ1 : Standing} {d' : Directory} (d : Directory) → d' ≡ d → {marks : List ℕ} {served : Served F} → SearchesOffered rule d' σ σ1 marks (Some served) → Ends rule d σ σ1 (Ok served)
 ends_offered {F} {rule} {σ} {σ1} d same {marks} {served} found = let offered : SearchesOffered rule d σ σ1 marks (Some served) = subst (λ x. SearchesOffered rule x σ σ1 marks (Some served)) same found in
     let o = offered.outcome in
-    record { steps = offered.steps; adds = offered.adds; searches = offered.searches; few = omega (arith, offered.few); outcome = record { page = o.page; keeps = o.keeps; choice = inl o.choice; shows = o.shows; serves = o.serves; few = o.few; events = o.events } }
+    record { steps = offered.steps; adds = offered.adds; searches = offered.searches; few = omega (arith, offered.few); outcome = record { page = o.page; keeps = o.keeps; choice = inl o.choice; shows = o.shows; serves = o.serves; marks = o.marks; few = o.few; events = o.events } }
 
 -- ---- by a deed
+-- a page that was got has a deed
+got_here : (p : ℕ) (s : Step) (a known : ℕ) → GetsRight p s a → deed_after s a p known ≢ 0
+got_here p s a known (GetsRight.Claims d b bit) none =
+    let word = deed_word_numbered (number_of d) in
+    let here = ap (λ t. if t && has_bit b (p % 64) then word else known) (eq-eqb (p / 64) (p / 64) refl) ∙ ap (λ t. if t then word else known) bit in
+    numbered_ne (number_of d) (sym here ∙ none)
+got_here p s a known (GetsRight.Deeds d b made_it) none =
+    let here = ap (λ t. if t then (if b == 0 then deed_word_of d else b) else known) (eq-eqb p p refl) ∙ ap (λ t. if t then deed_word_of d else b) (eq-eqb b 0 made_it) in
+    deed_word_of-positive d (sym here ∙ none)
+
+got_known : (f : Profile) (p : ℕ) (xs : List Made) (v : View) → Agreed f v xs → Once (GetsHere p) xs → known_deed (xs ++ v) p ≢ 0
+got_known f p [] v agreed got none = got
+got_known f p (m ∷ xs) v agreed (inl gets) none = got_here p m.step m.answer (known_deed (xs ++ v) p) gets none
+got_known f p (m ∷ xs) v agreed (inr got) none = let some = got_known f p xs v agreed.1 got in some (sym (deed_stays f (m ∷ []) (xs ++ v) p (agreed.0, tt) some) ∙ none)
+
 module _ {F : Type 0} (rule : Rule F) (f : Profile) (d : Directory) (marks : List ℕ) (os steps : List Made) (s : Searching rule.no_fit f d (f.pages + 1) marks os) (served : Served F) (bare : ServesBare rule f d steps served) where
   abbrev m : Made
   m = made (Deed served.page d) 0
@@ -262,7 +279,7 @@ module _ {F : Type 0} (rule : Rule F) (f : Profile) (d : Directory) (marks : Lis
   }
 
   deed_search : AreSearch (steps ++ os)
-  deed_search = subst AreSearch (sym all_steps) (served_search served.page bare.serve (m ∷ ws) bare.serves.only (inl (GetsRight.Deeds d 0 refl)) (got_search f d served.page m ws (GetsRight.Deeds d 0 refl) now.searches))
+  deed_search = subst AreSearch (sym all_steps) (served_search served.page bare.serve (m ∷ ws) bare.serves.only bare.serves.hints (inl (GetsRight.Deeds d 0 refl)) (got_search f d served.page m ws (GetsRight.Deeds d 0 refl) now.searches))
 
   deed_serves : IsServed rule f d (steps ++ os) served
   deed_serves = subst (λ call. IsServed rule f d call served) (sym all_steps)
@@ -274,7 +291,7 @@ module _ {F : Type 0} (rule : Rule F) (f : Profile) (d : Directory) (marks : Lis
       let counts : length (events_by k v call) ≡ length (events_by k ((m ∷ ws) ++ v) bare.serve) + length (events_by k v (m ∷ ws)) = ap length (events_append k bare.serve (m ∷ ws) v) ∙ length-append (events_by k ((m ∷ ws) ++ v) bare.serve) (events_by k v (m ∷ ws)) in
       let deed = one_deed in
       (omega (arith, one, some, counts, deed), λ known. absurd (unknown f v served.page call agreed (once_later (NoDeedHere served.page) bare.serve (m ∷ ws) (inl (ReadsDeed.Deeds d, refl))) (known served.page bare.page))))
-      (inr IsDeedOrBack.Deeds) now.quiet)
+      (inr IsDeedOrBack.Deeds) now.quiet now.searches (λ v agreed got. unknown f (ws ++ v) served.page (m ∷ []) (agreed.0, tt) (inl (ReadsDeed.Deeds d, refl)) (got_known f served.page ws v agreed.1 got)))
 
 -- what the search of offered pages asks
 pub may_can : {σ : Standing} {f : Profile} {d : Directory} {n spare : ℕ} → CanCall σ (SearchRoom f d n spare) → CanCall σ (MaySearch d)

@@ -6,9 +6,11 @@ use Rattle.pas_profile.specs.declared.directory.Directory.{Directory}
 use Rattle.pas_profile.specs.declared.event.Event.{Event}
 use Rattle.pas_profile.proofs.Codecs.{deed_word_of-positive}
 use Rattle.pas_rights.specs.Leaves.{MayLeave, Leaves}
+use Rattle.pas_rights.specs.Looks.{HintsEmpty}
 use Rattle.pas_rights.specs.PutsBack.{taking_grains}
 use Rattle.pas_rights.specs.Takes.{taken}
 use Rattle.pas_rights.proofs.Debts.{leave_lacks}
+use Rattle.pas_rights.proofs.Hints.{hints_both, leave_hints}
 use Rattle.pas_steps.specs.Agreement.{Agreed}
 use Rattle.pas_steps.specs.Allowed.{Allowed}
 use Rattle.pas_steps.specs.Calls.{Calls, Leads, Kept, Gained, Lost, now, ClearAfter, Does}
@@ -17,7 +19,7 @@ use Rattle.pas_steps.specs.Events.{with_event, events_by}
 use Rattle.pas_steps.specs.Evidence.{Readings, ShowsHere, KeptHere, GetsHere, UnfitHere}
 use Rattle.pas_steps.specs.Frames.{IsOnPage, OnlyOn, KeepsRight}
 use Rattle.pas_steps.specs.Kinds.{Backing, Only, kind_of, place_of, is_in, showing, returning}
-use Rattle.pas_steps.specs.Past.{Once, Since}
+use Rattle.pas_steps.specs.Past.{Once, Always, Since}
 use Rattle.pas_steps.specs.Views.{View, holds, holds_on, has_right, known_free, knows_backed, KnowsDeed}
 use Rattle.pas_steps.specs.declared.step.Made.{Made}
 use Rattle.pas_steps.specs.declared.step.Step.TheVariants.{Back}
@@ -30,8 +32,8 @@ use Rattle.pas_steps.proofs.Frames.{rights_stay}
 use Rattle.pas_steps.proofs.Kept.{returns_on}
 use Rattle.pas_steps.proofs.Past.{once_later, always_both, always_map, since_once}
 use Rattle.pas_steps.proofs.Sets.{kept_kept}
-use Rattle.pas_search.specs.Kinds.{serving, IsQuiet, AreQuiet}
-use Rattle.pas_search.specs.Serving.{Rule, MayServe, HoldsNone, GotBefore, right_of, Keeps, ReadsNoneHeld, KeepsPage, ServesPage}
+use Rattle.pas_search.specs.Kinds.{serving, KeepsMarks, IsQuiet, AreQuiet}
+use Rattle.pas_search.specs.Serving.{Rule, MayServe, HoldsNone, GotBefore, right_of, Keeps, ReadsNoneHeld, ServesPage}
 use Rattle.pas_search.proofs.ForBackEnds.{unfit_left}
 
 pub quiet_by : (steps : List Made) → Only taking_grains steps → AreQuiet steps
@@ -47,6 +49,7 @@ abbrev pub on_page : ℕ → (ℕ → Bool) → ℕ → Bool
 on_page page kept g = (page == g / 256) && kept (g % 256)
 
 -- These grains were taken and no others, and the right was kept. Each free word was read with the right, and no grain that was held is one of the readings.
+-- Where some are taken, the page is neither offered, parked nor hinted.
 pub record Prepares (page : ℕ) (d : Directory) (r : Readings) (kept : ℕ → Bool) (desk desk' : Standing) : Type 0 where
   pub steps : List Made
   pub calls : Calls desk desk' (MayServe page d) (Does (taken (on_page page kept))) steps
@@ -55,6 +58,8 @@ pub record Prepares (page : ℕ) (d : Directory) (r : Readings) (kept : ℕ → 
   pub keeps : KeepsRight page steps
   pub read : (before : List Made) → GotBefore page before → (word : ℕ) → word < 4 → Since (ShowsHere page word r) (KeptHere page) (steps ++ before)
   pub held : Leads desk.seat.profile (MayServe page d) (ReadsNoneHeld page r) steps
+  pub hints : Always HintsEmpty steps
+  pub marks : (b : ℕ) × (b < 256) × (kept b ≡ true) → Always (KeepsMarks page) steps
 
 module _ {Found : Type 0} (rule : Rule Found) (page : ℕ) (d : Directory) (r : Readings) (kept : ℕ → Bool) {σ σ1 : Standing} (p : Prepares page d r kept σ σ1) where
   -- the grains are got, and the deed is known still
@@ -89,10 +94,12 @@ module _ {Found : Type 0} (rule : Rule Found) (page : ℕ) (d : Directory) (r : 
           kinds = only_within taking_grains serving (left.steps ++ p.steps) refl left_kinds;
           on = always_both (λ m before. IsOnPage page m.step) (λ m before. IsOnPage page m.step) left.steps p.steps (λ m before h. h) (returns_on page left.steps left.returns) p.on;
         };
+        hints = hints_both left.steps p.steps (leave_hints page d left.steps left.order) p.hints;
         few = λ k v. subst (λ es. length es ≤ rule.events) (sym (no_events taking_grains refl k v (left.steps ++ p.steps) left_kinds)) (omega arith);
         short = let all = length-append left.steps p.steps in let a = left.few in omega (arith, all, a, short);
         outcome = record {
           leaves = left_call.leads;
+          left = record { before = p.steps; leave = left.steps; order = left.order; steps_are = refl };
           quiet = quiet_by (left.steps ++ p.steps) left_kinds;
           untouched = λ before got. record {
             right = ap (λ s. has_right s page) (append_assoc left.steps p.steps before) ∙ leave_lacks page d left.steps (p.steps ++ before) left.order;
@@ -147,11 +154,13 @@ module _ {Found : Type 0} (rule : Rule Found) (page : ℕ) (d : Directory) (r : 
         adds = back_call.adds;
         serves = record {
           only = record { kinds = (refl, only_within taking_grains serving p.steps refl p.kinds); on = (IsOnPage.Backs, p.on) };
+          hints = ((λ q same. cc), p.hints);
           few = λ k v. let none : length (events_by k v p.steps) ≡ 0 = ap length (no_events taking_grains refl k v p.steps p.kinds) in
               cond_both (a == 0) (Some (Event.Back k page)) None (λ o. length (with_event o (events_by k v p.steps)) ≤ rule.events) (λ made. omega (arith, none, one)) (λ silent. omega (arith, none));
           short = omega (arith, short);
           outcome = record {
             keeps = back_call.leads;
+            marks = ((λ is. elim is [ ]), p.marks some);
             shows = λ before got. record {
               readings = r;
               fits = fits;

@@ -16,7 +16,7 @@ use Rattle.pas_steps.proofs.Apart.{only_within, only_both, in_apart, same_over}
 use Rattle.pas_steps.proofs.Calls.{does_none, does_then, does_as, does_step, right_is, leads_then, does_after_nothing, kept_first, leads_as}
 use Rattle.pas_steps.proofs.Frames.{events_append, right_own, with_few}
 use Rattle.pas_steps.proofs.Past.{always_both, always_map, once_later, once_earlier}
-use Rattle.pas_search.specs.Kinds.{serving, searching, OnlyServes, IsReturnOf, ReturnsGot, AreSearch, IsQuiet, AreQuiet, IsDeedOrBack, EventsAt, makes_deed, deeds_made}
+use Rattle.pas_search.specs.Kinds.{serving, searching, OnlyServes, IsReturnOf, ReturnsDuly, KeepsMarks, AreSearch, IsQuiet, AreQuiet, IsDeedOrBack, EventsAt, makes_deed, deeds_made}
 use Rattle.std.proofs.Math.Nat.{mul-le-mul_right, suc-mul}
 use Rattle.std.proofs.lemmas.Bool.{eq-eqb, eqb-true, ne_eqb, cases_Bool, cases_lt, cases_eq}
 use Rattle.pas_profile.specs.Classes.{has_bit}
@@ -29,6 +29,9 @@ use Rattle.pas_search.specs.Serving.{righted, IsUntouched, Rule, MayServe, GotBe
 use Rattle.pas_scan.specs.Marks.{is_marked}
 use Rattle.pas_scan.specs.Rows.{row_end, row_words, words_to}
 use Rattle.pas_search.specs.Searches.{offered_steps, OfferedHere, Searching, MaySearch, FromOffered, KeepsFound, FewEvents, Finds, GoesOn, SearchesOffered, BareRoom, SearchesBare}
+use Rattle.pas_rights.specs.Looks.{HintsEmpty}
+use Rattle.pas_rights.specs.Puts.{PutsHere}
+use Rattle.pas_search.proofs.Returns.{duly_on, never_returned}
 use Rattle.pas_search.proofs.ForBackEnds.{events_quiet, room_after, room_kept}
 use Rattle.pas_profile.specs.Profiles.{IsPage}
 use Rattle.pas_steps.specs.Clear.{IsClear}
@@ -41,20 +44,9 @@ use Rattle.pas_steps.proofs.Evidence.{zero_before, deed_known, deed_before, unkn
 use Rattle.pas_steps.proofs.Sets.{got_lost}
 
 -- ---- kinds
--- a back end returns its own page alone
-return_page : (p q : ℕ) (s : Step) → IsReturnOf q s → IsOnPage p s → q ≡ p
-return_page p q s (IsReturnOf.Offers e) (IsOnPage.Offers d) = refl
-return_page p q s IsReturnOf.Parks IsOnPage.Parks = refl
-return_page p q s IsReturnOf.Unparks IsOnPage.Unparks = refl
-return_page p q s IsReturnOf.Hints IsOnPage.Hints = refl
-
-serves_return : (p : ℕ) (ys xs : List Made) → OnlyOn p ys → Once (GetsHere p) xs → Always ReturnsGot xs → Always ReturnsGot (ys ++ xs)
-serves_return p [] xs on got all = all
-serves_return p (y ∷ ys) xs on got all = (λ q is. subst (λ r. Once (GetsHere r) (ys ++ xs)) (sym (return_page p q y.step is on.0)) (once_later (GetsHere p) ys xs got), serves_return p ys xs on.1 got all)
-
 -- a search goes on with a page whose right it got
-pub served_search : (p : ℕ) (ys xs : List Made) → OnlyServes p ys → Once (GetsHere p) xs → AreSearch xs → AreSearch (ys ++ xs)
-served_search p ys xs only got are = record { kinds = only_both searching ys xs (only_within serving searching ys refl only.kinds) are.kinds; returns = serves_return p ys xs only.on got are.returns }
+pub served_search : (p : ℕ) (ys xs : List Made) → OnlyServes p ys → Always HintsEmpty ys → Once (GetsHere p) xs → AreSearch xs → AreSearch (ys ++ xs)
+served_search p ys xs only hints got are = record { kinds = only_both searching ys xs (only_within serving searching ys refl only.kinds) are.kinds; returns = duly_on p ys xs only.on hints got are.returns }
 
 -- ---- events
 -- the events of steps, where those before made none
@@ -168,10 +160,14 @@ vain_lacks p (m ∷ more) xs vain none all = (vain_right p (m ∷ more) xs vain 
 vain_quiet : (steps : List Made) → AreVain steps → AreQuiet steps
 vain_quiet steps = always_map (λ m before. IsVain m) (λ m before. IsQuiet m) steps (λ m before h. h.quiet)
 
+-- a step that returns no page
+returns_none : (m : Made) (before : List Made) → ((q : ℕ) → IsReturnOf q m.step → ⊥) → ReturnsDuly m before
+returns_none m before none = (λ q is. absurd (none q is), λ q same. absurd (none q (subst (IsReturnOf q) (sym same) IsReturnOf.Hints)))
+
 pub vain_search : (ys xs : List Made) → AreVain ys → AreSearch xs → AreSearch (ys ++ xs)
 vain_search ys xs vain are = record {
   kinds = always_both (λ m before. IsVain m) (λ m before. is_in searching (kind_of m.step) ≡ true) ys xs (λ m before h. h.rights.kind) vain are.kinds;
-  returns = always_both (λ m before. IsVain m) ReturnsGot ys xs (λ m before h q is. absurd (h.rights.returns q is)) vain are.returns;
+  returns = always_both (λ m before. IsVain m) ReturnsDuly ys xs (λ m before h. returns_none m (before ++ xs) h.rights.returns) vain are.returns;
 }
 
 offered_before : (d : Directory) (p : ℕ) (ys xs : List Made) → AreVain ys → has_right xs p ≡ false → Always (LacksAfter p) xs → Once (OneHere d p) ys → Once (OfferedHere d p) (ys ++ xs)
@@ -236,7 +232,7 @@ module _ (f : Profile) (d : Directory) (page : ℕ) (m : Made) (ws : List Made) 
   got_before h = record { right = got_right ws; got = inl gets; none = λ g at. holds_then (λ q. if page == q then Gained else Kept) m ws g turns ∙ h.none g at; newest = gets }
 
   pub got_search : AreSearch ws → AreSearch (m ∷ ws)
-  got_search are = record { kinds = (turns.kind, are.kinds); returns = (λ q is. absurd (turns.returns q is), are.returns) }
+  got_search are = record { kinds = (turns.kind, are.kinds); returns = (returns_none m ws turns.returns, are.returns) }
 
   pub ready : {B : View → Type 0} → ((v : View) → B v → IsClear v) → Leads f B (Does nothing) ws → ((v : View) → Agreed f v (m ∷ ws) → KnowsDeed page d (m ∷ (ws ++ v))) → Leads f B (IsReady page d) (m ∷ ws)
   ready clear still deed = record {
@@ -248,8 +244,8 @@ module _ (f : Profile) (d : Directory) (page : ℕ) (m : Made) (ws : List Made) 
   -- ---- the back end's steps
   module _ {F : Type 0} (rule : Rule F) (zs : List Made) (ready : Leads f (MaySearch d) (IsReady page d) (m ∷ ws)) (untouched : IsUntouched page ws) where
     pub finds : (found : F) (Choice : List Made → Type 0) → ServeSteps rule f page d zs (Some found) → IsPage f page → Choice (zs ++ (m ∷ ws)) → FewEvents f d rule.events (zs ++ (m ∷ ws)) → IsQuiet m ⊎ IsDeedOrBack d page m.step → AreQuiet ws
-        → Finds rule f d Choice (zs ++ (m ∷ ws)) (record { page = page; found = found })
-    finds found Choice serve is choice few event quiet =
+        → AreSearch ws → ((v : View) → Agreed f v (m ∷ ws) → Once (GetsHere page) ws → ⊥) → Finds rule f d Choice (zs ++ (m ∷ ws)) (record { page = page; found = found })
+    finds found Choice serve is choice few event quiet are never =
         let shows = serve.outcome.shows (m ∷ ws) (got_before untouched) in
         let kept : Leads f (MayServe page d) (λ w u. Keeps rule page found w u × KnowsDeed page d u) zs = record { from = λ w may agreed. (serve.outcome.keeps.from w may agreed, knows_still f d page zs w agreed may.deed) } in
         record {
@@ -264,9 +260,17 @@ module _ (f : Profile) (d : Directory) (page : ℕ) (m : Made) (ws : List Made) 
             held = leads_then (ReadsNoneHeld page shows.readings) ready shows.held (λ v w met r. r.may) (λ v w u r h g at has. h g at (r.got.held g ∙ has));
           };
           serves = serve.outcome.serves (m ∷ ws) (got_before untouched);
+          marks = λ v met agreed. always_both (KeepsMarks page) (KeepsMarks page) zs (m ∷ ws) (λ n before h is. let put = h is in (put.0, once_earlier (PutsHere page) (PutsHere page) before (m ∷ ws) (λ x b puts. puts) put.1)) serve.outcome.marks
+              (λ is. absurd (turns.returns page is), never_returned page ws (never v (agreed_later f v zs (m ∷ ws) agreed)) are.returns);
           few = few;
           events = serves_events d page zs (m ∷ ws) serve.only (event, always_map (λ m before. IsQuiet m) (λ m before. IsQuiet m ⊎ IsDeedOrBack d page m.step) ws (λ m before q. inl q) quiet);
         }
+
+-- a page whose right the call never had was never got
+never_got : (p : ℕ) (xs : List Made) → Always (LacksAfter p) xs → Once (GetsHere p) xs → ⊥
+never_got p [] lacks got = got
+never_got p (m ∷ xs) lacks (inl gets) = true≢false (sym (right_then (λ q. if p == q then Gained else Kept) m xs p (gets_rights p m.step m.answer gets) ∙ ap (λ t. now (if t then Gained else Kept) (has_right xs p)) (eq-eqb p p refl)) ∙ lacks.0)
+never_got p (m ∷ xs) lacks (inr got) = never_got p xs lacks.1 got
 
 -- ---- how many steps are made
 offered_grows : (each words : ℕ) {a b : ℕ} → a ≤ b → offered_steps each words a ≤ offered_steps each words b
@@ -301,8 +305,8 @@ module _ {F : Type 0} (rule : Rule F) (f : Profile) (d : Directory) (page : ℕ)
   }
 
   -- it serves
-  from_offered : (found : F) → ServeSteps rule f page d zs (Some found) → IsPage f page → Once (OfferedHere d page) ws → Finds rule f d (FromOffered rule.no_fit d page) (zs ++ (m ∷ ws)) (record { page = page; found = found })
-  from_offered found serve is offered = finds f d page m ws gets rule zs ready (s.untouched page) found (FromOffered rule.no_fit d page) serve is
+  from_offered : (found : F) → ServeSteps rule f page d zs (Some found) → IsPage f page → is_marked marks page ≡ false → Once (OfferedHere d page) ws → Finds rule f d (FromOffered rule.no_fit d page) (zs ++ (m ∷ ws)) (record { page = page; found = found })
+  from_offered found serve is unmarked offered = finds f d page m ws gets rule zs ready (s.untouched page) found (FromOffered rule.no_fit d page) serve is
       (record {
         offered = once_later (OfferedHere d page) zs (m ∷ ws) (inr offered);
         searched = λ p low high. elim (cases_Bool (is_marked marks p)) [
@@ -312,7 +316,7 @@ module _ {F : Type 0} (rule : Rule F) (f : Profile) (d : Directory) (page : ℕ)
         no_deed = deeds_serves zs (m ∷ ws) serve.only.kinds ∙ no_deeds (m ∷ ws) (quiet, s.quiet);
       })
       (λ k v agreed. let few : length (events_by k v (zs ++ (m ∷ ws))) ≤ rule.events = subst (λ es. length es ≤ rule.events) (sym (events_after_quiet k v zs (m ∷ ws) (quiet, s.quiet))) (serve.few k ((m ∷ ws) ++ v)) in (omega (arith, few), λ known. few))
-      (inl quiet) s.quiet
+      (inl quiet) s.quiet s.searches (λ v agreed. never_got page ws (s.lacked page unmarked))
 
   -- it was left
   pub goes_on : (marks' : List ℕ) → ((p : ℕ) → is_marked marks' p ≡ ((page == p) || is_marked marks p)) → ServeSteps rule f page d zs None → ((v : View) → MaySearch d v → Agreed f v ws → has_right v page ≡ false) → ((p : ℕ) → page ≤ p → is_marked marks p ≡ false)
@@ -326,7 +330,7 @@ module _ {F : Type 0} (rule : Rule F) (f : Profile) (d : Directory) (page : ℕ)
       record {
         searching = record {
           still = leads_then (Does nothing) lacking left.leaves (λ v w met r. r.0.may) (λ v w u r b. got_left page r.1 r.0.got b);
-          searches = served_search page zs (m ∷ ws) serve.only (inl gets) (got_search f d page m ws gets s.searches);
+          searches = served_search page zs (m ∷ ws) serve.only serve.hints (inl gets) (got_search f d page m ws gets s.searches);
           quiet = always_both (λ m before. IsQuiet m) (λ m before. IsQuiet m) zs (m ∷ ws) (λ m before h. h) left.quiet (quiet, s.quiet);
           untouched = λ p. elim (cases_eq p page) [
             | inl e ↦ subst (λ q. IsUntouched q (zs ++ (m ∷ ws))) (sym e) (left.untouched (m ∷ ws) got)
@@ -452,8 +456,8 @@ module _ {F : Type 0} {rule : Rule F} {σ0 σ : Standing} {d : Directory} {next 
             steps = serve.steps ++ claimed;
             adds = serve_adds (Some found) serve;
             few = let most = few_after serve.steps serve.serves.short in let all = offered_grows rule.steps (row_words f.pages) first.of_region.1 in omega (arith, most, all);
-            searches = served_search page serve.steps claimed serve.serves.only (inl (GetsRight.Claims d a bit)) (got_search f d page (made (TakeRight page d) a) looked (GetsRight.Claims d a bit) s.searches);
-            outcome = from_offered rule f d page marks (made (TakeRight page d) a) looked serve.steps (GetsRight.Claims d a bit) (λ k e. refl) (IsOnPage.Claims d, tt) serve.serves.only.on got s found (serve_at (Some found) serve) first.of_region
+            searches = served_search page serve.steps claimed serve.serves.only serve.serves.hints (inl (GetsRight.Claims d a bit)) (got_search f d page (made (TakeRight page d) a) looked (GetsRight.Claims d a bit) s.searches);
+            outcome = from_offered rule f d page marks (made (TakeRight page d) a) looked serve.steps (GetsRight.Claims d a bit) (λ k e. refl) (IsOnPage.Claims d, tt) serve.serves.only.on got s found (serve_at (Some found) serve) first.of_region (rest_at page (omega arith))
                 (offered_before d page find.steps earlier vain (tries.goes.searching.untouched page).right (tries.goes.searching.lacked page (rest_at page (omega arith))) first.one);
           }
 

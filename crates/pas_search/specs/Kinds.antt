@@ -1,6 +1,8 @@
 -- Kinds of steps of a search, and which events they make.
 use Rattle.std.specs.Prelude.{◌⊎◌, ℕ, ◌≡◌, ◌==◌, suc, Bool, false, if◌then◌else◌, List, [], ◌∷◌, None}
 use Rattle.pas_profile.specs.declared.directory.Directory.{Directory}
+use Rattle.pas_rights.specs.Looks.{HintsEmpty}
+use Rattle.pas_rights.specs.Puts.{PutsHere}
 use Rattle.pas_steps.specs.Past.{Once, Always}
 use Rattle.pas_steps.specs.Events.{event_of}
 use Rattle.pas_steps.specs.Evidence.{GetsHere}
@@ -34,10 +36,20 @@ pub data IsReturnOf (page : ℕ) : Step → Type 0 where
 abbrev pub ReturnsGot : Made → List Made → Type 0
 ReturnsGot m before = (page : ℕ) → IsReturnOf page m.step → Once (GetsHere page) before
 
--- the steps of a search, which offers, parks, unparks and hints no page but those whose right it got
+-- and a page that it hints was read as backed, and each of its grains as free
+abbrev pub ReturnsDuly : Made → List Made → Type 0
+ReturnsDuly m before = ReturnsGot m before × HintsEmpty m before
+
+-- The steps of a search, which offers, parks, unparks and hints no page but those whose right it got, and hints only those that it read as backed
+-- and empty.
 pub record AreSearch (steps : List Made) : Type 0 where
   pub kinds : Only searching steps
-  pub returns : Always ReturnsGot steps
+  pub returns : Always ReturnsDuly steps
+
+-- ---- the page that serves
+-- the step doesn't offer, park or hint the page, and takes it back from the parked pages only after grains of it were put back
+abbrev pub KeepsMarks : ℕ → Made → List Made → Type 0
+KeepsMarks page m before = IsReturnOf page m.step → (m.step ≡ Unpark page) × Once (PutsHere page) before
 
 -- ---- events
 -- the steps made no event, whoever made them

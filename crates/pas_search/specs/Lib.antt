@@ -2,3 +2,4 @@ pub mod Kinds
 pub mod Serving
 pub mod Searches
 pub mod Telling
+pub mod Alone

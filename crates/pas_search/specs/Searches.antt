@@ -20,7 +20,7 @@ use Rattle.pas_steps.specs.declared.step.Made.{Made}
 use Rattle.pas_steps.specs.declared.step.Step.TheVariants.{Deed}
 use Rattle.pas_scan.specs.Marks.{is_marked}
 use Rattle.pas_scan.specs.Rows.{row_words}
-use Rattle.pas_search.specs.Kinds.{AreSearch, AreQuiet, EventsAt, deeds_made}
+use Rattle.pas_search.specs.Kinds.{AreSearch, KeepsMarks, AreQuiet, EventsAt, deeds_made}
 use Rattle.pas_search.specs.Serving.{Rule, IsUntouched, Keeps, ShowsFit, ServeSteps}
 use Rattle.pas_search.specs.Telling.{IsTold}
 use Rattle.pas_search.specs.declared.serving.Served.{Served}
@@ -85,6 +85,10 @@ pub record KeepsFound {F : Type 0} (rule : Rule F) (d : Directory) (served : Ser
   pub keeps : Keeps rule served.page served.found v w
   pub deed : KnowsDeed served.page d w
 
+-- the page was neither offered, parked nor hinted
+abbrev pub KeepsItsMarks : Profile → Directory → ℕ → List Made → Type 0
+KeepsItsMarks f d page steps = (v : View) → MaySearch d v → Agreed f v steps → Always (KeepsMarks page) steps
+
 -- at most n events were made beside the deeds, and no more than n in all where all deeds were known
 abbrev pub FewEvents : Profile → Directory → ℕ → List Made → Type 0
 FewEvents f d n steps = (k : ℕ) (v : View) → Agreed f v steps → (length (events_by k v steps) ≤ n + deeds_made steps) × (KnowsAllDeeds f v → length (events_by k v steps) ≤ n)
@@ -96,6 +100,7 @@ pub record Finds {F : Type 0} (rule : Rule F) (f : Profile) (d : Directory) (Cho
   pub choice : Choice steps
   pub shows : ShowsFit rule.no_fit (rule.kept served.found) f served.page (MaySearch d) steps steps
   pub serves : rule.serves served.page steps served.found
+  pub marks : KeepsItsMarks f d served.page steps
   pub few : FewEvents f d rule.events steps
   pub events : EventsAt d served.page steps
 

@@ -9,9 +9,11 @@ use Rattle.pas_steps.specs.Calls.{Leads, Fate, Kept, Gained, Lost, Effect, Does}
 use Rattle.pas_steps.specs.Clear.{IsClearOn}
 use Rattle.pas_steps.specs.Desks.{Standing, Adds}
 use Rattle.pas_steps.specs.Evidence.{Readings, ShowsHere, GetsHere, UnfitHere}
-use Rattle.pas_steps.specs.Past.{Once}
+use Rattle.pas_rights.specs.Leaves.{LeaveSteps}
+use Rattle.pas_rights.specs.Looks.{HintsEmpty}
+use Rattle.pas_steps.specs.Past.{Once, Always}
 use Rattle.pas_steps.specs.declared.step.Made.{Made}
-use Rattle.pas_search.specs.Kinds.{OnlyServes, AreQuiet}
+use Rattle.pas_search.specs.Kinds.{OnlyServes, AreQuiet, KeepsMarks}
 
 -- ---- what a back end means by its answers
 pub record Rule (Found : Type 0) : Type 1 where
@@ -87,24 +89,34 @@ pub record ShowsFit (no_fit : Readings → Type 0) (kept : ℕ → Bool) (f : Pr
   pub read : (word : ℕ) → word < 4 → Once (ShowsHere page word readings) call
   pub held : Leads f Meets (ReadsNoneHeld page readings) steps
 
+-- the last of these steps are those of a leave: the page is offered or parked by what was read of it
+pub record EndsWithLeave (page : ℕ) (d : Directory) (steps : List Made) : Type 0 where
+  pub before : List Made
+  pub leave : List Made
+  pub order : LeaveSteps page d leave
+  pub steps_are : steps ≡ leave ++ before
+
 -- Nothing fits, which one reading of the four free words shows. The page was left: its right is gone, and all else is as it was. No event was
 -- made. A page all of whose grains are known as free isn't left so.
 pub record LeavesPage {Found : Type 0} (rule : Rule Found) (f : Profile) (page : ℕ) (d : Directory) (steps : List Made) : Type 0 where
   pub leaves : Leads f (MayServe page d) (Does (right_of page Lost)) steps
+  pub left : EndsWithLeave page d steps
   pub quiet : AreQuiet steps
   pub untouched : (before : List Made) → GotBefore page before → IsUntouched page (steps ++ before)
   pub unfit : (before : List Made) → GotBefore page before → Once (UnfitHere rule.no_fit page) (steps ++ before)
   pub not_free : (v : View) → MayServe page d v → Agreed f v steps → ((g : ℕ) → g / 256 ≡ page → known_free v g ≡ true) → ⊥
 
--- The page serves: what the answer says of it is kept.
+-- The page serves: what the answer says of it is kept. It was neither offered, parked nor hinted.
 pub record KeepsPage {Found : Type 0} (rule : Rule Found) (f : Profile) (page : ℕ) (d : Directory) (steps : List Made) (found : Found) : Type 0 where
   pub keeps : Leads f (MayServe page d) (Keeps rule page found) steps
+  pub marks : Always (KeepsMarks page) steps
   pub shows : (before : List Made) → GotBefore page before → ShowsFit rule.no_fit (rule.kept found) f page (MayServe page d) steps (steps ++ before)
   pub serves : (before : List Made) → GotBefore page before → rule.serves page (steps ++ before) found
 
 -- the steps of one call of a back end on the page
 pub record ServeSteps {Found : Type 0} (rule : Rule Found) (f : Profile) (page : ℕ) (d : Directory) (steps : List Made) (answer : Option Found) : Type 0 where
   pub only : OnlyServes page steps
+  pub hints : Always HintsEmpty steps
   pub few : (k : ℕ) (v : View) → length (events_by k v steps) ≤ rule.events
   pub short : length steps ≤ rule.steps
   pub outcome : MatchOption answer (LeavesPage rule f page d steps) (KeepsPage rule f page d steps)

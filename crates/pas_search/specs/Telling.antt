@@ -1,5 +1,5 @@
 -- What a search says of the states at its entry and its exit, on a desk that tells the whole state.
-use Rattle.std.specs.Prelude.{ℕ, ◌<◌, ◌≤◌, ◌≡◌, ◌⊎◌, true, false, Result, MatchResult}
+use Rattle.std.specs.Prelude.{ℕ, ◌<◌, ◌≤◌, ◌≡◌, ◌⊎◌, false, Result, MatchResult}
 use Rattle.pas_profile.specs.Profiles.{IsPage}
 use Rattle.pas_profile.specs.Directories.{deed_word_of, number_of}
 use Rattle.pas_profile.specs.declared.directory.Directory.{Directory}
@@ -8,24 +8,9 @@ use Rattle.pas_profile.specs.declared.event.NoRoom.{NoRoom}
 use Rattle.pas_profile.specs.declared.event.NoRoom.TheVariants.{NoSpace, Held}
 use Rattle.pas_profile.specs.declared.word.Word.TheVariants as Word
 use Rattle.pas_steps.specs.Lists.{Whole, word_after}
-use Rattle.pas_core.specs.Rights.{eligible_bit, parked_bit, free_of_page}
+use Rattle.pas_core.specs.Fits.{IsOfferedFit, IsBarePage, HasNoFit}
+use Rattle.pas_core.specs.Rights.{eligible_bit, parked_bit}
 use Rattle.pas_steps.specs.Evidence.{Readings}
-
--- the page is offered to the directory, and fits
-pub record IsOfferedFit (no_fit : Readings → Type 0) (f : Profile) (d : Directory) (l : Whole) (page : ℕ) : Type 0 where
-  pub of_region : IsPage f page
-  pub offered : eligible_bit l (number_of d) page ≡ true
-  pub fits : no_fit (free_of_page l page) → ⊥
-
--- the page has no deed
-pub record IsBarePage (f : Profile) (l : Whole) (page : ℕ) : Type 0 where
-  pub of_region : IsPage f page
-  pub no_deed : word_after l (Word.Deed page) ≡ 0
-
--- no page can serve
-pub record HasNoFit (no_fit : Readings → Type 0) (f : Profile) (d : Directory) (l : Whole) : Type 0 where
-  pub offered : (page : ℕ) → IsOfferedFit no_fit f d l page → ⊥
-  pub bare : (page : ℕ) → IsBarePage f l page → ⊥
 
 -- the lowest page that is offered and fits
 pub record IsLowestOffered (no_fit : Readings → Type 0) (f : Profile) (d : Directory) (l : Whole) (page : ℕ) : Type 0 where

@@ -4,6 +4,7 @@
 
 mod bare;
 mod finding;
+pub mod laws;
 mod offered;
 mod serving;
 

@@ -1,5 +1,5 @@
 -- The two ends of a page that was to serve: its slots are kept, or it was left. And what a search found, as slots.
-use Rattle.std.proofs.Common.{◌≡◌, ℕ, ◌+◌, ◌*◌, ◌/◌, ◌%◌, ◌<◌, ◌≤◌, ◌==◌, Bool, true, false, if◌then◌else◌, List, [], ◌∷◌, ◌++◌, length, None, Some, refl, ap, sym, ◌∙◌, subst, arith, Ok, Err, true≢false}
+use Rattle.std.proofs.Common.{◌≡◌, ℕ, ◌<◌, Bool, true, if◌then◌else◌, [], None, Some, refl, ap, sym, ◌∙◌, subst, arith, Ok, Err, true≢false}
 use Rattle.std.proofs.lemmas.Bool.{eq-eqb}
 use Rattle.pas_profile.specs.Classes.{IsClass, IsSlotStart}
 use Rattle.pas_profile.specs.Directories.{IsKind}
@@ -12,7 +12,7 @@ use Rattle.pas_bits.specs.Masks.{is_set, IsEmpty, HasMember}
 use Rattle.pas_rights.specs.Leaves.{Leaves}
 use Rattle.pas_steps.specs.Calls.{Kept, Gained, now, Does, Leads}
 use Rattle.pas_steps.specs.Desks.{Standing, Makes}
-use Rattle.pas_steps.specs.Views.{View, holds, has_right}
+use Rattle.pas_steps.specs.Views.{holds, has_right}
 use Rattle.pas_steps.specs.declared.step.Step.TheVariants.{Back}
 use Rattle.pas_steps.proofs.Called.{call_as}
 use Rattle.pas_steps.proofs.Calls.{leads_as}
@@ -25,7 +25,7 @@ use Rattle.pas_rights.specs.Takes.{taken}
 use Rattle.pas_segregated.specs.Masks.{start_of}
 use Rattle.pas_segregated.specs.Refills.{exclusive_slots, GetsSlots, Refills}
 use Rattle.pas_segregated.specs.Stops.{class_directory}
-use Rattle.pas_segregated.specs.Takes.{in_starts, slots_on, NoSlot, TakesSlots, exclusive}
+use Rattle.pas_segregated.specs.Takes.{in_starts, TakesSlots, exclusive}
 use Rattle.pas_segregated.proofs.Starts.{start_at, start_below}
 
 -- ---- the slots
@@ -33,6 +33,10 @@ pub class_of : (class : ℕ) (d : Directory) → IsKind d.kind → d.kind ≡ Ki
 class_of class d known same = subst IsKind same known
 
 module _ (class page : ℕ) (d : Directory) (is : IsClass class) (starts : Mask4) {σ σ1 : Standing} (took : TakesSlots class page d σ σ1 starts) where
+  -- a grain that is taken is of some slot
+  pub has_slot : (b : ℕ) × (b < 256) × (in_starts class starts b ≡ true) → HasMember starts
+  has_slot some = let at = start_below class some.0 is in let low = at.0 in let lt = some.1 in (start_of class some.0, omega (arith, low, lt), some.2)
+
   abbrev pub prepared : Prepares page d (is_set took.answers) (in_starts class starts) σ σ1
   prepared = record {
     steps = took.steps;
@@ -42,6 +46,8 @@ module _ (class page : ℕ) (d : Directory) (is : IsClass class) (starts : Mask4
     keeps = took.keeps;
     read = took.read;
     held = took.held;
+    hints = took.hints;
+    marks = λ some. took.marks (has_slot some);
   }
 
   -- no slot is whole
@@ -98,6 +104,7 @@ module _ (heap class : ℕ) {tells : Bool} {σ σ' : Standing} (served : Served 
       some = searches.outcome.serves.some;
       took = searches.outcome.serves;
       choice = searches.outcome.choice;
+      marks = searches.outcome.marks;
       few = searches.outcome.few;
       events = searches.outcome.events;
       leaves = refl;

@@ -1,36 +1,43 @@
 -- The slots that the takes of a page got whole, and the grains that are put back.
 use Rattle.std.proofs.Common.{◌≡◌, ◌≢◌, ℕ, ◌+◌, ◌*◌, ◌/◌, ◌%◌, ◌<◌, ◌==◌, ◌↔◌, IsTrue, Bool, true, false, not, ◌&&◌, if◌then◌else◌, List, [], ◌∷◌, ◌++◌, refl, ap, sym, ◌∙◌, subst, arith, inl, inr, append_assoc, length-append, true≢false}
-use Rattle.std.proofs.lemmas.Bool.{cases_Bool, and_parts, and_from, and_right, lt-ltb}
+use Rattle.std.proofs.lemmas.Bool.{cases_Bool, eq-eqb, and_parts, and_from, and_right, lt-ltb}
 use Rattle.pas_profile.specs.Classes.{has_bit, IsClass, class_grains, usable_grains, is_usable, IsSlotStart}
 use Rattle.pas_profile.specs.declared.directory.Directory.{Directory}
-use Rattle.pas_profile.proofs.ClassFacts.{class_grains_le, usable_grains_le, usable_grains_ge, first_slot}
+use Rattle.pas_profile.proofs.ClassFacts.{class_grains_positive, usable_grains_le, usable_grains_ge, first_slot}
 use Rattle.pas_bits.specs.declared.mask.Mask4.{Mask4}
-use Rattle.pas_bits.specs.Masks.{is_set, AreSet, IsEmpty}
+use Rattle.pas_bits.specs.Masks.{is_set, AreSet, IsEmpty, HasMember}
 use Rattle.pas_bits.proofs.Words.{at_word, none_of_zero}
-use Rattle.pas_rights.specs.Puts.{masked}
+use Rattle.pas_rights.specs.Puts.{masked, PutsBelow, PutsHere}
 use Rattle.pas_rights.specs.PutsBack.{MayPutAndReturn, giving_back, PutsAndReturns, taking_grains}
+use Rattle.pas_rights.specs.Returns.{ReturnSteps}
 use Rattle.pas_rights.specs.Takes.{GetsGrains, taken, TakesMask, takes}
 use Rattle.pas_rights.specs.Words.{words}
+use Rattle.pas_rights.proofs.Hints.{hints_both, hints_none, back_hints}
+use Rattle.pas_rights.proofs.Orders.{return_returns}
+use Rattle.pas_rights.proofs.Puts.{puts_kinds, some_put}
+use Rattle.pas_rights.proofs.PutsBack.{return_holds}
 use Rattle.pas_rights.proofs.Takes.{takes_only, takes_on, takes_keep, takes_few, takes_right, takes_leave, takes_held, takes_free, takes_read}
 use Rattle.pas_rights.proofs.Words.{bit_of, bit_on, since_kept}
 use Rattle.pas_steps.specs.Views.{View, holds, has_right}
 use Rattle.pas_steps.specs.Agreement.{Agreed}
 use Rattle.pas_steps.specs.Calls.{Calls, Kept, Gained, Lost, later, now}
-use Rattle.pas_steps.specs.Past.{Since}
+use Rattle.pas_steps.specs.Past.{Always, Since}
 use Rattle.pas_steps.specs.Frames.{IsOnPage, GivesUp, KeepsRight}
-use Rattle.pas_steps.specs.Kinds.{Taking}
+use Rattle.pas_steps.specs.Kinds.{Putting, Taking, Only, returning}
 use Rattle.pas_steps.specs.Desks.{Seat, Standing, CanCall}
 use Rattle.pas_steps.specs.Evidence.{ShowsHere, KeptHere}
 use Rattle.pas_steps.specs.declared.step.Made.{Made}
 use Rattle.pas_steps.proofs.Adding.{agreed_first, agreed_later}
-use Rattle.pas_steps.proofs.Apart.{only_within, only_both, deeds_same}
-use Rattle.pas_steps.proofs.Calls.{SameGrain, does_then, does_as}
+use Rattle.pas_steps.proofs.Apart.{only_within, only_both, deeds_same, holds_same, rights_same}
+use Rattle.pas_steps.proofs.Calls.{SameGrain, does_then, does_as, returns_are}
 use Rattle.pas_steps.proofs.Called.{call_as, call_then, next_call}
-use Rattle.pas_steps.proofs.Past.{always_both}
+use Rattle.pas_steps.proofs.Past.{always_both, once_earlier}
+use Rattle.pas_search.specs.Kinds.{KeepsMarks}
 use Rattle.pas_search.specs.Serving.{MayServe, HoldsNone}
+use Rattle.pas_search.proofs.Returns.{keeps_marks, marks_after}
 use Rattle.pas_segregated.specs.Masks.{start_of}
 use Rattle.pas_segregated.specs.Takes.{AreUsable, AreFreeSlots, in_starts, slots_on, takes_since, TakesSlots}
-use Rattle.pas_segregated.proofs.Starts.{start_below}
+use Rattle.pas_segregated.proofs.Starts.{start_at, start_below}
 use Rattle.pas_segregated.proofs.GivenUp.{back_count, takes_count, none_yet, back_holds, same_after}
 
 -- the starts are those of the slots all of whose grains are in the mask
@@ -138,6 +145,51 @@ module _ (class page : ℕ) (d : Directory) (is : IsClass class) {σ σ1 : Stand
       ]
     ]
 
+    -- ---- some slot is kept: its first grain is held
+    some_kept : (some : HasMember starts) → slots_on page class starts (page * 256 + some.0) ≡ true
+    some_kept some =
+        let lt = some.1 in let slot = ((whole some.0).0 some.2).0 in let more = class_grains_positive class is in
+        let at : page ≡ (page * 256 + some.0) / 256 = omega (arith, lt) in let bit : (page * 256 + some.0) % 256 ≡ some.0 = omega (arith, lt) in
+        and_from (page == (page * 256 + some.0) / 256) (in_starts class starts ((page * 256 + some.0) % 256)) (eq-eqb page ((page * 256 + some.0) / 256) at)
+        (ap (in_starts class starts) bit ∙ ap (is_set starts) (start_at class some.0 some.0 slot (omega arith) (omega (arith, more))) ∙ some.2)
+
+    first_marks : Always (KeepsMarks page) first
+    first_marks = keeps_marks (Taking ∷ []) page first refl (takes_only page (words usable) (words took.answers) 4)
+
+    module _ (some : HasMember starts) (others : HasMember rest) (puts after : List Made) (order : PutsBelow page rest 4 puts) (ret : ReturnSteps page d after) (same : back.steps ≡ after ++ puts) where
+      all_same : back.steps ++ first ≡ after ++ (puts ++ first)
+      all_same = ap (λ s. s ++ first) same ∙ append_assoc after puts first
+
+      at_return : Agreed σ.seat.profile ((puts ++ first) ++ can.view) after
+      at_return = agreed_first σ.seat.profile can.view after (puts ++ first) (subst (Agreed σ.seat.profile can.view) all_same at_view)
+
+      puts_only : Only (Putting ∷ []) puts
+      puts_only = puts_kinds page rest 4 puts order
+
+      right_had : has_right ((puts ++ first) ++ can.view) page ≡ true
+      right_had = ap (λ s. has_right s page) (append_assoc puts first can.view) ∙ rights_same (Putting ∷ []) refl page puts (first ++ can.view) puts_only ∙ takes_right page (words usable) (words took.answers) 4 can.view can.met.right
+
+      grain_held : holds ((puts ++ first) ++ can.view) (page * 256 + some.0) ≡ true
+      grain_held =
+          let g = page * 256 + some.0 in
+          sym (holds_same returning refl g after ((puts ++ first) ++ can.view) (returns_are page after (return_returns page d after ret)))
+          ∙ sym (ap (λ s. holds s g) (ap (λ s. s ++ can.view) all_same ∙ append_assoc after (puts ++ first) can.view))
+          ∙ (all_call.leads.from can.view can.met at_view).does.held g ∙ ap (λ t. now (if t then Gained else Kept) (holds can.view g)) (some_kept some)
+
+      return_marks : Always (KeepsMarks page) (back.steps ++ first)
+      return_marks =
+          let lt = some.1 in
+          let only = return_holds σ.seat.profile page d after ((puts ++ first) ++ can.view) ret at_return right_had (page * 256 + some.0) (omega (arith, lt)) grain_held in
+          subst (Always (KeepsMarks page)) (sym all_same) (marks_after page after (puts ++ first) only (once_earlier (PutsHere page) (PutsHere page) puts first (λ m before put. put) (some_put page rest puts order others))
+          (keeps_marks (Putting ∷ Taking ∷ []) page (puts ++ first) refl (only_both (Putting ∷ Taking ∷ []) puts first (only_within (Putting ∷ []) (Putting ∷ Taking ∷ []) puts refl puts_only)
+          (only_within (Taking ∷ []) (Putting ∷ Taking ∷ []) first refl (takes_only page (words usable) (words took.answers) 4)))))
+
+    marks_kept : HasMember starts → Always (KeepsMarks page) (back.steps ++ first)
+    marks_kept some = elim back.order [
+      | inl h ↦ subst (λ s. Always (KeepsMarks page) (s ++ first)) (sym h.1) first_marks
+      | inr h ↦ return_marks some h.0 h.1 h.2 h.3 h.4 h.5
+    ]
+
     pub takes_slots : TakesSlots class page d σ σ2 starts
     takes_slots = record {
       steps = back.steps ++ first;
@@ -164,6 +216,8 @@ module _ (class page : ℕ) (d : Directory) (is : IsClass class) {σ σ1 : Stand
         ),
       );
       keeps = always_both (λ m before. GivesUp page m.step → ⊥) (λ m before. GivesUp page m.step → ⊥) back.steps first (λ m before h. h) back_keeps (takes_keep page (words usable) (words took.answers) 4);
+      hints = hints_both back.steps first (back_hints page d rest back.steps back.order) (hints_none (Taking ∷ []) first refl (takes_only page (words usable) (words took.answers) 4));
+      marks = marks_kept;
       takes = λ before newest. ap (takes_since page) (append_assoc back.steps first before) ∙ back_count page back.steps (first ++ before) back.kinds ∙ takes_count page (words usable) (words took.answers) 4 before (none_yet page before newest);
       read = λ before met w lt. subst (Since (ShowsHere page w (is_set took.answers)) (KeptHere page)) (sym (append_assoc back.steps first before))
           (since_kept (ShowsHere page w (is_set took.answers)) page back.steps (first ++ before) back_keeps (takes_right page (words usable) (words took.answers) 4 before met.right)

@@ -1,18 +1,18 @@
 -- The slots of a page that are taken.
-use Rattle.std.specs.Prelude.{ℕ, ◌+◌, ◌/◌, ◌%◌, ◌<◌, ◌≤◌, ◌≡◌, ◌==◌, ◌↔◌, IsTrue, Bool, true, false, ◌&&◌, if◌then◌else◌, List, [], ◌∷◌, ◌++◌, length}
+use Rattle.std.specs.Prelude.{ℕ, ◌/◌, ◌%◌, ◌<◌, ◌≤◌, ◌≡◌, ◌==◌, ◌↔◌, IsTrue, Bool, true, ◌&&◌, if◌then◌else◌, List, [], ◌∷◌, ◌++◌, length}
 use Rattle.pas_profile.specs.Classes.{has_bit, is_usable, class_grains, IsSlotStart}
 use Rattle.pas_profile.specs.declared.directory.Directory.{Directory}
 use Rattle.pas_profile.specs.declared.directory.Kind.TheVariants as Kind
 use Rattle.pas_bits.specs.declared.mask.Mask4.{Mask4}
 use Rattle.pas_bits.specs.Masks.{is_set, IsEmpty, HasMember}
-use Rattle.pas_rights.specs.Looks.{AllFree}
+use Rattle.pas_rights.specs.Looks.{AllFree, HintsEmpty}
 use Rattle.pas_rights.specs.PutsBack.{taking_grains}
 use Rattle.pas_rights.specs.Takes.{GetsGrains, takes}
 use Rattle.pas_rights.specs.Words.{words}
 use Rattle.pas_steps.specs.Views.{View, known_free}
 use Rattle.pas_steps.specs.Agreement.{Agreed}
 use Rattle.pas_steps.specs.Calls.{Calls, Leads}
-use Rattle.pas_steps.specs.Past.{Since}
+use Rattle.pas_steps.specs.Past.{Always, Since}
 use Rattle.pas_steps.specs.Frames.{OnlyOn, KeepsRight}
 use Rattle.pas_steps.specs.Kinds.{Only}
 use Rattle.pas_steps.specs.Desks.{Standing, made}
@@ -20,6 +20,7 @@ use Rattle.pas_steps.specs.declared.step.Made.{Made}
 use Rattle.pas_steps.specs.declared.step.Step.{Step}
 use Rattle.pas_steps.specs.declared.step.Step.TheVariants.{Look, Deed, Back, Take, Put, Give, End, EndSized, TakeRight, Offer, Park, Unpark, Stamp, Hint, Tick, Unback, Unhint}
 use Rattle.pas_steps.specs.Evidence.{Readings, ShowsHere, KeptHere, IsAntitone}
+use Rattle.pas_search.specs.Kinds.{KeepsMarks}
 use Rattle.pas_search.specs.Serving.{Rule, MayServe, HoldsNone, IsJustGot, GotBefore, ReadsNoneHeld}
 use Rattle.pas_segregated.specs.Masks.{start_of}
 
@@ -79,8 +80,8 @@ pub record TookSlots (class page : ℕ) (steps : List Made) (starts : Mask4) : T
   pub are : AreFreeSlots class (is_set answers) starts
   pub some : HasMember starts
 
--- Four takes; the grains of incomplete slots are put back, so those of the slots are got, and the right is kept. On a page all of whose grains
--- are known as free there is a slot. Whatever stood before, the words were read with the right; where there is no slot nothing is held.
+-- Four takes; the grains of incomplete slots are put back, so those of the slots are got, and the right is kept. Where there is a slot the page is
+-- neither offered, parked nor hinted. On a page all of whose grains are known as free there is one. Whatever stood before, the words were read with the right; where there is no slot nothing is held.
 pub record TakesSlots (class page : ℕ) (d : Directory) (desk desk' : Standing) (starts : Mask4) : Type 0 where
   pub steps : List Made
   pub calls : Calls desk desk' (MayServe page d) (GetsGrains (slots_on page class starts)) steps
@@ -94,6 +95,8 @@ pub record TakesSlots (class page : ℕ) (d : Directory) (desk desk' : Standing)
   pub held : Leads desk.seat.profile (MayServe page d) (ReadsNoneHeld page (is_set answers)) steps
   pub all_free : (v : View) → Agreed desk.seat.profile v steps → ((g : ℕ) → g / 256 ≡ page → known_free v g ≡ true) → HasMember starts
   pub keeps : KeepsRight page steps
+  pub hints : Always HintsEmpty steps
+  pub marks : HasMember starts → Always (KeepsMarks page) steps
   pub takes : (before : List Made) → IsJustGot page before → takes_since page (steps ++ before) ≡ takes page (words usable) (words answers) 4
   pub read : (before : List Made) → GotBefore page before → (word : ℕ) → word < 4 → Since (ShowsHere page word (is_set answers)) (KeptHere page) (steps ++ before)
   pub none : (before : List Made) → HoldsNone page before → IsEmpty starts → HoldsNone page (steps ++ before)

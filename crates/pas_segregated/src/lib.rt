@@ -1,6 +1,7 @@
 //! Exclusive pages: pages of one class, of which one actor at a time takes all free slots.
 #![tactic(auto)]
 
+pub mod laws;
 mod refilling;
 mod serving;
 mod slots;

@@ -11,7 +11,7 @@ use Rattle.pas_plain.specs.Seats.{region_of, pass_of, standing_of, DeskStands}
 use Rattle.pas_plain.specs.declared.desk.PlainDesk.{PlainDesk}
 use Rattle.pas_plain.specs.declared.pass.PlainPass.{PlainPass}
 use Rattle.pas_plain.specs.declared.region.PlainRegion.{PlainRegion}
-use Rattle.pas_plain.proofs.Passes.{pass_rests}
+use Rattle.pas_plain.proofs.Desks.{pass_rests}
 use Rattle.pas_search.specs.Searches.{MaySearch}
 use Rattle.pas_trials.specs.Trials.{Beside, Brings, Wants}
 use Rattle.pas_trials.specs.Filling.{Steps}

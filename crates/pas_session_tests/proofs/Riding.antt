@@ -17,7 +17,7 @@ use Rattle.pas_plain.specs.Storms.{MayStorm, own_stands}
 use Rattle.pas_plain.specs.declared.desk.PlainDesk.{PlainDesk}
 use Rattle.pas_plain.specs.declared.pass.PlainPass.{PlainPass}
 use Rattle.pas_plain.specs.declared.region.PlainRegion.{PlainRegion}
-use Rattle.pas_plain.proofs.Passes.{pass_rests}
+use Rattle.pas_plain.proofs.Desks.{pass_rests}
 use Rattle.pas_trials.specs.Borrowing.{Borrows}
 use Rattle.pas_trials.specs.Filling.{Steps}
 use Rattle.pas_session_tests.specs.Seated.{RestsBeside}

@@ -15,7 +15,7 @@ use Rattle.pas_plain.specs.Storms.{StormStands, seat_for}
 use Rattle.pas_plain.specs.declared.desk.PlainDesk.{PlainDesk}
 use Rattle.pas_plain.specs.declared.pass.PlainPass.{PlainPass}
 use Rattle.pas_plain.specs.declared.region.PlainRegion.{PlainRegion}
-use Rattle.pas_plain.proofs.Passes.{pass_rests}
+use Rattle.pas_plain.proofs.Desks.{pass_rests}
 use Rattle.pas_search.specs.Searches.{SearchRoom}
 use Rattle.pas_storms.proofs.Going.{few_below}
 use Rattle.pas_segregated.specs.Stops.{class_directory}

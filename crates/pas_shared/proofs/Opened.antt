@@ -7,7 +7,7 @@ use Rattle.atomic_table.specs.Table.{Me, Splits}
 use Rattle.pas_profile.specs.Layouts.{index_of, words_of, opening}
 use Rattle.pas_profile.specs.Profiles.{IsWordOf}
 use Rattle.pas_profile.specs.declared.profile.Profile.{Profile}
-use Rattle.pas_profile.specs.declared.room.EventRoom.{EventRoom}
+use Rattle.pas_profile.specs.Rooms.{EventRoom}
 use Rattle.pas_profile.specs.declared.word.Word.{Word}
 use Rattle.pas_steps.specs.Views.{View}
 use Rattle.pas_shared.specs.declared.rule.Roster.{Roster}

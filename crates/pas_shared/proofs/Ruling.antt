@@ -1,5 +1,21 @@
--- A step that the view of the stepping seat allows keeps the rule, and every other seat knows what it knew. So does a split and a join.
-use Rattle.std.proofs.Common.{◌≡◌, ◌≢◌, ◌⊎◌, inl, inr, ⊎_elim, ℕ, suc, zero, ◌+◌, ◌<◌, ◌≤◌, List, [], ◌∷◌, ◌++◌, length, set, Bool, true, false, eqb, eq-eqb, ne_eqb, refl, sym, ap, subst, ◌∙◌, arith, if◌then◌else◌}
+-- The rule of the shared words, step by step and at the close.
+use Rattle.std.proofs.Common.{List, [], ◌∷◌, ◌++◌, sym, subst, ◌≡◌, ◌≢◌, ◌⊎◌, inl, inr, ⊎_elim, ℕ, suc, zero, ◌+◌, ◌<◌, ◌≤◌, length, set, Bool, true, false, eqb, eq-eqb, ne_eqb, refl, ap, ◌∙◌, arith, if◌then◌else◌, get_or}
+use Rattle.pas_profile.specs.Profiles.{IsValid}
+use Rattle.pas_profile.specs.declared.event.Event.{Event}
+use Rattle.pas_profile.specs.declared.profile.Profile.{Profile}
+use Rattle.pas_machine.specs.Machine.{Run}
+use Rattle.pas_profile.specs.declared.word.Word.TheVariants as Word
+use Rattle.pas_steps.specs.Views.{known_deed, View, epoch_of}
+use Rattle.pas_steps.specs.Lists.{Whole, Legal, part, visible, word_after}
+use Rattle.pas_core.proofs.MachineRuns.{runs, agrees}
+use Rattle.pas_core.proofs.Placed.{in_one_place, lists_borne}
+use Rattle.pas_core.proofs.Offers.{parked_is_owed, empty_is_minded}
+use Rattle.pas_core.proofs.Rights.{right_in_one_place, free_without_deed, free_known}
+use Rattle.pas_core.proofs.Stamps.{ends_stamped, unstamped_is_held, stamp_known, epoch_known}
+use Rattle.pas_core.proofs.DeedWords.{known_is}
+use Rattle.pas_core.proofs.Knowledge.{deeds_known, backed_known}
+use Rattle.pas_core.proofs.Lives.{life_is_known}
+use Rattle.pas_shared.specs.Kept.{IsGood, NoneIsEarly}
 use Rattle.std.proofs.lemmas.Bool.{cases_eq}
 use Rattle.std.proofs.lemmas.List.{set-get_or}
 use Rattle.std.specs.Prelude.{slice_index, slice_set}
@@ -7,28 +23,61 @@ use prog.Atomic.{either}
 use mathlib.Core.Option.{some, some-injective, some-ne-none}
 use lib.ListN.{get_elem?}
 use Rattle.atomic_table.specs.Seated.{TableId}
-use Rattle.atomic_table.specs.Table.{Me, Act, keeps, Valid, stepped, carried_after, Allows, Splits, Joins}
+use Rattle.atomic_table.specs.Table.{Me, Act, keeps, Valid, stepped, carried_after, Allows, Splits, Joins, Final, Seen, Enters}
 use Rattle.atomic_table.proofs.Lists.{at_set, set_again}
 use Rattle.pas_profile.specs.Layouts.{index_of, words_of}
-use Rattle.pas_profile.specs.declared.profile.Profile.{Profile}
 use Rattle.pas_profile.proofs.Places.{index_lt}
 use Rattle.pas_steps.specs.Effects.{target, new_value}
-use Rattle.pas_steps.specs.Views.{View, epoch_of}
-use Rattle.pas_steps.specs.Lists.{Whole, part, word_after}
 use Rattle.pas_steps.specs.Desks.{made, triple}
 use Rattle.pas_steps.specs.declared.step.Step.{Step}
 use Rattle.pas_steps.specs.declared.step.Made.{Made}
 use Rattle.pas_steps.proofs.Targets.{target_of_region}
 use Rattle.pas_core.specs.Orders.{with_step}
 use Rattle.pas_core.specs.WordLists.{AreWordsAfter}
-use Rattle.pas_core.proofs.Nexts.{legal_next, agrees_next}
-use Rattle.pas_core.proofs.Ordered.{with_step_own, with_step_others, one_order_next}
-use Rattle.pas_core.proofs.WordLists.{words_next}
+use Rattle.pas_core.proofs.Nexts.{legal_next, agrees_next, with_step_own, with_step_others, one_order_next, words_next}
 use Rattle.pas_shared.specs.declared.exchange.Change.{Change}
 use Rattle.pas_shared.specs.declared.rule.Part.{Part}
 use Rattle.pas_shared.specs.declared.rule.Roster.{Roster}
 use Rattle.pas_shared.specs.declared.rule.Roster.TheVariants.{Unused, Listed}
-use Rattle.pas_shared.specs.Ruled.{HasPart, Names, alone, first_alone, all_but_first, joined, AreNamed, AreAfterOneList, Holds, changed, IsAskedOf, IsAdded, Makes, IsAddedIfKept}
+use Rattle.pas_shared.specs.Ruled.{HasPart, Names, alone, first_alone, all_but_first, joined, AreNamed, AreAfterOneList, Holds, changed, IsAskedOf, IsAdded, Makes, IsAddedIfKept, parts_in, NamesNobody}
+use Rattle.std.specs.List.{All}
+use Rattle.std.proofs.lemmas.List.Elements.{All-cons, All-weaker}
+use Rattle.pas_shared.specs.declared.pass.SharedPass.{SharedPass}
+use Rattle.pas_shared.specs.Passes.{view_of, seat_of, IsNamed, AreWordsOf}
+
+-- ==== Every legal list is good.
+
+pub good : (f : Profile) (l : Whole) → IsValid f → Legal f l → IsGood f l
+good f l valid legal = record {
+  place = in_one_place f l valid legal;
+  untouched = free_without_deed f l legal;
+  borne = lists_borne f l valid legal;
+  right = right_in_one_place f l legal;
+  known = record {
+    deed = λ k p ne. sym (known_is (known_deed (part k l) p) (word_after l (Word.Deed p)) (deeds_known f l legal k p) ne);
+    backed = backed_known f l valid legal;
+    free = free_known f l legal;
+    life = λ k g w h. sym (life_is_known f l valid legal k g w h).1;
+    stamp = stamp_known f l valid legal;
+    epoch = epoch_known f l legal;
+  };
+  checked = parked_is_owed f l legal;
+  stamped = ends_stamped f l valid legal;
+  unstamped = unstamped_is_held f l legal;
+  minded = empty_is_minded f l valid legal;
+  run = runs f l valid legal;
+  agrees = agrees f l valid legal;
+}
+
+-- a run's events before some later ones are a run
+earlier_run : (f : Profile) (later es : List Event) → Run f (later ++ es) → Run f es
+earlier_run f [] es run = run
+earlier_run f (e ∷ later) es run = earlier_run f later es run.1
+
+pub none_is_early : (f : Profile) (l : Whole) → IsValid f → Legal f l → NoneIsEarly f (visible l)
+none_is_early f l valid legal k page epoch later earlier is = (earlier_run f later (Event.Unback k page epoch ∷ earlier) (subst (Run f) is (runs f l valid legal))).0.3
+
+-- ==== A step that the view of the stepping seat allows keeps the rule, and every other seat knows what it knew. So does a split and a join.
 
 -- ---- what the seats know after one more step of actor k, whose seat is id
 grows : (own : ℕ → View) (seat_number : ℕ → ℕ) (rosters : List Roster) (id k : ℕ) (v : View) (m : Made) → AreNamed own seat_number rosters → seat_number k ≡ id → own k ≡ v → AreNamed (with_step k m own) seat_number (set rosters id (alone k (m ∷ v)))
@@ -227,3 +276,57 @@ joins f id u other w s h here apart there = record { whole = h.whole; legal = h.
         (λ (t : (i ≡ other) × (Listed [] ≡ y)). absurd (subst (λ (z : Roster). Names z b x) (sym t.1) named))
         (λ (t : (i ≢ other) × (get_elem? (set s.views id (joined u w)) i ≡ some y)). kept i y b x t.0 named (at_set s.views id i (joined u w) y t.1))
         (at_set (set s.views id (joined u w)) other i (Listed []) y e)
+
+-- ==== What the seat that took in every pass shows at the end.
+
+has_right : (ps qs : List Part) (k : ℕ) (v : View) → HasPart qs k v → HasPart (ps ++ qs) k v
+has_right [] qs k v h = h
+has_right (p ∷ ps) qs k v h = inr (has_right ps qs k v h)
+
+kept : (u : Roster) (n : ℕ) (w : View) (k : ℕ) (v : View) → HasPart (parts_in u) k v → HasPart (parts_in (joined u (alone n w))) k v
+kept (Unused m) n w k v h = absurd h
+kept (Listed ps) n w k v h = has_right (record { actor = n; made = w } ∷ []) ps k v h
+
+taken_in : (u : Roster) (n : ℕ) (w : View) → HasPart (parts_in (joined u (alone n w))) n w
+taken_in (Unused m) n w = inl (refl, refl)
+taken_in (Listed ps) n w = inl (refl, refl)
+
+-- one more pass
+pub takes_in : (u : Roster) (me : Me (Unit {0}) Roster) (p : SharedPass) (rest : List SharedPass) → me ≡ (joined u p.place.seat.me.0, []) → All (IsNamed u) rest → All (IsNamed me.0) (p ∷ rest)
+takes_in u me p rest is h =
+    let n = p.place.actor in
+    let w = view_of p in
+    let now : me.0 ≡ joined u (alone n w) = ap (λ m. m.0) is ∙ ap (λ m. joined u m.0) p.place.named in
+    subst (λ (k : Roster). All (IsNamed k) (p ∷ rest)) (sym now)
+    (All-cons (IsNamed (joined u (alone n w))) p rest (taken_in u n w) (All-weaker (IsNamed u) (IsNamed (joined u (alone n w))) (λ q. kept u n w q.place.actor (view_of q)) rest h))
+
+names_shown : (u : Roster) (k : ℕ) (v : View) → HasPart (parts_in u) k v → Names u k v
+names_shown (Unused n) k v h = absurd h
+names_shown (Listed ps) k v h = h
+
+pub ends : (f key : Profile) (id : ℕ) (u : Roster) (words : List ℕ) (slots : List (Unit {0})) (passes : List SharedPass) → key ≡ f → Final (Seen (Holds key) id u) words slots → All (IsNamed u) passes → AreWordsOf f passes (λ w. slice_index words (index_of f.pages w))
+ends f key id u words slots passes known (s, h, words_are, homes, there) named = subst (λ (g : Profile). AreWordsOf g passes (λ w. slice_index words (index_of g.pages w))) known record {
+  whole = h.0.whole;
+  legal = h.0.legal;
+  parts = All-weaker (IsNamed u) (λ (p : SharedPass). part (seat_of p).actor h.0.whole ≡ view_of p) (λ p has. h.0.one_order p.place.actor ∙ (h.0.named id u p.place.actor (view_of p) h.1 (names_shown u _ _ has)).1) passes named;
+  words = λ w hw. ap (λ (ws : List ℕ). slice_index ws (index_of key.pages w)) (sym words_are) ∙ h.0.words_are.values w hw;
+}
+
+pub longer : (xs : List SharedPass) (p : SharedPass) (rest : List SharedPass) → (xs ++ p ∷ []) ++ rest ≡ xs ++ p ∷ rest
+longer [] p rest = refl
+longer (x ∷ xs) p rest = ap (λ (ys : List SharedPass). x ∷ ys) (longer xs p rest)
+
+pub read_at : (xs : List ℕ) (i a d : ℕ) → get_elem? xs i ≡ some a → get_or xs i d ≡ a
+read_at [] i a d e = absurd (some-ne-none a (sym e))
+read_at (x ∷ xs) zero a d e = some-injective x a e
+read_at (x ∷ xs) (suc i) a d e = read_at xs i a d e
+
+-- ---- a seat that comes and names nobody
+pub arrives : (f : Profile) (slots i : ℕ) → Enters (Holds f) slots i (λ n w. NamesNobody (w, []))
+arrives f slots i s h len fits = (Listed [], record { whole = h.whole; legal = h.legal; words_are = h.words_are; own = h.own; one_order = h.one_order; seat_number = h.seat_number; named = named }, refl)
+  where
+    nobody : (u : Roster) (i k : ℕ) (v : View) → Listed [] ≡ u → Names u k v → (h.seat_number k ≡ i) × (h.own k ≡ v)
+    nobody u i k v e its = absurd (subst (λ (y : Roster). Names y k v) (sym e) its)
+
+    named : AreNamed h.own h.seat_number (s.views ++ Listed [] ∷ [])
+    named j u k v e its = ⊎_elim (λ was. h.named j u k v was its) (λ (t : (j ≡ length s.views) × (Listed [] ≡ u)). nobody u j k v t.1 its) (at_end s.views (Listed []) u j e)

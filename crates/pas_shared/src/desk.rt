@@ -44,7 +44,7 @@ impl<'a> SharedDesk<'a> {
 
 impl<'a> Desk for SharedDesk<'a> {
     ghost use Rattle.std.specs.Prelude.{◌+◌, ◌-◌, ◌^◌, false, length, min, reverse};
-    ghost use Rattle.std.proofs.Common.{ap, sym, subst, ◌∙◌, ◌≤◌};
+    ghost use Rattle.std.proofs.Common.{ap, sym, ◌∙◌};
     ghost use Rattle.std.proofs.lemmas.Bool.{false≢true};
     ghost use Rattle.std.proofs.lemmas.List.{length-reverse};
     ghost use Rattle.std.proofs.Math.Nat.{sub-add_cancel};
@@ -97,7 +97,7 @@ impl<'a> Desk for SharedDesk<'a> {
 
     ghost shows = { λ desk v l stood. desk.pass.noted.shown ∙ ap (λ v. reverse (events_of (seat_of desk.pass).actor v)) stood };
 
-    ghost spares = { λ desk v l stood. ap (λ n. room_of_notes desk.pass.notes - length (events_noted desk.pass.notes) + n) (sym (ap length (desk.pass.noted.shown ∙ ap (λ v. reverse (events_of (seat_of desk.pass).actor v)) stood) ∙ length-reverse (events_of (seat_of desk.pass).actor v))) ∙ sub-add_cancel {n = room_of_notes desk.pass.notes} {m = length (events_noted desk.pass.notes)} (subst (λ n. n ≤ room_of_notes desk.pass.notes) (desk.pass.notes.room.events.ok.0) desk.pass.notes.room.within) };
+    ghost spares = { λ desk v l stood. ap (λ n. room_of_notes desk.pass.notes - length (events_noted desk.pass.notes) + n) (sym (ap length (desk.pass.noted.shown ∙ ap (λ v. reverse (events_of (seat_of desk.pass).actor v)) stood) ∙ length-reverse (events_of (seat_of desk.pass).actor v))) ∙ sub-add_cancel {n = room_of_notes desk.pass.notes} {m = length (events_noted desk.pass.notes)} desk.pass.notes.room.within };
 
     ghost counts = { λ desk v l stood. desk.pass.noted.count ∙ ap (λ v. min (length v) (2 ^ 64 - 1)) stood };
 

@@ -63,7 +63,7 @@ retold f limit k (Alloc name heap size align) asked few names v c a among only f
     let block = name_of answered.answer in
     record {
       after = named name block ∷ names;
-      answered = record { answer = answered.answer; serves = answered.serves; kinds = answered.kinds; ends = answered.ends; said_is = answered.said_is; names_are = refl };
+      answered = record { rest = answered.rest; answer = answered.answer; serves = answered.serves; kinds = answered.kinds; ends = answered.ends; said_is = answered.said_is; names_are = refl };
       own = subst (λ (ns : List Named). AreAmong ns (named name block ∷ names)) (sym answered.names_are) (λ n b is. both_more (name == n) block (standing_for few n) (standing_for names n) b (among n b) is);
       others = λ more is n b known. new_here name n block names b (only name fit.2) (is n b known);
       only_asked = λ n is. asked_more (name == n) block (standing_for names n) (is_asked asked n) (only n) is;

@@ -16,6 +16,7 @@ use std::thread::{Threads, join_mut};
 fn write_texts<K: Sink>(sheets: &[Sheet], sink: &mut K) -> Result<(), Failed>
     ensures whole { OnOk result (Writes (K.held sink.old) (K.held sink.new) (texts_of sheets.now)) }
     ensures front { OnErr result (WritesFront (K.held sink.old) (K.held sink.new) (texts_of sheets.now)) }
+    ensures sound { OnOk result (K.faults sink.new ≡ K.faults sink.old) }
     ensures failed { OnErr result (Rose (K.faults sink.old) (K.faults sink.new)) }
     ensures count { K.faults sink.old ≤ K.faults sink.new }
 {
@@ -40,6 +41,7 @@ fn write_and_fill<R: Threads + Sync, K: Sink>(
     requires shown { All CanShow round.now }
     ensures whole { OnOk result (Writes (K.held sink.old) (K.held sink.new) (texts_of full.now.sheets.items)) }
     ensures front { OnErr result (WritesFront (K.held sink.old) (K.held sink.new) (texts_of full.now.sheets.items)) }
+    ensures sound { OnOk result (K.faults sink.new ≡ K.faults sink.old) }
     ensures failed { OnErr result (Rose (K.faults sink.old) (K.faults sink.new)) }
     ensures count { K.faults sink.old ≤ K.faults sink.new }
     ensures next { texts_of next.new.sheets.items ≡ lines_of round.now }
@@ -51,6 +53,7 @@ fn write_and_fill<R: Threads + Sync, K: Sink>(
     let mut write = || -> Result<(), Failed>
         ensures whole { OnOk result (Writes (K.held sink.entry.now) (K.held sink.exit.now) (texts_of full.entry.now.sheets.items)) }
         ensures front { OnErr result (WritesFront (K.held sink.entry.now) (K.held sink.exit.now) (texts_of full.entry.now.sheets.items)) }
+        ensures sound { OnOk result (K.faults sink.exit.now ≡ K.faults sink.entry.now) }
         ensures failed { OnErr result (Rose (K.faults sink.entry.now) (K.faults sink.exit.now)) }
         ensures count { K.faults sink.entry.now ≤ K.faults sink.exit.now }
     { write_texts(&full.sheets, sink) };
@@ -70,6 +73,7 @@ pub fn write_lines_on<R: Threads + Sync, K: Sink>(
     requires { All CanShow records.now }
     ensures whole { OnOk result (Writes (K.held sink.old) (K.held sink.new) (lines_of records.now)) }
     ensures front { OnErr result (WritesFront (K.held sink.old) (K.held sink.new) (lines_of records.now)) }
+    ensures sound { OnOk result (K.faults sink.new ≡ K.faults sink.old) }
     ensures failed { OnErr result (Rose (K.faults sink.old) (K.faults sink.new)) }
     ensures count { K.faults sink.old ≤ K.faults sink.new }
 {

@@ -51,6 +51,7 @@ fn write_records<R: Threads + Sync, K: Sink>(
     requires { All CanShow records.now }
     ensures whole { OnOk result (Writes (K.held sink.old) (K.held sink.new) (lines_of records.now)) }
     ensures front { OnErr result (WritesFront (K.held sink.old) (K.held sink.new) (lines_of records.now)) }
+    ensures sound { OnOk result (K.faults sink.new ≡ K.faults sink.old) }
     ensures failed { OnErr result (Rose (K.faults sink.old) (K.faults sink.new)) }
     ensures count { K.faults sink.old ≤ K.faults sink.new }
 {
@@ -73,6 +74,7 @@ fn write_report<K: Sink>(
     requires made { IfSome made (λ text. taken text ≡ report_by_words state.now) }
     ensures whole { OnOk result (Writes (K.held sink.old) (K.held sink.new) (report_by_words state.now)) }
     ensures front { OnErr result (WritesFront (K.held sink.old) (K.held sink.new) (report_by_words state.now)) }
+    ensures sound { OnOk result (K.faults sink.new ≡ K.faults sink.old) }
     ensures failed { OnErr result (Rose (K.faults sink.old) (K.faults sink.new)) }
 {
     match made {
@@ -95,6 +97,7 @@ fn settle_and_write<R: Threads + Sync, K: Sink, T: Drop + Send>(
     ensures made { IfSome result.0 (λ text. taken text ≡ report_by_words state.now) }
     ensures whole { OnOk result.1 (Writes (K.held sink.old) (K.held sink.new) (lines_of records.now)) }
     ensures front { OnErr result.1 (WritesFront (K.held sink.old) (K.held sink.new) (lines_of records.now)) }
+    ensures sound { OnOk result.1 (K.faults sink.new ≡ K.faults sink.old) }
     ensures failed { OnErr result.1 (Rose (K.faults sink.old) (K.faults sink.new)) }
     ensures count { K.faults sink.old ≤ K.faults sink.new }
 {
@@ -107,6 +110,7 @@ fn settle_and_write<R: Threads + Sync, K: Sink, T: Drop + Send>(
         requires { All CanShow records.now }
         ensures whole { OnOk result (Writes (K.held sink.entry.now) (K.held sink.exit.now) (lines_of records.entry.now)) }
         ensures front { OnErr result (WritesFront (K.held sink.entry.now) (K.held sink.exit.now) (lines_of records.entry.now)) }
+        ensures sound { OnOk result (K.faults sink.exit.now ≡ K.faults sink.entry.now) }
         ensures failed { OnErr result (Rose (K.faults sink.entry.now) (K.faults sink.exit.now)) }
         ensures count { K.faults sink.entry.now ≤ K.faults sink.exit.now }
     { write_records(rt, alloc, records, sink) };
@@ -125,6 +129,7 @@ pub(crate) fn write_and_settle<R: Threads + Sync, K: Sink, T: Drop + Send>(
     requires { IsShown (records_in records.now) state.now }
     ensures whole { OnOk result (Writes (K.held sink.old) (K.held sink.new) (shown_text (records_in records.now) state.now)) }
     ensures front { OnErr result (WritesFront (K.held sink.old) (K.held sink.new) (shown_text (records_in records.now) state.now)) }
+    ensures sound { OnOk result (K.faults sink.new ≡ K.faults sink.old) }
     ensures failed { OnErr result (Rose (K.faults sink.old) (K.faults sink.new)) }
 {
     let mut spent = Some(spent);

@@ -56,6 +56,7 @@ fn write_settled<K: Sink>(records: &Records, state: &State, sink: &mut K) -> Res
     requires { IsShown (records_in records.now) state.now }
     ensures whole { OnOk result (Writes (K.held sink.old) (K.held sink.new) (shown_text (records_in records.now) state.now)) }
     ensures front { OnErr result (WritesFront (K.held sink.old) (K.held sink.new) (shown_text (records_in records.now) state.now)) }
+    ensures sound { OnOk result (K.faults sink.new ≡ K.faults sink.old) }
     ensures failed { OnErr result (Rose (K.faults sink.old) (K.faults sink.new)) }
 {
     write_lines(records.as_slice(), sink)?;
@@ -75,6 +76,7 @@ fn write_replayed<R: Threads + Sync, K: Sink, T: Drop + Send>(
     requires { IsShown (records_in records.now) state.now }
     ensures whole { OnOk result (Writes (K.held sink.old) (K.held sink.new) (shown_text (records_in records.now) state.now)) }
     ensures front { OnErr result (WritesFront (K.held sink.old) (K.held sink.new) (shown_text (records_in records.now) state.now)) }
+    ensures sound { OnOk result (K.faults sink.new ≡ K.faults sink.old) }
     ensures failed { OnErr result (Rose (K.faults sink.old) (K.faults sink.new)) }
 {
     match manner {

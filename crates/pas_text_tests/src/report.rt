@@ -4,7 +4,8 @@ ghost use Rattle.pas_report.specs.Lines.{IsShowable, CanShow};
 use pas_io::memory::MemorySink;
 use pas_profile::{Address, Block, Directory, Event, Kind, Name, NoMemory, Profile, Why};
 use pas_report::{
-    Record, Records, Said, event_line, has_deed_words, record_line, report, said_line, total_line,
+    Record, Said, event_line, has_deed_words, record_line, report, room_for_replay, said_line,
+    total_line,
 };
 use pas_steps::State;
 use std::alloc::{AllocError, Global};
@@ -245,7 +246,7 @@ fn small_report(rt: HostRuntime) -> Result<(), Fail> {
 
 /// Whether a room of no event has place for the last line alone, and takes it.
 fn takes_the_close(alloc: Global) -> Result<bool, NoMemory> {
-    let mut room = Records::try_new(alloc, 0, 0)?;
+    let mut room = room_for_replay(alloc, 0, 0)?;
     let spare = room.spare();
     room.push(Record::Close);
     Ok([spare, room.spare()] == [1, 0] && room.as_slice() == [Record::Close].as_slice())
@@ -253,8 +254,8 @@ fn takes_the_close(alloc: Global) -> Result<bool, NoMemory> {
 
 /// Whether a room is filled from another, twice, which is emptied and keeps its size.
 fn is_filled(alloc: Global) -> Result<bool, NoMemory> {
-    let mut all = Records::try_new(alloc, 1, 1)?;
-    let mut more = Records::try_new(alloc, 2, 0)?;
+    let mut all = room_for_replay(alloc, 1, 1)?;
+    let mut more = room_for_replay(alloc, 2, 0)?;
     more.push(Record::Phase(1));
     all.append(&mut more);
     let is_empty = more.as_slice().is_empty();

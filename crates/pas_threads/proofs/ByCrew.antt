@@ -8,9 +8,8 @@ use Rattle.pas_profile.specs.declared.profile.Profile.{Profile}
 use Rattle.pas_steps.specs.Clear.{HasNothing}
 use Rattle.pas_steps.specs.Desks.{Standing}
 use Rattle.pas_steps.specs.Views.{View}
-use Rattle.pas_report.specs.Rooms.{records_in}
+use Rattle.pas_report.specs.Rooms.{records_in, Records}
 use Rattle.pas_report.specs.declared.record.Record.{Record}
-use Rattle.pas_report.specs.declared.records.Records.{Records}
 use Rattle.pas_shared.specs.declared.region.SharedRegion.{SharedRegion}
 use Rattle.pas_answers.specs.Acts.{Act, ReadsEpoch, idle_stops, acts_of_op, scavenger_acts}
 use Rattle.pas_answers.specs.Answers.{Progress, Caches}

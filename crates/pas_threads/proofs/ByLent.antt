@@ -4,9 +4,8 @@ use Rattle.std.proofs.lemmas.List.{append-nil, drop_more, length-set, get_or-set
 use Rattle.std.proofs.lemmas.Grind.{get_or-set_at}
 use Rattle.std.proofs.lemmas.Bool.{cases_eq}
 use Rattle.pas_profile.specs.declared.profile.Profile.{Profile}
-use Rattle.pas_report.specs.Rooms.{records_in}
+use Rattle.pas_report.specs.Rooms.{records_in, Records}
 use Rattle.pas_report.specs.declared.record.Record.{Record}
-use Rattle.pas_report.specs.declared.records.Records.{Records}
 use Rattle.pas_shared.specs.declared.region.SharedRegion.{SharedRegion}
 use Rattle.pas_answers.specs.Acts.{Act, StopsIdle, idle_stops}
 use Rattle.pas_answers.specs.Answers.{Progress}

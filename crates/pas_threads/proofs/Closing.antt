@@ -18,10 +18,9 @@ use Rattle.pas_answers.specs.Ways.{records_by, by_actors}
 use Rattle.pas_answers.specs.Reaching.{Reaches}
 use Rattle.pas_acts.specs.Works.{Sits}
 use Rattle.pas_threads.specs.Hands.{standing_of_pass}
-use Rattle.pas_acts.specs.NameBooks.{requests_in, room_for}
+use Rattle.pas_acts.specs.NameBooks.{requests_in, room_for, Requests}
 use Rattle.pas_threads.specs.Sessions.{WorkerRests, AreResting, TeamAt, AreMarked, AreWritten, CloseDone, owed_by}
 use Rattle.pas_threads.specs.Turns.{Spoke, WorkerSaid, StoppedAll, said_by_all, IsGathered}
-use Rattle.pas_acts.specs.declared.names.Requests.{Requests}
 use Rattle.pas_threads.specs.declared.workers.Worker.{Worker}
 use Rattle.pas_threads.specs.declared.phases.Team.{Team}
 use Rattle.pas_threads.proofs.PhaseRooms.{said_in_order, by_first, by_last}

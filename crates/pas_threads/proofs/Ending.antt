@@ -128,7 +128,7 @@ shows {plan} {region} {team} passes {written} {state} valid of_profile replayed 
     record {
       whole = after.whole;
       replay = replays OnThreads plan end.list after.whole end.records written valid replayed.answers same replayed.written_are after.legal
-          (λ k. subst HasNothing (sym (same k)) (bare_at replayed.stands replayed.empty k));
+          (λ k. subst HasNothing (sym (same k)) (bare_at replayed.stands replayed.empty k)) tt;
       profile = closed.profile;
       words = after.words;
     }

@@ -9,11 +9,9 @@ use Rattle.pas_bits.specs.declared.mask.Mask4.{Mask4}
 use Rattle.pas_profile.specs.declared.profile.Profile.{Profile}
 use Rattle.pas_trace.specs.declared.plan.Op.{Op}
 use Rattle.pas_steps.specs.Desks.{Standing}
-use Rattle.pas_report.specs.Rooms.{records_in, room_of}
+use Rattle.pas_report.specs.Rooms.{records_in, room_of, Records}
 use Rattle.pas_report.specs.declared.record.Record.{Record}
-use Rattle.pas_report.specs.declared.records.Records.{Records}
-use Rattle.pas_utility.specs.Outcomes.{places_of}
-use Rattle.pas_utility.specs.declared.outcomes.Outcomes.{Outcomes}
+use Rattle.pas_utility.specs.Outcomes.{places_of, Outcomes}
 use Rattle.pas_shared.specs.declared.region.SharedRegion.{SharedRegion}
 use Rattle.pas_answers.specs.Acts.{Act, is_active, numbers_from, idle_threads, acts_of_op, acts_of_ops, own_acts, scavenger_acts}
 use Rattle.pas_answers.specs.Answers.{Progress}
@@ -21,7 +19,7 @@ use Rattle.pas_answers.specs.Ways.{records_by}
 use Rattle.pas_answers.proofs.OwnRecords.{records_both, all_by}
 use Rattle.pas_answers.specs.Reaching.{Reaches}
 use Rattle.pas_shares.specs.Shares.{owner_in, acts_by, ActsAreShared}
-use Rattle.pas_acts.specs.NameBooks.{requests_in, room_for, names_of, names_asked}
+use Rattle.pas_acts.specs.NameBooks.{requests_in, room_for, names_of, names_asked, Requests}
 use Rattle.pas_acts.specs.Works.{Later}
 use Rattle.pas_threads.specs.Hands.{standing_of_pass, WorkerAt, Did, MayDoPhase, DidPhase}
 use Rattle.pas_threads.specs.Lent.{AreDistinct, AreLent}
@@ -31,7 +29,6 @@ use Rattle.pas_acts.specs.Scavenges.{ScavengerAt}
 use Rattle.pas_threads.specs.Dealing.{AreDealt}
 use Rattle.pas_threads.specs.Performing.{IsReady, ThreadDone, ScavengerDone}
 use Rattle.pas_acts.specs.declared.names.NameBook.{NameBook}
-use Rattle.pas_acts.specs.declared.names.Requests.{Requests}
 use Rattle.pas_threads.specs.declared.workers.Worker.{Worker}
 use Rattle.pas_threads.specs.declared.scavenger.Scavenger.{Scavenger}
 use Rattle.pas_threads.specs.declared.phases.Team.{Team}

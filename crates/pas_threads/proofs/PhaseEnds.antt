@@ -23,7 +23,7 @@ use Rattle.pas_answers.proofs.OwnRecords.{records_both}
 use Rattle.pas_plans.proofs.ActsOfPlan.{ops_fit, idle_few}
 use Rattle.pas_answers.specs.Reaching.{Reaches}
 use Rattle.pas_shares.specs.Shares.{Owners, acts_by, owner_in, IsShareOf, IsWoven}
-use Rattle.pas_acts.specs.NameBooks.{NamesAt, requests_in, room_for, names_of, known_in}
+use Rattle.pas_acts.specs.NameBooks.{NamesAt, requests_in, room_for, names_of, known_in, Requests}
 use Rattle.pas_threads.specs.Taken.{HandsOver, IsEmptied}
 use Rattle.pas_acts.specs.Works.{Later, Sits}
 use Rattle.pas_threads.specs.Hands.{standing_of_pass}
@@ -31,7 +31,6 @@ use Rattle.pas_threads.specs.Sessions.{WorkerRests, ScavengerRests}
 use Rattle.pas_threads.specs.Turns.{owed_at, IsGathered}
 use Rattle.pas_threads.specs.Performing.{ThreadDone, ScavengerDone}
 use Rattle.pas_acts.specs.declared.names.NameBook.{NameBook}
-use Rattle.pas_acts.specs.declared.names.Requests.{Requests}
 use Rattle.pas_threads.specs.declared.scavenger.Scavenger.{Scavenger}
 use Rattle.pas_threads.specs.declared.workers.Worker.{Worker}
 use Rattle.pas_acts.proofs.NamesBefore.{sound_front}

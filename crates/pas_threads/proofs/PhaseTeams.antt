@@ -8,9 +8,8 @@ use Rattle.pas_trace.specs.EveryPlan.{all_ops, own_records, records_of_ops}
 use Rattle.pas_trace.specs.declared.plan.Op.{Op}
 use Rattle.pas_trace.proofs.OperationsOfItems.{records_both}
 use Rattle.pas_utility.specs.Outcomes.{places_of}
-use Rattle.pas_report.specs.Rooms.{records_in, room_of}
+use Rattle.pas_report.specs.Rooms.{records_in, room_of, Records}
 use Rattle.pas_report.specs.declared.record.Record.{Record}
-use Rattle.pas_report.specs.declared.records.Records.{Records}
 use Rattle.pas_shared.specs.declared.region.SharedRegion.{SharedRegion}
 use Rattle.pas_answers.specs.Acts.{Wakes, is_active, numbers_from, idle_threads, active_threads, acts_of_ops, phase_acts, own_acts}
 use Rattle.pas_answers.specs.Answers.{Progress}

@@ -3,9 +3,8 @@ use Rattle.std.proofs.Common.{◌≡◌, ℕ, zero, suc, ◌+◌, ◌*◌, ◌<�
 use Rattle.std.specs.List.{remove}
 use Rattle.std.proofs.lemmas.List.{length-map}
 use Rattle.std.proofs.Math.Nat.{suc-mul}
-use Rattle.pas_profile.specs.Rooms.{size_of_room}
+use Rattle.pas_profile.specs.Rooms.{size_of_room, EventRoom}
 use Rattle.pas_profile.specs.declared.profile.Profile.{Profile}
-use Rattle.pas_profile.specs.declared.room.EventRoom.{EventRoom}
 use Rattle.pas_trace.specs.EveryPlan.{all_ops, own_records}
 use Rattle.pas_trace.specs.Plans.{IsPlanOf, bounds_of, ops_of, phases_of as the_phases}
 use Rattle.pas_trace.specs.declared.plan.Phase.{Phase}
@@ -13,9 +12,8 @@ use Rattle.pas_trace.specs.declared.plan.Plan.{Plan}
 use Rattle.pas_trace.proofs.EveryPhase.{every_phase}
 use Rattle.pas_trace.proofs.EveryPlan.{every_plan}
 use Rattle.pas_trace.proofs.OperationCounts.{few_operations}
-use Rattle.pas_report.specs.Rooms.{records_in, room_of}
+use Rattle.pas_report.specs.Rooms.{records_in, room_of, Records}
 use Rattle.pas_report.specs.declared.record.Record.{Record}
-use Rattle.pas_report.specs.declared.records.Records.{Records}
 use Rattle.pas_cache.specs.Caches.{Cached, cached}
 use Rattle.pas_cache.proofs.FlushesAndFrees.{rests_empty}
 use Rattle.pas_shared.specs.Passes.{AreFresh}

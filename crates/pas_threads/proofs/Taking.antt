@@ -7,10 +7,9 @@ use Rattle.pas_profile.specs.declared.name.Name.{Name}
 use Rattle.pas_trace.specs.EveryPlan.{is_asked}
 use Rattle.pas_answers.specs.Answers.{Named, standing_for}
 use Rattle.pas_answers.specs.Names.{name_in, block_named}
-use Rattle.pas_acts.specs.NameBooks.{requests_in, room_for, named_of, names_of, AreWithin, came_to, known_in}
+use Rattle.pas_acts.specs.NameBooks.{requests_in, room_for, named_of, names_of, AreWithin, came_to, known_in, Requests}
 use Rattle.pas_acts.specs.declared.names.Request.{Request}
 use Rattle.pas_acts.specs.declared.names.NameBook.{NameBook}
-use Rattle.pas_acts.specs.declared.names.Requests.{Requests}
 use Rattle.pas_threads.specs.declared.workers.Worker.{Worker}
 use Rattle.pas_threads.specs.Taken.{HasRequest, IsEmptied}
 

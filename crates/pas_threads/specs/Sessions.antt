@@ -5,9 +5,8 @@ use Rattle.pas_steps.specs.Lists.{part}
 use Rattle.pas_trace.specs.EveryPlan.{all_ops, own_records, records_of_ops}
 use Rattle.pas_trace.specs.EveryPhase.{FreeTheirOwn}
 use Rattle.pas_trace.specs.declared.plan.Op.{Op}
-use Rattle.pas_report.specs.Rooms.{records_in, room_of}
+use Rattle.pas_report.specs.Rooms.{records_in, room_of, Records}
 use Rattle.pas_report.specs.declared.record.Record.{Record}
-use Rattle.pas_report.specs.declared.records.Records.{Records}
 use Rattle.pas_utility.specs.Outcomes.{places_of}
 use Rattle.pas_cache.specs.Caches.{cached, AtRest}
 use Rattle.pas_shared.specs.declared.region.SharedRegion.{SharedRegion}

@@ -5,9 +5,9 @@ ghost use Rattle.pas_answers.specs.Names.{block_named};
 ghost use Rattle.pas_shared.specs.Passes.{profile_of_opening};
 
 use crate::estimate::Estimate;
-use pas_acts::names::{NameBook, Requests};
-use pas_profile::{EventRoom, NoMemory, Profile};
-use pas_report::Records;
+use pas_acts::names::{NameBook, Request, Requests};
+use pas_profile::{Event, EventRoom, NoMemory, Profile};
+use pas_report::{Record, Records};
 use pas_shared::Opening;
 use std::alloc::Global;
 use std::thread::{Threads, join};
@@ -54,7 +54,8 @@ fn event_rooms(
     let mut rooms = Vec::new(alloc);
     for lines in likely.by_actor.iter().take(profile.threads as usize + 1) {
         let bound = twice_and_more(*lines).saturating_add(profile.pages as usize);
-        let room = EventRoom::try_new_touched(alloc, saturated(bound), saturated(*lines))?;
+        let blank = Event::Back { actor: 0, page: 0 };
+        let room = EventRoom::try_new_touched(alloc, saturated(bound), saturated(*lines), blank)?;
         rooms.push(room).map_err(|_| NoMemory)?;
     }
     Ok(rooms)
@@ -71,8 +72,9 @@ fn rooms_for(
     let deeds = profile.pages as usize * profile.threads as usize;
     let bound = saturated(twice_and_more(lines).saturating_add(deeds));
     let events = event_rooms(alloc, profile, likely)?;
-    let records = Records::try_new_touched(alloc, bound, 0, saturated(lines))?;
-    let requests = Requests::try_new_touched(alloc, bound as usize, names / 2)?;
+    let records = Records::try_new_touched(alloc, bound, saturated(lines), Record::Close)?;
+    let blank = Request::of(0, None);
+    let requests = Requests::try_new_touched(alloc, bound, saturated(names / 2), blank)?;
     Ok((events, records, requests))
 }
 
@@ -80,7 +82,7 @@ impl Spare {
     /// No place for a name, and no room for requests.
     pub(crate) fn none(alloc: Global) -> Result<Spare, NoMemory> {
         let book = NameBook::try_new(alloc, 0)?;
-        let records = Records::try_new(alloc, 0, 0)?;
+        let records = Records::try_new(alloc, 0)?;
         let requests = Requests::try_new(alloc, 0)?;
         Ok(Spare {
             book,

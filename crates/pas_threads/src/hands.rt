@@ -14,7 +14,6 @@ use pas_acts::gate::Gate;
 use pas_acts::names::NameBook;
 use pas_shared::SharedRegion;
 use pas_trace::Op;
-use std::sync::Wait;
 use std::thread::{Threads, for_each_mut};
 
 /// The most hands of a phase: those of 16 threads and the scavenger.
@@ -42,7 +41,7 @@ fn act<G: Gate>(region: &SharedRegion, book: &NameBook, hand: &mut Hand, ops: &[
 }
 
 /// All hands at once, each in a thread of its own. Nothing waits but the end, for all of them.
-fn act_all<R: Threads + Wait + Sync, G: Gate + Sync>(
+fn act_all<R: Threads + Sync, G: Gate + Sync>(
     rt: &R,
     region: &SharedRegion,
     book: &NameBook,
@@ -78,7 +77,7 @@ fn pop_scavenger(hands: &mut Vec<Hand>) -> Scavenger
 }
 
 /// The hands act, and with them the scavenger where one of the operations is its own. The scavenger, as it is then.
-pub(crate) fn act_with<R: Threads + Wait + Sync, G: Gate + Sync>(
+pub(crate) fn act_with<R: Threads + Sync, G: Gate + Sync>(
     rt: &R,
     region: &SharedRegion,
     book: &NameBook,

@@ -26,7 +26,7 @@ use pas_acts::names::{NameBook, Requests};
 use pas_cache::ThreadCache;
 use pas_plans::{active, caches_for, names_limit, outcomes_from, rooms_of};
 use pas_profile::{EventRoom, NoMemory};
-use pas_report::Records;
+use pas_report::{Records, room_for_replay};
 use pas_shared::{Opening, SharedPass, SharedRegion, close};
 use pas_steps::State;
 use pas_trace::{Op, Phase, Plan};
@@ -112,9 +112,9 @@ fn records_for(
     ensures others { (whole.new.thread ≡ whole.old.thread) × (whole.new.total ≡ whole.old.total) × (whole.new.phases ≡ whole.old.phases) }
 {
     if thread != whole.thread {
-        return Records::try_new(alloc, bound, 0);
+        return Records::try_new(alloc, bound);
     }
-    let mut out = Records::try_new(alloc, bound.max(whole.total), whole.phases)?;
+    let mut out = room_for_replay(alloc, bound.max(whole.total), whole.phases)?;
     if let Some(before) = whole.records.take() {
         out.move_into(before);
     }
@@ -131,7 +131,7 @@ fn requests_for(
     ensures empty { IfOk result (λ requests. requests_in requests ≡ []) }
     ensures room { IfOk result (λ requests. room_for requests ≡ bound) }
 {
-    let mut requests = Requests::try_new(alloc, bound as usize)?;
+    let mut requests = Requests::try_new(alloc, bound)?;
     if thread == whole.thread {
         if let Some(before) = whole.requests.take() {
             requests.move_into(before);
@@ -187,7 +187,7 @@ fn scavenger_with(
     ensures ready { (f : TheProfile) → places_of outcomes ≡ f.pages → IfOk result (λ scavenger. IsSupplied f pass bound scavenger) }
     ensures places { IfOk result (λ scavenger. threads ≤ vec_capacity scavenger.lent) }
 {
-    let out = Records::try_new(alloc, bound, 0)?;
+    let out = Records::try_new(alloc, bound)?;
     let Ok(lent) = Vec::with_capacity(alloc, threads as usize) else {
         return Err(NoMemory);
     };
@@ -353,7 +353,7 @@ impl SharedKit {
 
 /// Replays the plan as `on_threads` does, and gives the rooms of its actors out with the state, so that another thread may let them go: that takes time in
 /// the memory which they touched.
-pub fn on_threads_with_rooms<R: Threads + Wait + Sync, G: Gate + Sync>(
+pub fn on_threads_with_rooms<R: Threads + Sync, G: Gate + Sync>(
     rt: &R,
     plan: &Plan,
     kit: SharedKit,

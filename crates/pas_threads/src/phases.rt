@@ -25,7 +25,6 @@ use pas_plans::active;
 use pas_report::{Record, Records};
 use pas_shared::SharedRegion;
 use pas_trace::{Op, Phase};
-use std::sync::Wait;
 use std::thread::Threads;
 
 /// The number of the phase that begins without a mark.
@@ -44,7 +43,7 @@ pub(crate) struct Team {
 
 /// The operations of a phase, by all hands at once, in as many threads of the system: the worker of each thread that has one, and the scavenger where one is
 /// its own, with the threads that have none. `awake` has the numbers of those that have one.
-fn perform_all<R: Threads + Wait + Sync, G: Gate + Sync>(
+fn perform_all<R: Threads + Sync, G: Gate + Sync>(
     rt: &R,
     region: &SharedRegion,
     team: Team,
@@ -77,7 +76,7 @@ fn perform_all<R: Threads + Wait + Sync, G: Gate + Sync>(
 }
 
 /// One phase: its threads read the epoch, its operations are performed, and what was said is gathered, actor by actor.
-fn perform_phase<R: Threads + Wait + Sync, G: Gate + Sync>(
+fn perform_phase<R: Threads + Sync, G: Gate + Sync>(
     rt: &R,
     region: &SharedRegion,
     team: Team,
@@ -113,7 +112,7 @@ fn finish(region: &SharedRegion, team: Team, out: &mut Records) -> Team
 
 /// Performs the phases in order, with a mark before each from the second on, and closes: a mark, and the stop of each thread. The operations of a phase are
 /// performed by as many threads as have one, all at once; the records of each phase come actor by actor. Takes no memory.
-pub(crate) fn replay<R: Threads + Wait + Sync, G: Gate + Sync>(
+pub(crate) fn replay<R: Threads + Sync, G: Gate + Sync>(
     rt: &R,
     region: &SharedRegion,
     team: Team,

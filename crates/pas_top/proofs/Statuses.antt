@@ -1,8 +1,15 @@
 -- How a call ends: what it wrote, and what status 4 says of a text that was cut off.
-use Rattle.std.proofs.Common.{◌≡◌, ℕ, ◌⊎◌, List, ◌++◌, append_assoc, Option, ap, ◌∙◌, sym, subst, inl, inr, arith}
+use Rattle.std.proofs.Common.{◌≡◌, ℕ, ◌⊎◌, List, [], ◌++◌, append_assoc, Option, Some, ap, ◌∙◌, sym, subst, inl, inr, arith}
 use Rattle.pas_io.specs.Told.{Tells, Writes, WritesFront}
+use Rattle.pas_io.specs.Inputs.{IsReadOut}
+use Rattle.pas_io.specs.declared.whole.Input.{Input}
+use Rattle.pas_io.specs.declared.whole.Input.TheVariants.{Whole}
 use Rattle.pas_io.proofs.Telling.{writes_more}
 use Rattle.pas_top.specs.Outputs.{IsOutput, IsWriting, IsWritten, IsCutOff}
+
+-- ---- a call that read its input whole
+pub nothing_left : (rest : Option (List ℕ)) (input : Input) (bytes : _) → input ≡ Whole bytes → IsReadOut input rest → rest ≡ Some []
+nothing_left rest input bytes is out = subst (λ (i : Input). IsReadOut i rest) is out
 
 -- ---- a call that told a text for a status, which wasn't 4
 pub answered : (before after : Option (List ℕ)) (faults faults' : ℕ) (text : List ℕ) (status answer : ℕ) → Tells before after faults faults' text status answer → (answer ≡ status) ⊎ (answer ≡ 4)
@@ -11,7 +18,7 @@ answered before after faults faults' text status answer tells = elim tells [ inl
 pub written : (words : List (List ℕ)) (told before after : Option (List ℕ)) (faults faults' : ℕ) (text : List ℕ) (status answer : ℕ) → Tells before after faults faults' text status answer
     → IsOutput words told status text → (answer ≡ 4 → ⊥) → IsWritten words told before after answer
 written words told before after faults faults' text status answer tells output whole = elim tells [
-  | inl wrote ↦ record { text = text; output = subst (λ s. IsOutput words told s text) (sym wrote.0) output; written = wrote.1 }
+  | inl wrote ↦ record { text = text; output = subst (λ s. IsOutput words told s text) (sym wrote.0) output; written = wrote.2 }
   | inr cut ↦ absurd (whole cut.0)
 ]
 
@@ -21,6 +28,10 @@ cut_off words told before after faults faults' text status answer tells output o
   | inl whole ↦ absurd (other (sym whole.0 ∙ four))
   | inr cut ↦ record { rose = cut.1; status = status; text = text; output = output; written = cut.2 }
 ]
+
+-- the sink counted a fault in no other case
+pub sound : (before after : Option (List ℕ)) (faults faults' : ℕ) (text : List ℕ) (status answer : ℕ) → Tells before after faults faults' text status answer → (answer ≡ 4 → ⊥) → faults' ≡ faults
+sound before after faults faults' text status answer tells whole = elim tells [ inl wrote ↦ wrote.1 | inr cut ↦ absurd (whole cut.0) ]
 
 pub not_four : (answer : ℕ) → IsWriting answer → answer ≡ 4 → ⊥
 not_four answer writing four = elim writing [

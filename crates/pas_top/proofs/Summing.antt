@@ -13,7 +13,7 @@ use Rattle.pas_top.specs.Outcomes.{IsShowing}
 use Rattle.pas_answers.specs.Ways.{InOrder}
 use Rattle.pas_top.specs.Outputs.{GenComesTo, IsGen, IsCutOff}
 use Rattle.pas_top.proofs.Headline.{totals_are}
-use Rattle.pas_top.proofs.Statuses.{cut_off}
+use Rattle.pas_top.proofs.Statuses.{cut_off, sound}
 
 -- ---- the summary
 pub summarized : (seed ops threads pages : ℕ) (bytes : List ℕ) (records : List Record) (state : State) (text : List ℕ) → IsShowing InOrder bytes records state → bytes ≡ trace_text seed ops threads pages
@@ -37,6 +37,14 @@ gen_cut_off words told before after faults faults' seed ops threads pages answer
   | inl five ↦ absurd (omega (arith, five, four))
   | inr (status, text, comes, tells) ↦ cut_off words told before after faults faults' text status answer tells
       (inr (inr (record { seed = seed; ops = ops; threads = threads; pages = pages; asked = asked; comes = comes }))) (gen_not_four seed ops threads pages status text comes) four
+]
+
+-- the sink counted a fault in no other case
+pub gen_sound : (before after : Option (List ℕ)) (faults faults' : ℕ) (seed ops threads pages answer : ℕ) → Generates before after faults faults' seed ops threads pages answer → (answer ≡ 5 → faults' ≡ faults)
+    → (answer ≡ 4 → ⊥) → faults' ≡ faults
+gen_sound before after faults faults' seed ops threads pages answer generates unheard whole = elim generates [
+  | inl five ↦ unheard five
+  | inr (status, text, comes, tells) ↦ sound before after faults faults' text status answer tells whole
 ]
 
 -- ---- a call whose sink didn't fail

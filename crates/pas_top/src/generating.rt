@@ -10,12 +10,11 @@ use pas_profile::NoMemory;
 use pas_telling::{Outcome, summary_of, tell};
 use pas_words::Job;
 use std::alloc::Global;
-use std::sync::Wait;
 use std::thread::Threads;
 
 /// Generates the trace of the job, replays it in the order of its text, and writes the summary. The status is 0, or 4 where
 /// the sink failed, or 5 where the program was out of memory. Nothing is written before the replay has ended.
-pub(crate) fn generate<R: Threads + Wait + Sync, K: Sink>(
+pub(crate) fn generate<R: Threads + Sync, K: Sink>(
     rt: &R,
     alloc: Global,
     job: Job,

@@ -1,5 +1,5 @@
 //! The call that the program makes.
-ghost use Rattle.std.specs.Prelude.{◌≡◌, ◌+◌, ◌<◌, ◌≤◌, ◌⊎◌, ℕ, List, Some, Ok, Err, length};
+ghost use Rattle.std.specs.Prelude.{◌≡◌, ◌≢◌, ◌+◌, ◌<◌, ◌≤◌, ◌⊎◌, ℕ, List, [], Some, Ok, Err, length};
 ghost use Rattle.pas_io.specs.Inputs.{Takes};
 ghost use Rattle.pas_io.specs.Told.{Rose};
 ghost use Rattle.pas_trace.specs.Plans.{IsPlanOf, parsed};
@@ -32,7 +32,8 @@ use std::thread::Threads;
 /// - 5: the program was out of memory. Nothing was written.
 /// - 6: the input is longer than 16,777,216 bytes, and that was written.
 ///
-/// At most 16,777,217 bytes are taken from the source. Nothing is written before the replay has ended. Linear in the input and in the output.
+/// A fault of the source brings 3 and one of the sink 4: with any other status its count is as before. With `order` and `run` the source was read to its end
+/// where the status is 0 or 1. At most 16,777,217 bytes are taken from it. Nothing is written before the replay has ended. Linear in the input and in the output.
 pub fn pas_main<R: Threads + Wait + Sync, S: Source, K: Sink>(
     rt: &R,
     alloc: Global,
@@ -51,6 +52,10 @@ pub fn pas_main<R: Threads + Wait + Sync, S: Source, K: Sink>(
     ensures source_failed { result ≡ 3 → HasFailed (S.rest source.old) (S.rest source.new) (S.faults source.old) (S.faults source.new) × (sink.new ≡ sink.old) }
     ensures sink_failed { result ≡ 4 → IsCutOff (texts_of words.now) (S.rest source.old) (K.held sink.old) (K.held sink.new) (K.faults sink.old) (K.faults sink.new) }
     ensures memory { result ≡ 5 → sink.new ≡ sink.old }
+    ensures source_sound { result ≢ 3 → S.faults source.new ≡ S.faults source.old }
+    ensures sink_sound { result ≢ 4 → K.faults sink.new ≡ K.faults sink.old }
+    ensures ended { (manner : Manner) → IsReplaying manner (texts_of words.now) → (bytes : List ℕ) → S.rest source.old ≡ Some bytes
+        → (result ≡ 0) ⊎ (result ≡ 1) → S.rest source.new ≡ Some [] }
 
     // Each cause brings its status, but for a fault of the source or the sink, and where the program is out of memory.
     ensures too_long { (manner : Manner) → IsReplaying manner (texts_of words.now) → (bytes : List ℕ) → S.rest source.old ≡ Some bytes → most_bytes < length bytes

@@ -20,7 +20,6 @@ use pas_threads::{Ahead, OpenGate, Rooms, on_threads_with_rooms};
 use pas_trace::{Plan, ReadFault};
 use pas_words::Manner;
 use std::alloc::Global;
-use std::sync::Wait;
 use std::thread::Threads;
 
 /// The plan of a replay that is over, and the rooms of its threads, where it was on threads. On threads they are let go while the lines are written.
@@ -32,7 +31,7 @@ pub(crate) struct Spent {
 
 /// Reads the bytes, lets them go, and replays the trace that they are in this manner. On threads what the replay needs is made while the
 /// bytes are read. What the replay leaves comes beside its outcome. NoMemory comes before the replay begins, or not at all.
-pub(crate) fn outcome_of<R: Threads + Wait + Sync>(
+pub(crate) fn outcome_of<R: Threads + Sync>(
     rt: &R,
     alloc: Global,
     manner: Manner,
@@ -58,7 +57,7 @@ pub(crate) fn outcome_of<R: Threads + Wait + Sync>(
 }
 
 /// What the bytes come to in the order of their text, as `outcome_of` says it. What the replay leaves beside it is let go.
-pub(crate) fn outcome_in_order<R: Threads + Wait + Sync>(
+pub(crate) fn outcome_in_order<R: Threads + Sync>(
     rt: &R,
     alloc: Global,
     bytes: Vec<u8>,
@@ -92,7 +91,7 @@ pub(crate) fn tell_outcome<R: Threads + Sync, K: Sink>(
 
 /// Replays the plan on threads, with what was made ahead for it, if that was. A plan of one thread has nothing that could be at once, and is
 /// replayed over plain words.
-fn replay_on_threads<R: Threads + Wait + Sync>(
+fn replay_on_threads<R: Threads + Sync>(
     rt: &R,
     alloc: Global,
     plan: &Plan,
@@ -115,7 +114,7 @@ fn replay_on_threads<R: Threads + Wait + Sync>(
 
 /// Replays the plan in this manner, and answers the region's state afterwards, with the rooms that were used. Memory is taken for the kit alone, before the
 /// replay begins.
-fn replay<R: Threads + Wait + Sync>(
+fn replay<R: Threads + Sync>(
     rt: &R,
     alloc: Global,
     manner: Manner,

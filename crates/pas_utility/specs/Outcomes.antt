@@ -1,15 +1,19 @@
 -- What a list of outcomes shows.
 use Rattle.std.specs.Prelude.{ℕ, List}
+use Rattle.pas_profile.specs.Rooms.{Holding}
 use Rattle.pas_profile.specs.declared.event.Outcome.{Outcome}
-use Rattle.pas_utility.specs.declared.outcomes.Outcomes.{Outcomes}
 
--- the pairs of a page and its outcome that are in it, in order
+-- a room for pairs of a page and its outcome
+abbrev pub Outcomes : Type 0
+Outcomes = Holding (ℕ × Outcome)
+
+-- the pairs that are in it, in order
 abbrev pub pairs_in : Outcomes → List (ℕ × Outcome)
-pairs_in outcomes = outcomes.pairs.items
+pairs_in outcomes = outcomes.items
 
 abbrev pub pair : ℕ → Outcome → ℕ × Outcome
 pair page outcome = (page, outcome)
 
 -- for how many pairs it was made
 abbrev pub places_of : Outcomes → ℕ
-places_of outcomes = outcomes.places
+places_of outcomes = outcomes.bound

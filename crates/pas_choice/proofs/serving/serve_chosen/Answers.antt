@@ -1,6 +1,5 @@
 use Rattle.std.proofs.Common.{false}
 use Rattle.pas_bits.specs.Masks.{is_set}
-use Rattle.pas_steps.proofs.Called.{next_call}
 use Rattle.pas_search.proofs.ForBackEnds.{room_kept}
 use Rattle.pas_search.proofs.Pages.{quiet_by, can_leave, can_back}
 use Rattle.pas_choice.specs.Choices.{choosing}

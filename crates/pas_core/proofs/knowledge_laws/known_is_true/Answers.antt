@@ -6,8 +6,7 @@ use Rattle.pas_core.proofs.DeedWords.{known_is}
 use Rattle.pas_core.proofs.Knowledge.{deeds_known, backed_known}
 use Rattle.pas_core.proofs.Rights.{free_known, free_known_has_right}
 use Rattle.pas_core.proofs.Lives.{life_is_known}
-use Rattle.pas_core.proofs.Stamps.{stamp_known}
-use Rattle.pas_core.proofs.Epochs.{epoch_known}
+use Rattle.pas_core.proofs.Stamps.{stamp_known, epoch_known}
 use Rattle.pas_core.proofs.knowledge_laws.known_is_true.Goals as goal
 
 pub returns-clause-deed : goal.returns-clause-deed

@@ -1,4 +1,4 @@
-use Rattle.pas_core.proofs.Hints.{empty_is_minded}
+use Rattle.pas_core.proofs.Offers.{empty_is_minded}
 use Rattle.pas_core.proofs.laws.empty_pages_are_minded.Goals as goal
 
 pub returns : goal.returns

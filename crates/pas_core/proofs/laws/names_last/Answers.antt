@@ -1,4 +1,4 @@
-use Rattle.pas_core.proofs.Given.{new_block, given_kept}
+use Rattle.pas_core.proofs.Lives.{new_block, given_kept}
 use Rattle.pas_core.proofs.laws.names_last.Goals as goal
 
 pub returns-clause-new : goal.returns-clause-new

@@ -5,7 +5,7 @@ use Rattle.pas_free_log.specs.Conditions.{IsRunOnPage}
 use Rattle.pas_free_log.specs.Frames.{run_freed, PutsBack}
 use Rattle.pas_free_log.specs.Stamps.{page_count}
 use Rattle.pas_free_log.specs.Returns.{MayReturn, PagesSteps}
-use Rattle.pas_free_log.proofs.Blocks.{back_none, none_freed, next_is, back_more, more_freed, order_more, may_more, on_page}
+use Rattle.pas_free_log.proofs.OneEntry.{back_none, none_freed, next_is, back_more, more_freed, order_more, may_more, on_page}
 use Rattle.pas_free_log.proofs.returning.return_run.Goals as goal
 
 pub loop-from-init : goal.loop-from-init

@@ -4,7 +4,7 @@ use Rattle.pas_steps.specs.Calls.{Does, Calls}
 use Rattle.pas_free_log.specs.Stamps.{page_count}
 use Rattle.pas_free_log.specs.Frames.{run_freed, PutsBack}
 use Rattle.pas_free_log.specs.Returns.{MayReturn, PagesSteps}
-use Rattle.pas_free_log.proofs.Blocks.{IsBorder}
+use Rattle.pas_free_log.proofs.OneEntry.{IsBorder}
 use Rattle.pas_free_log.proofs.returning.return_run.Given as goal
 
 -- the run up to the grain `from` was put back

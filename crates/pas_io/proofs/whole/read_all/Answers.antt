@@ -1,5 +1,5 @@
 use Rattle.std.proofs.Common.{rules, ◌≡◌, ◌-◌, ℕ, List, Some, length, replicate, ◌∙◌, arith}
-use Rattle.pas_io.proofs.Telling.{all_of_it, has_read_grown, whole_input}
+use Rattle.pas_io.proofs.Telling.{all_of_it, has_read_grown, read_out, whole_input}
 use Rattle.pas_io.proofs.whole.read_all.Goals as goal
 use Rattle.pas_io.proofs.whole.read_all.Goals.{then-loop-taken-test+else-taken-most, else-loop-taken-test}
 
@@ -38,6 +38,14 @@ pub returns-clause-input : goal.returns-clause-input
 returns-clause-input g c = λ told is.
     let read = c.loop-taken.invariant.told told is in
     whole_input told (g.S.Source.rest c.loop-taken.source) c.loop-taken.buffer.items c.truncate.new.self.items c.loop-taken.taken c.args.most c.truncate.ensures.items (omega arith) read
+    (c.loop-taken.invariant.all (elim c.loop-taken-test.branch [
+      | then-loop-taken-test+else-taken-most w ↦ absurd (omega arith)
+      | else-loop-taken-test w ↦ search rules
+    ]) told is)
+
+pub returns-clause-ended : goal.returns-clause-ended
+returns-clause-ended g c = λ told is.
+    read_out told (g.S.Source.rest c.loop-taken.source) c.loop-taken.buffer.items c.loop-taken.taken (c.loop-taken.invariant.told told is)
     (c.loop-taken.invariant.all (elim c.loop-taken-test.branch [
       | then-loop-taken-test+else-taken-most w ↦ absurd (omega arith)
       | else-loop-taken-test w ↦ search rules

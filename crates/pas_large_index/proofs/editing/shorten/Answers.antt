@@ -1,7 +1,7 @@
 use Rattle.std.proofs.Common.{◌++◌, ◌+◌, take, drop, ap, ◌∙◌, get_or}
 use Rattle.std.proofs.lemmas.List.{get_or_default}
 use Rattle.pas_large_index.specs.Spans.{left_of}
-use Rattle.pas_large_index.proofs.Places.{blank, shortened}
+use Rattle.pas_large_index.proofs.Spans.{blank, shortened}
 use Rattle.pas_large_index.proofs.editing.shorten.Goals as goal
 
 pub returns-then-pages-span : goal.returns-then-pages-span

@@ -1,5 +1,5 @@
 use Rattle.std.proofs.Common.{◌+◌, sym, subst}
-use Rattle.pas_large_index.proofs.Places.{blank, Gathers, gathers_more}
+use Rattle.pas_large_index.proofs.Spans.{blank, Gathers, gathers_more}
 use Rattle.pas_large_index.proofs.searching.gather.Goals as goal
 
 pub loop-end-preserved : goal.loop-end-preserved

@@ -1,5 +1,5 @@
 use Rattle.std.proofs.Common.{length, ◌-◌}
-use Rattle.pas_large_index.proofs.Places.{Gathers}
+use Rattle.pas_large_index.proofs.Spans.{Gathers}
 use Rattle.pas_large_index.proofs.searching.gather.Given as goal
 
 -- the ranges below this place were made one with the new one

@@ -1,7 +1,7 @@
 use Rattle.std.proofs.Common.{subst}
 use Rattle.std.proofs.lemmas.List.{get_or_default}
 use Rattle.pas_large_index.specs.Spans.{IsPlaceOf}
-use Rattle.pas_large_index.proofs.Places.{blank, looks_within, looks_more, looked}
+use Rattle.pas_large_index.proofs.Spans.{blank, looks_within, looks_more, looked}
 use Rattle.pas_large_index.proofs.searching.place_at.Goals as goal
 
 pub loop-place-preserved : goal.loop-place-preserved

@@ -1,5 +1,5 @@
 use Rattle.std.proofs.Common.{length, ◌-◌}
-use Rattle.pas_large_index.proofs.Places.{LooksFor}
+use Rattle.pas_large_index.proofs.Spans.{LooksFor}
 use Rattle.pas_large_index.proofs.searching.place_at.Given as goal
 
 -- no range below this place begins at the page

@@ -1,5 +1,5 @@
 use Rattle.std.proofs.Common.{length, ◌-◌, ◌≤◌}
-use Rattle.pas_large_index.proofs.Places.{StandsBehind}
+use Rattle.pas_large_index.proofs.Spans.{StandsBehind}
 use Rattle.pas_large_index.proofs.searching.place_behind.Given as goal
 
 -- the ranges below this place end before the page

@@ -1,6 +1,6 @@
 use Rattle.std.proofs.Common.{arith, subst}
 use Rattle.pas_bits.proofs.Words.{set_within}
-use Rattle.pas_partial.proofs.InRows.{AreRow, row_one, row_more}
+use Rattle.pas_partial.proofs.LowestRow.{AreRow, row_one, row_more}
 use Rattle.pas_partial.proofs.row.row_from.Goals as goal
 
 pub loop-count-init : goal.loop-count-init

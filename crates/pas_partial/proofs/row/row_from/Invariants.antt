@@ -1,5 +1,5 @@
 use Rattle.std.proofs.Common.{◌-◌, ◌≤◌}
-use Rattle.pas_partial.proofs.InRows.{AreRow}
+use Rattle.pas_partial.proofs.LowestRow.{AreRow}
 use Rattle.pas_partial.proofs.row.row_from.Given as goal
 
 -- the row of so many slots at most

@@ -4,7 +4,7 @@ use Rattle.pas_steps.specs.Clear.{IsClear}
 use Rattle.pas_free_log.specs.Conditions.{IsEntryOf}
 use Rattle.pas_free_log.specs.Logs.{entries_in}
 use Rattle.pas_free_log.specs.declared.log.Entry.{Entry}
-use Rattle.pas_plain.proofs.Walk.{start, spare}
+use Rattle.pas_plain.proofs.Desks.{start, spare}
 use Rattle.pas_region_tests.proofs.free_log.a_full_log_is_flushed_in_order.Goals as goal
 
 clear : IsClear []

@@ -15,7 +15,7 @@ use Rattle.pas_steps.specs.declared.step.Step.{Step}
 use Rattle.pas_steps.specs.declared.step.Step.TheVariants.{Look, Deed, Back, Take, Give, End}
 use Rattle.pas_plain.specs.Seats.{standing_of}
 use Rattle.pas_plain.specs.declared.desk.PlainDesk.{PlainDesk}
-use Rattle.pas_plain.proofs.Walk.{At, start, next, can, told, spare}
+use Rattle.pas_plain.proofs.Desks.{At, start, next, can, told, spare}
 use Rattle.pas_region_tests.proofs.plain.live_and_end.Goals as goal
 
 abbrev profile : Profile

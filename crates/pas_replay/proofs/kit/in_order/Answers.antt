@@ -6,7 +6,8 @@ use Rattle.pas_plain.specs.Plain.{profile_of, PassStands}
 use Rattle.pas_plain.specs.declared.pass.PlainPass.{PlainPass}
 use Rattle.pas_trace.specs.Plans.{ops_of}
 use Rattle.pas_trace.specs.declared.plan.Phase.{Phase}
-use Rattle.pas_plans.proofs.PlanFacts.{plan_phases, plan_valid}
+use Rattle.pas_plans.proofs.PlanFacts.{plan_phases, plan_valid, plan_fit}
+use Rattle.pas_answers.specs.Names.{names_held}
 use Rattle.pas_replay.proofs.StartAndEnd.{start, shows, handed, handed_back}
 use Rattle.pas_replay.proofs.kit.in_order.Goals as goal
 
@@ -40,4 +41,4 @@ returns c =
     let phases = map ops_of c.as_slice.result.now in
     let same = ap (λ (ps : List Phase). map ops_of ps) c.as_slice.ensures in
     let so = c.replay-region.ensures.so_far plan.profile (handed plan threads phases c.requires.kit.unused.many same (start c.requires.plan.2 c.requires.kit c.requires.empty c.requires.room)) in
-    shows {plan = plan} c.replay-region.new.actors c.replay-region.new.names (plan_valid c.requires.plan.2) (handed_back plan threads phases c.requires.kit.unused.many same so) c.replay-region.ensures.empty c.close.ensures.profile c.close.ensures.words
+    shows {plan = plan} c.replay-region.new.actors c.replay-region.new.names (names_held c.args.kit.names) (plan_valid c.requires.plan.2) (plan_fit c.requires.plan.2 (names_held c.args.kit.names) c.requires.kit.names) (handed_back plan threads phases c.requires.kit.unused.many same so) c.replay-region.ensures.empty c.close.ensures.profile c.close.ensures.words

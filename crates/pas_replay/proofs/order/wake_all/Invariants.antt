@@ -4,7 +4,7 @@ use Rattle.std.specs.Prelude.{map}
 use Rattle.std.specs.List.{filter}
 use Rattle.pas_bits.specs.Masks.{is_set}
 use Rattle.pas_profile.specs.declared.profile.Profile.{Profile}
-use Rattle.pas_report.specs.declared.records.Records.{Records}
+use Rattle.pas_report.specs.Rooms.{Records}
 use Rattle.pas_answers.specs.Acts.{Act, Wakes, numbers_from}
 use Rattle.pas_plans.specs.Awake.{awake_in}
 use Rattle.pas_replay.specs.Sessions.{SoFar, IsTaken, hand_at}

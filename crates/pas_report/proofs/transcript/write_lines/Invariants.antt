@@ -1,4 +1,4 @@
-use Rattle.std.proofs.Common.{◌≡◌, ◌≤◌, ◌++◌, ℕ, List, drop}
+use Rattle.std.proofs.Common.{◌≡◌, ◌++◌, ℕ, List, drop}
 use Rattle.pas_report.specs.Lines.{lines_of}
 use Rattle.pas_report.specs.Pieces.{IsPutOut}
 use Rattle.pas_report.proofs.transcript.write_lines.Given as goal
@@ -9,5 +9,5 @@ invariant-loop-item g l = record {
   text : List ℕ;
   put_out : IsPutOut (g.K.Sink.held l.fn.sink) (g.K.Sink.held l.sink) l.lines.bytes text;
   rest : text ++ lines_of (drop l.item-index l.records) ≡ lines_of l.records;
-  count : g.K.Sink.faults l.fn.sink ≤ g.K.Sink.faults l.sink;
+  count : g.K.Sink.faults l.sink ≡ g.K.Sink.faults l.fn.sink;
 }

@@ -1,4 +1,4 @@
-use Rattle.pas_scan.proofs.OpenPages.{within_none, empty_none, lowest_shown}
+use Rattle.pas_scan.proofs.EligibleRows.{within_none, empty_none, lowest_shown}
 use Rattle.pas_scan.proofs.row.lowest_in_row.Goals as goal
 
 pub returns-then-not-any_and_not : goal.returns-then-not-any_and_not

@@ -3,8 +3,7 @@ use Rattle.pas_profile.specs.declared.profile.Profile.{Profile}
 use Rattle.pas_steps.proofs.Adding.{adds_none, adds_call}
 use Rattle.pas_steps.proofs.Apart.{only_both}
 use Rattle.pas_scan.specs.Runs.{large_directory, page_looks}
-use Rattle.pas_scan.proofs.LeftPages.{left_alone_by}
-use Rattle.pas_scan.proofs.RunsSoFar.{RunSoFar, run_none, run_more, run_found, run_ended}
+use Rattle.pas_scan.proofs.LeftPages.{left_alone_by, RunSoFar, run_none, run_more, run_found, run_ended}
 use Rattle.pas_scan.proofs.runs.next_run.Goals as goal
 
 pub loop-page-init : goal.loop-page-init

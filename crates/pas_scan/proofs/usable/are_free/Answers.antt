@@ -3,7 +3,7 @@ use Rattle.pas_profile.specs.declared.word.Word.TheVariants as Word
 use Rattle.pas_steps.specs.declared.step.Step.TheVariants.{Look}
 use Rattle.pas_steps.specs.Desks.{made}
 use Rattle.pas_steps.proofs.Adding.{can_step, adds_step}
-use Rattle.pas_scan.proofs.PageLooks.{free_more}
+use Rattle.pas_scan.proofs.LeftPages.{free_more}
 use Rattle.pas_scan.proofs.usable.are_free.Goals as goal
 
 pub look-value-requires-clause-can : goal.look-value-requires-clause-can

@@ -1,8 +1,7 @@
 use Rattle.std.proofs.Common.{[], ◌∷◌, refl, arith}
 use Rattle.pas_steps.specs.Kinds.{Taking}
 use Rattle.pas_scavenger.proofs.Trying.{same_room}
-use Rattle.pas_scavenger.proofs.States.{takes_are}
-use Rattle.pas_scavenger.proofs.Examinations.{took, can_judge, can_put, takes_page}
+use Rattle.pas_scavenger.proofs.Examinations.{takes_are, took, can_judge, can_put, takes_page}
 use Rattle.pas_scavenger.proofs.examining.take_page.Goals as goal
 
 pub judge-outcome-requires-clause-can : goal.judge-outcome-requires-clause-can

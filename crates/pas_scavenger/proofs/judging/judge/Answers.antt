@@ -2,7 +2,7 @@ use Rattle.std.proofs.Common.{◌+◌, ◌<◌, ◌≤◌, ◌∷◌, refl, subs
 use Rattle.pas_steps.specs.Desks.{made}
 use Rattle.pas_steps.specs.declared.step.Step.TheVariants.{Unback}
 use Rattle.pas_steps.proofs.Adding.{adds_step, can_step}
-use Rattle.pas_scavenger.proofs.Judgings.{two_looks, looked, age_is, allowed}
+use Rattle.pas_scavenger.proofs.Examinations.{two_looks, looked, age_is, allowed}
 use Rattle.pas_scavenger.proofs.judging.judge.Goals as goal
 
 pub returns-then-epoch-stamp-clause-judges : goal.returns-then-epoch-stamp-clause-judges

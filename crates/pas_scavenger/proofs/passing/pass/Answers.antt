@@ -22,7 +22,7 @@ loop-block-init g c =
       few = omega arith;
       room = omega (arith, same, pages, room);
       left = let none = ap (λ (xs : _). length xs) c.clear.ensures.empty in omega (arith, none);
-      places = c.clear.ensures.places;
+      places = c.clear.ensures.size;
       home = c.look-epoch.ensures.home;
     }
 

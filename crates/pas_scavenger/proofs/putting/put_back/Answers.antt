@@ -1,4 +1,4 @@
-use Rattle.pas_scavenger.proofs.PuttingBack.{may_return, can_leave, puts_back}
+use Rattle.pas_scavenger.proofs.Examinations.{may_return, can_leave, puts_back}
 use Rattle.pas_scavenger.proofs.putting.put_back.Goals as goal
 
 pub returned-requires-clause-can : goal.returned-requires-clause-can

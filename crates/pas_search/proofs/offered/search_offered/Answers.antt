@@ -32,6 +32,9 @@ serve-requires-clause-room g c =
     room_kept {C = MaySearch d} (g.S.Serving.rule c.args.serving.now).events (claim_adds i.tries i.directory c.in-Some.ensures.found h.calls.adds) c.requires.can
     (claim_quiet i.tries i.directory c.in-Some.ensures.found h.calls.adds) (g.met.D.Desk.spares c.args.desk.now) (g.met.D.Desk.spares c.claim.new.desk) c.requires.room
 
+pub mark_unfit-requires : goal.mark_unfit-requires
+mark_unfit-requires g c = let most = (g.met.D.Desk.valid c.loop-looked.desk).pages in let high = c.in-Some.ensures.found.outcome.1.of_region.1 in omega (arith, most, high)
+
 pub returns-in-Some-serve-clause-found : goal.returns-in-Some-serve-clause-found
 returns-in-Some-serve-clause-found g c =
     let i = c.loop-looked.invariant in let n = c.first_offered.new.looked in let h = c.claim.ensures.claims in

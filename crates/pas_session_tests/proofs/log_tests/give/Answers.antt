@@ -16,7 +16,7 @@ use Rattle.pas_steps.specs.Desks.{made, Makes}
 use Rattle.pas_steps.specs.declared.step.Step.{Step}
 use Rattle.pas_plain.specs.Seats.{standing_of}
 use Rattle.pas_plain.specs.declared.desk.PlainDesk.{PlainDesk}
-use Rattle.pas_plain.proofs.Walk.{At, start, next, can, told, spare}
+use Rattle.pas_plain.proofs.Desks.{At, start, next, can, told, spare}
 use Rattle.pas_session_tests.proofs.log_tests.give.Goals as goal
 
 abbrev profile : Profile

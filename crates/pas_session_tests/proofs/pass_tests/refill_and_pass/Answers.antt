@@ -8,6 +8,12 @@ pub change-desk-requires : goal.change-desk-requires
 change-desk-requires c = let o = c.in_ok-desk.ensures.opens in
     beside_then c.fill.ensures.steps c.in_ok-desk.pass [] [] o.stood (may_search (class_directory 0 0)) o.rests o.other
 
+pub age_and_pass-requires-clause-can : goal.age_and_pass-requires-clause-can
+age_and_pass-requires-clause-can c =
+    let o = c.in_ok-desk.ensures.opens in
+    let w = waits_then c.fill.ensures.steps c.in_ok-desk.pass [] [] o.stood (may_search (class_directory 0 0)) o.rests o.other refl o.room_of o.room_of_other in
+    record { view = []; whole = w.whole; stood = seated_then w c.change-desk.result.0 c.change-desk.ensures.region c.change-desk.ensures.seated; met = nothing_yet }
+
 pub close_both-requires : goal.close_both-requires
 close_both-requires c =
     let o = c.in_ok-desk.ensures.opens in let d = class_directory 0 0 in

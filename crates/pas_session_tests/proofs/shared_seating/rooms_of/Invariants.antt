@@ -1,6 +1,5 @@
 use Rattle.std.proofs.Common.{◌≡◌, [], All, vec_len}
-use Rattle.pas_profile.specs.Rooms.{shown, size_of_room}
-use Rattle.pas_profile.specs.declared.room.EventRoom.{EventRoom}
+use Rattle.pas_profile.specs.Rooms.{shown, size_of_room, EventRoom}
 use Rattle.pas_session_tests.proofs.shared_seating.rooms_of.Given as goal
 
 abbrev pub invariant-loop-index : goal.invariant-loop-index

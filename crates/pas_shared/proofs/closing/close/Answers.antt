@@ -1,7 +1,7 @@
 use Rattle.std.proofs.Common.{List, ℕ, ap, ◌∙◌}
 use Rattle.std.specs.Prelude.{slice_index}
 use Rattle.pas_profile.specs.Layouts.{index_of}
-use Rattle.pas_shared.proofs.Closed.{ends}
+use Rattle.pas_shared.proofs.Ruling.{ends}
 use Rattle.pas_shared.proofs.closing.close.Goals as goal
 
 pub returns : goal.returns

@@ -1,7 +1,7 @@
 use Rattle.std.proofs.Common.{◌≡◌, List, [], ◌∷◌, ◌++◌, ap, sym, ◌∙◌, append_assoc}
 use Rattle.pas_shared.specs.Ruled.{joined}
 use Rattle.pas_shared.specs.declared.pass.SharedPass.{SharedPass}
-use Rattle.pas_shared.proofs.Closed.{takes_in}
+use Rattle.pas_shared.proofs.Ruling.{takes_in}
 use Rattle.pas_shared.proofs.Pops.{last_is}
 use Rattle.pas_shared.proofs.closing.join_all.Goals as goal
 

@@ -1,4 +1,4 @@
-use Rattle.pas_shared.proofs.Closed.{arrives}
+use Rattle.pas_shared.proofs.Ruling.{arrives}
 use Rattle.pas_shared.proofs.closing.nobody.Goals as goal
 
 pub load_new_seat-requires : goal.load_new_seat-requires

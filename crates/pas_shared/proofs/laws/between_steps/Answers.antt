@@ -1,4 +1,4 @@
-use Rattle.pas_shared.proofs.Kept.{good}
+use Rattle.pas_shared.proofs.Ruling.{good}
 use Rattle.pas_shared.proofs.laws.between_steps.Goals as goal
 
 pub returns : goal.returns

@@ -1,4 +1,4 @@
-use Rattle.pas_shared.proofs.Kept.{good}
+use Rattle.pas_shared.proofs.Ruling.{good}
 use Rattle.pas_shared.proofs.laws.closed_words.Goals as goal
 
 pub returns : goal.returns

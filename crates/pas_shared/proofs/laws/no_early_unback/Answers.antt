@@ -1,4 +1,4 @@
-use Rattle.pas_shared.proofs.Kept.{none_is_early}
+use Rattle.pas_shared.proofs.Ruling.{none_is_early}
 use Rattle.pas_shared.proofs.laws.no_early_unback.Goals as goal
 
 pub returns-clause-between : goal.returns-clause-between

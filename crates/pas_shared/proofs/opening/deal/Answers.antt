@@ -1,6 +1,5 @@
 use Rattle.std.proofs.Common.{◌≡◌, ◌≤◌, ℕ, ◌+◌, ◌++◌, ◌∷◌, [], List, length, vec_len, sym, ap, ◌∙◌, subst, arith}
-use Rattle.pas_profile.specs.Rooms.{shown}
-use Rattle.pas_profile.specs.declared.room.EventRoom.{EventRoom}
+use Rattle.pas_profile.specs.Rooms.{shown, EventRoom}
 use Rattle.pas_shared.specs.declared.rule.Roster.TheVariants.{Unused}
 use Rattle.pas_shared.specs.declared.pass.SharedPass.{SharedPass}
 use Rattle.pas_shared.specs.Passes.{AreFresh}

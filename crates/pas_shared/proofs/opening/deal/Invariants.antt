@@ -1,8 +1,7 @@
 use Rattle.std.proofs.Common.{◌≡◌, ◌≤◌, ◌+◌, ◌++◌, List, [], length, vec_len}
 use Rattle.std.specs.List.{All}
 use Rattle.std.specs.Prelude.{vec_capacity}
-use Rattle.pas_profile.specs.Rooms.{shown}
-use Rattle.pas_profile.specs.declared.room.EventRoom.{EventRoom}
+use Rattle.pas_profile.specs.Rooms.{shown, EventRoom}
 use Rattle.pas_shared.specs.declared.rule.Roster.TheVariants.{Unused}
 use Rattle.pas_shared.specs.Passes.{AreFresh}
 use Rattle.pas_shared.proofs.opening.deal.Given as goal

@@ -1,4 +1,4 @@
-use Rattle.std.proofs.Common.{◌≡◌, ◌≤◌, ◌++◌, ℕ, List, All}
+use Rattle.std.proofs.Common.{◌≡◌, ◌++◌, ℕ, List, All}
 use Rattle.pas_io.specs.Told.{Writes}
 use Rattle.pas_report.specs.Lines.{CanShow, lines_of}
 use Rattle.pas_sheets.specs.Texts.{texts_of}
@@ -12,5 +12,5 @@ invariant-loop-round g l = record {
   rest : text ++ (texts_of l.sheets.full.sheets.items ++ lines_of l.round-iterator.rest.now) ≡ lines_of l.records;
   size : l.round-iterator.size ≡ 32768;
   shown : All CanShow l.round-iterator.rest.now;
-  count : g.K.Sink.faults l.fn.sink ≤ g.K.Sink.faults l.sink;
+  count : g.K.Sink.faults l.sink ≡ g.K.Sink.faults l.fn.sink;
 }

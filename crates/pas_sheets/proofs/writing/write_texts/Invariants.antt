@@ -1,4 +1,4 @@
-use Rattle.std.proofs.Common.{◌≡◌, ◌≤◌, ◌++◌, ℕ, List, drop}
+use Rattle.std.proofs.Common.{◌≡◌, ◌++◌, ℕ, List, drop}
 use Rattle.pas_io.specs.Told.{Writes}
 use Rattle.pas_sheets.specs.Texts.{texts_of}
 use Rattle.pas_sheets.proofs.writing.write_texts.Given as goal
@@ -9,5 +9,5 @@ invariant-loop-sheet g l = record {
   text : List ℕ;
   written : Writes (g.K.Sink.held l.fn.sink) (g.K.Sink.held l.sink) text;
   rest : text ++ texts_of (drop l.sheet-index l.sheets) ≡ texts_of l.sheets;
-  count : g.K.Sink.faults l.fn.sink ≤ g.K.Sink.faults l.sink;
+  count : g.K.Sink.faults l.sink ≡ g.K.Sink.faults l.fn.sink;
 }

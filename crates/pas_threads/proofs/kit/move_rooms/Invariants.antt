@@ -1,7 +1,6 @@
 -- the rooms so far are of the sizes that they had, and none has an event
 use Rattle.std.proofs.Common.{ℕ, ◌≡◌, ◌≤◌, [], Option, All, length}
-use Rattle.pas_profile.specs.Rooms.{shown}
-use Rattle.pas_profile.specs.declared.room.EventRoom.{EventRoom}
+use Rattle.pas_profile.specs.Rooms.{shown, EventRoom}
 use Rattle.pas_plans.specs.Parts.{AreRooms}
 use Rattle.pas_threads.proofs.kit.move_rooms.Given as goal
 

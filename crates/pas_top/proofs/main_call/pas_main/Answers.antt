@@ -1,11 +1,11 @@
-use Rattle.std.proofs.Common.{rules, refl, subst, inl, arith}
+use Rattle.std.proofs.Common.{rules, refl, ap, subst, inl, arith}
 use Rattle.pas_io.specs.Inputs.{IsInput}
 use Rattle.pas_telling.specs.Outcomes.{outcome_status, outcome_text}
 use Rattle.pas_words.specs.Calls.{IsCall, IsMisread}
 use Rattle.pas_top.specs.Manners.{way_of}
-use Rattle.pas_top.proofs.Summing.{gen_cut_off, gen_summed}
+use Rattle.pas_top.proofs.Summing.{gen_cut_off, gen_sound, gen_summed}
 use Rattle.pas_top.specs.Outputs.{IsReplaying, IsAccepted, most_bytes, texts_of, usage_text, too_long_text}
-use Rattle.pas_top.proofs.Statuses.{cut_off, not_four, written}
+use Rattle.pas_top.proofs.Statuses.{cut_off, not_four, nothing_left, sound, written}
 use Rattle.pas_top.proofs.Headline.{can_write, outcome_output, too_long_output, status_not_four}
 use Rattle.pas_top.proofs.main_call.pas_main.Goals as goal
 
@@ -47,3 +47,18 @@ returns-in-Ok-clause-sink_failed g c =
 
 pub returns-in-Ok-Gen-clause-summed : goal.returns-in-Ok-Gen-clause-summed
 returns-in-Ok-Gen-clause-summed g c seed ops threads pages asked never = gen_summed _ _ _ _ _ _ _ _ c.generate.result c.generate.ensures.told never
+
+pub returns-in-Ok-Gen-clause-sink_sound : goal.returns-in-Ok-Gen-clause-sink_sound
+returns-in-Ok-Gen-clause-sink_sound g c whole = gen_sound _ _ _ _ _ _ _ _ c.generate.result c.generate.ensures.told (λ five. ap g.K.Sink.faults (c.generate.ensures.memory five)) whole
+
+pub returns-in-Err-Usage-clause-sink_sound : goal.returns-in-Err-Usage-clause-sink_sound
+returns-in-Err-Usage-clause-sink_sound g c whole = sound _ _ _ _ usage_text 2 c.tell.result c.tell.ensures whole
+
+pub returns-in-Ok-TooLong-clause-sink_sound : goal.returns-in-Ok-TooLong-clause-sink_sound
+returns-in-Ok-TooLong-clause-sink_sound g c whole = sound _ _ _ _ too_long_text 6 c.tell-in-Ok-TooLong.result c.tell-in-Ok-TooLong.ensures whole
+
+pub returns-in-Ok-clause-sink_sound : goal.returns-in-Ok-clause-sink_sound
+returns-in-Ok-clause-sink_sound g c whole = sound _ _ _ _ (outcome_text c.in-Ok.outcome) (outcome_status c.in-Ok.outcome) c.tell_outcome.result c.tell_outcome.ensures whole
+
+pub returns-in-Ok-clause-ended : goal.returns-in-Ok-clause-ended
+returns-in-Ok-clause-ended g c manner asked bytes told either = nothing_left _ _ _ c.in-Ok-Whole.field-0-is (c.in-Ok-Whole.ensures.ended bytes told)

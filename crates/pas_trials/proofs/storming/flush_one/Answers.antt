@@ -1,4 +1,4 @@
-use Rattle.pas_plain.proofs.Storming.{acts_still}
+use Rattle.pas_plain.proofs.Desks.{acts_still}
 use Rattle.pas_trials.proofs.storming.flush_one.Goals as goal
 
 pub returns-clause-acts : goal.returns-clause-acts

@@ -8,6 +8,7 @@ use Rattle.pas_cache.specs.Serves.{IsFilling, filling_in}
 use Rattle.pas_cache.proofs.BitfitRoute.{bitfit_call, bitfit_room, bitfit_allocates}
 use Rattle.pas_cache.proofs.Obtained.{obtain_rests}
 use Rattle.pas_cache.proofs.Served.{routed, roomed, filling_for, home_is, allocates, serve_call, formed, rests_after}
+use Rattle.pas_cache.proofs.Opened.{may_allocate_open}
 use Rattle.pas_cache.proofs.cache.ThreadCache.alloc.Goals as goal
 
 pub route-requires-clause-valid : goal.route-requires-clause-valid
@@ -20,13 +21,13 @@ serve-requires-clause-filling g c =
     subst (λ (d : Directory). IsFilling f (filling_in d class)) (sym (home_is f c.new.result c.args.heap class c.kind_for-kind.result c.kind_for-kind.ensures (c.new.ensures ∙ ap (λ (x : Profile). x.shared) c.profile-in-Class.ensures)))
     (filling_for f c.args.size c.args.align c.args.heap class c.requires.admitted (routed f _ c.args.size c.args.align _ _ c.profile.ensures c.route.ensures c.in-Class.is))
 
-pub invariant_of-self-clause-one_each : goal.invariant_of-self-clause-one_each
-invariant_of-self-clause-one_each g c =
-    (rests_after (filling_in (record { heap = c.args.heap; kind = c.kind_for-kind.result }) c.in-Class.class) g.D.Desk.tells _ _ c.serve.result c.serve.ensures.serves (obtain_rests (serve_call c.requires.can))).apart.one_each
+pub serve-requires-clause-can : goal.serve-requires-clause-can
+serve-requires-clause-can g c = serve_call (may_allocate_open c.self.view_is c.requires.can)
 
-pub invariant_of-self-clause-formed : goal.invariant_of-self-clause-formed
-invariant_of-self-clause-formed g c =
-    formed _ _ _ (rests_after (filling_in (record { heap = c.args.heap; kind = c.kind_for-kind.result }) c.in-Class.class) g.D.Desk.tells _ _ c.serve.result c.serve.ensures.serves (obtain_rests (serve_call c.requires.can)))
+pub invariant_of-self : goal.invariant_of-self
+invariant_of-self g c =
+    let rests = rests_after (filling_in (record { heap = c.args.heap; kind = c.kind_for-kind.result }) c.in-Class.class) g.D.Desk.tells _ _ c.serve.result c.serve.ensures.serves (obtain_rests (serve_call (may_allocate_open c.self.view_is c.requires.can))) in
+    record { one_each = rests.apart.one_each; formed = formed _ _ _ rests; ranges = c.self.invariant.ranges }
 
 pub room_for-room-requires-clause-valid : goal.room_for-room-requires-clause-valid
 room_for-room-requires-clause-valid g c = subst IsValid (sym c.profile-in-Bitfit.ensures) (g.met.D.Desk.valid c.args.desk.now)
@@ -48,8 +49,8 @@ returns-in-Class-clause-allocates g c =
     let f = (g.D.Desk.standing c.args.desk.now).seat.profile in
     let class = c.in-Class.class in
     let home = home_is f c.new.result c.args.heap class c.kind_for-kind.result c.kind_for-kind.ensures (c.new.ensures ∙ ap (λ (x : Profile). x.shared) c.profile-in-Class.ensures) in
-    allocates c.args.size c.args.align c.args.heap class g.D.Desk.tells _ _ c.serve.result c.requires.admitted (routed f _ c.args.size c.args.align _ _ c.profile.ensures c.route.ensures c.in-Class.is) refl
-    (subst (λ (d : Directory). ServesFrom (filling_in d class) g.D.Desk.tells c.args.self.now.locals.items c.serve.new.locals.items (g.D.Desk.standing c.args.desk.now) (g.D.Desk.standing c.serve.new.desk) c.serve.result) home c.serve.ensures.serves)
+    rw (← c.self.view_is) (allocates c.args.size c.args.align c.args.heap class g.D.Desk.tells _ _ c.serve.result c.requires.admitted (routed f _ c.args.size c.args.align _ _ c.profile.ensures c.route.ensures c.in-Class.is) refl
+    (subst (λ (d : Directory). ServesFrom (filling_in d class) g.D.Desk.tells c.self.inside.locals.items c.serve.new.locals.items (g.D.Desk.standing c.args.desk.now) (g.D.Desk.standing c.serve.new.desk) c.serve.result) home c.serve.ensures.serves))
 
 pub returns-in-Bitfit-clause-allocates : goal.returns-in-Bitfit-clause-allocates
 returns-in-Bitfit-clause-allocates g c =

@@ -1,6 +1,8 @@
-use Rattle.std.proofs.Common.{get_or, sym, ◌∙◌, subst, take, refl}
+use Rattle.std.proofs.Common.{[], get_or, sym, ◌∙◌, subst, take, refl}
+use Rattle.std.proofs.lemmas.List.Elements.{All-nil, All-same}
 use Rattle.std.proofs.lemmas.List.{take_all, take_more}
 use Rattle.pas_free_log.specs.Noted.{AreRanges, IsRange}
+use Rattle.pas_free_log.specs.declared.noting.EndedRun.{EndedRun}
 use Rattle.pas_cache.specs.Calls.{SettlesEach}
 use Rattle.pas_cache.proofs.Settled.{settles_more, blank}
 use Rattle.pas_cache.proofs.cache.ThreadCache.settle.Goals as goal
@@ -10,7 +12,7 @@ loop-run-init g c = refl
 
 pub settle-requires : goal.settle-requires
 settle-requires g c =
-    let ranges : AreRanges c.as_slice-run-items.result.now = subst AreRanges (sym c.as_slice-run-items.ensures.value) c.args.self.now.ranges in
+    let ranges : AreRanges c.as_slice-run-items.result.now = subst AreRanges (sym c.as_slice-run-items.ensures.value) c.self.invariant.ranges in
     let is : IsRange (get_or c.as_slice-run-items.result.now c.loop-run.run-index blank).range = ranges c.loop-run.run-index blank c.loop-run-test.true in
     record { first = is.first; some = is.some; last = is.last }
 
@@ -23,4 +25,11 @@ loop-run-preserved g c =
 pub returns-clause-settles : goal.returns-clause-settles
 returns-clause-settles g c =
     let runs = c.as_slice-run-items.result.now in
-    subst (λ xs. SettlesEach g.O.Door.settles xs c.args.door.now c.loop-run.door) (take_all c.loop-run.run-index runs c.loop-run-test.false ∙ c.as_slice-run-items.ensures.value) c.loop-run.invariant
+    rw (← c.self.view_is) (subst (λ xs. SettlesEach g.O.Door.settles xs c.args.door.now c.loop-run.door) (take_all c.loop-run.run-index runs c.loop-run-test.false ∙ c.as_slice-run-items.ensures.value) c.loop-run.invariant)
+
+pub invariant_of-self : goal.invariant_of-self
+invariant_of-self g c = record {
+  one_each = c.self.invariant.one_each;
+  formed = c.self.invariant.formed;
+  ranges = All-same (λ (run : EndedRun). IsRange run.range) _ [] c.clear.ensures (All-nil (λ (run : EndedRun). IsRange run.range));
+}

@@ -2,8 +2,7 @@ use Rattle.std.proofs.Common.{◌∙◌, ◌≡◌, ◌++◌, ◌+◌, take, dro
 use Rattle.pas_large_index.specs.declared.span.Span.{Span}
 use Rattle.pas_large_index.specs.Spans.{AreApart, has_page, left_of}
 use Rattle.pas_large_index.specs.Sets.{HasFewer}
-use Rattle.pas_large_index.proofs.Cuts.{cut_apart, cut_has, from_to}
-use Rattle.pas_large_index.proofs.Places.{cut_is}
+use Rattle.pas_large_index.proofs.Spans.{cut_apart, cut_has, from_to, cut_is}
 use Rattle.pas_large_index.proofs.index.LargeIndex.cut.Goals as goal
 
 pub returns-clause-ranges : goal.returns-clause-ranges

@@ -1,8 +1,7 @@
 use Rattle.std.proofs.Common.{◌∙◌, ◌≡◌, ◌++◌, ◌∷◌, take, drop, sym, subst, arith, ap}
 use Rattle.pas_large_index.specs.Spans.{AreApart, has_page, joined, span_of}
 use Rattle.pas_large_index.specs.Sets.{HasMore}
-use Rattle.pas_large_index.proofs.Spans.{joined_apart, joined_has}
-use Rattle.pas_large_index.proofs.Places.{joined_is}
+use Rattle.pas_large_index.proofs.Spans.{joined_apart, joined_has, joined_is}
 use Rattle.pas_large_index.proofs.index.LargeIndex.insert.Goals as goal
 
 pub returns-clause-ranges : goal.returns-clause-ranges

@@ -1,7 +1,6 @@
 use Rattle.std.proofs.Common.{◌∙◌, ap, sym, subst, Some}
 use Rattle.pas_large_index.specs.Spans.{AreApart, lowest_fit}
-use Rattle.pas_large_index.proofs.Cuts.{none_cut, cut_is_lowest}
-use Rattle.pas_large_index.proofs.Places.{found_for}
+use Rattle.pas_large_index.proofs.Spans.{none_cut, cut_is_lowest, found_for}
 use Rattle.pas_large_index.proofs.index.LargeIndex.take_lowest.Goals as goal
 
 pub returns-in_err-first-clause-left : goal.returns-in_err-first-clause-left

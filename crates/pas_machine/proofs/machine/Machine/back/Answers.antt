@@ -1,9 +1,7 @@
 use Rattle.std.proofs.Common.{◌≤◌, refl, arith}
 use Rattle.pas_profile.specs.declared.event.Event.{Event}
 use Rattle.pas_machine.specs.Machine.{Admits}
-use Rattle.pas_machine.proofs.Refusals.{admits_of}
-use Rattle.pas_machine.proofs.Verdicts.{page_is}
-use Rattle.pas_machine.proofs.Moves.{back_shows, shown_after}
+use Rattle.pas_machine.proofs.Verdicts.{admits_of, page_is, back_shows, shown_after}
 use Rattle.pas_machine.proofs.machine.Machine.back.Goals as goal
 
 pub returns-in-Some-clause-steps : goal.returns-in-Some-clause-steps

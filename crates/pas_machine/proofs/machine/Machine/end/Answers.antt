@@ -1,8 +1,7 @@
 use Rattle.std.proofs.Common.{◌/◌, ◌≤◌, ◌<◌, length, refl, arith}
 use Rattle.pas_profile.specs.declared.event.Event.{Event}
 use Rattle.pas_profile.specs.Runs.{address_of, grain_of}
-use Rattle.pas_machine.proofs.Verdicts.{place_is}
-use Rattle.pas_machine.proofs.Moves.{end_shows, shown_after}
+use Rattle.pas_machine.proofs.Verdicts.{place_is, end_shows, shown_after}
 use Rattle.pas_machine.proofs.machine.Machine.end.Goals as goal
 
 pub returns-in-Err-clause-steps : goal.returns-in-Err-clause-steps

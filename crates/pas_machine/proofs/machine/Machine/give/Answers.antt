@@ -2,9 +2,7 @@ use Rattle.std.proofs.Common.{◌<◌, ◌∙◌, length, refl, sym, arith}
 use Rattle.pas_profile.specs.declared.event.Event.{Event}
 use Rattle.pas_profile.specs.Runs.{address_of, grain_of}
 use Rattle.pas_machine.specs.Machine.{Admits}
-use Rattle.pas_machine.proofs.Refusals.{admits_of}
-use Rattle.pas_machine.proofs.Verdicts.{place_at, gives_are}
-use Rattle.pas_machine.proofs.Moves.{give_shows, shown_after}
+use Rattle.pas_machine.proofs.Verdicts.{admits_of, place_at, gives_are, give_shows, shown_after}
 use Rattle.pas_machine.proofs.machine.Machine.give.Goals as goal
 
 pub returns-in-Some-clause-steps : goal.returns-in-Some-clause-steps

@@ -1,6 +1,5 @@
 use Rattle.pas_profile.specs.declared.event.Event.{Event}
-use Rattle.pas_machine.proofs.Refusals.{admits_of}
-use Rattle.pas_machine.proofs.Moves.{reject_shows}
+use Rattle.pas_machine.proofs.Verdicts.{admits_of, reject_shows}
 use Rattle.pas_machine.proofs.machine.Machine.reject.Goals as goal
 
 pub returns-in-None : goal.returns-in-None

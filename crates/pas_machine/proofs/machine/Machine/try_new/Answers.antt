@@ -1,5 +1,5 @@
 use Rattle.std.proofs.Common.{[]}
-use Rattle.pas_machine.proofs.Openings.{opens}
+use Rattle.pas_machine.proofs.Verdicts.{opens}
 use Rattle.pas_machine.proofs.machine.Machine.try_new.Goals as goal
 
 pub invariant_of-result-clause-shown : goal.invariant_of-result-clause-shown

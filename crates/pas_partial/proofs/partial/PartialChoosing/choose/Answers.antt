@@ -1,7 +1,6 @@
-use Rattle.std.proofs.Common.{◌/◌, ◌<◌, ◌≤◌, arith, subst, sym}
+use Rattle.std.proofs.Common.{◌/◌, ◌≤◌, arith, subst, sym}
 use Rattle.pas_profile.proofs.ClassFacts.{class_grains_le, class_grains_positive}
-use Rattle.pas_partial.proofs.InRows.{AreRow}
-use Rattle.pas_partial.proofs.LowestRow.{none_fits, are_starts, lowest_row}
+use Rattle.pas_partial.proofs.LowestRow.{AreRow, none_fits, are_starts, lowest_row}
 use Rattle.pas_partial.proofs.partial.PartialChoosing.choose.Goals as goal
 
 pub returns-in_err-first : goal.returns-in_err-first

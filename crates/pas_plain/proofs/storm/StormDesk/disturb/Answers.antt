@@ -1,4 +1,4 @@
-use Rattle.pas_plain.proofs.Storming.{disturbed}
+use Rattle.pas_plain.proofs.Desks.{disturbed}
 use Rattle.pas_plain.proofs.storm.StormDesk.disturb.Goals as goal
 
 pub returns-then-spare-ge-LEAST_SPARE-clause-stands : goal.returns-then-spare-ge-LEAST_SPARE-clause-stands

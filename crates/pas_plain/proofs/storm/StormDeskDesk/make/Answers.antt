@@ -1,4 +1,4 @@
-use Rattle.pas_plain.proofs.Storming.{may_step, storm_makes}
+use Rattle.pas_plain.proofs.Desks.{may_step, storm_makes}
 use Rattle.pas_plain.proofs.storm.StormDeskDesk.make.Goals as goal
 
 pub make-requires-clause-can : goal.make-requires-clause-can

@@ -1,6 +1,6 @@
 use Rattle.std.proofs.Common.{[], ◌∷◌, refl}
 use Rattle.pas_steps.specs.Kinds.{Ticking}
-use Rattle.pas_plain.proofs.Storming.{acts_idly}
+use Rattle.pas_plain.proofs.Desks.{acts_idly}
 use Rattle.pas_region_tests.proofs.storms.TickerIntruder.act.Goals as goal
 
 pub returns-then-number-self-clause-acts : goal.returns-then-number-self-clause-acts

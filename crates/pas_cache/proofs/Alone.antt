@@ -1,0 +1,123 @@
+-- A request that was refused where no other actor made a step meanwhile, whatever its desk tells.
+use Rattle.std.proofs.Common.{◌≡◌, ℕ, List, ◌++◌, None, Result, Ok, Err, refl, ap, sym, ◌∙◌, subst, true≢false, inl, inr}
+use Rattle.pas_profile.specs.Profiles.{IsValid, IsAdmitted}
+use Rattle.pas_profile.specs.Requests.{is_shared, kind_of_route, route_in, room_in, class_home}
+use Rattle.pas_profile.specs.declared.directory.Route.{Route}
+use Rattle.pas_profile.specs.declared.event.NoRoom.{NoRoom}
+use Rattle.pas_profile.specs.declared.profile.Profile.{Profile}
+use Rattle.pas_steps.specs.Desks.{triples}
+use Rattle.pas_steps.specs.Lists.{Whole, part, Legal}
+use Rattle.pas_steps.specs.declared.step.Made.{Made}
+use Rattle.pas_steps.proofs.Adding.{triples_append}
+use Rattle.pas_steps.proofs.Parts.{part_of_own}
+use Rattle.pas_core.specs.Fits.{HasNoFit}
+use Rattle.pas_core.proofs.Nexts.{agreed_steps}
+use Rattle.pas_core.proofs.OneActorRights.{legal_earlier}
+use Rattle.pas_scan.specs.Runs.{large_directory}
+use Rattle.pas_search.specs.Kinds.{AreSearch}
+use Rattle.pas_search.specs.Searches.{IsRefused}
+use Rattle.pas_search.specs.Telling.{IsTrueReason}
+use Rattle.pas_search.proofs.Alone.{refused_told}
+use Rattle.pas_bitfit.specs.Allocates.{bitfit_directory, run_for}
+use Rattle.pas_bitfit.specs.Runs.{NoneFits, fewer_runs}
+use Rattle.pas_large.specs.Finds.{MayFind}
+use Rattle.pas_large.proofs.Alone.{scanned, no_run_before, no_run_after, reason_after}
+use Rattle.pas_segregated.specs.Refills.{Filling}
+use Rattle.pas_segregated.specs.declared.slots.Slots.{Slots}
+use Rattle.pas_cache.specs.Caches.{Cached, AtRest}
+use Rattle.pas_cache.specs.Changes.{LeavesSpent}
+use Rattle.pas_cache.specs.Locals.{local_for, RestsWith}
+use Rattle.pas_cache.specs.Parts.{IsTrueOf}
+use Rattle.pas_cache.specs.Refusals.{IsTrulyRefusedBy, IsTrulyRefused}
+use Rattle.pas_cache.specs.Serves.{Wanted, wanted_for, pages_of, filling_in, IsFilling, HasNoneCached, Fetches, IsObtained, IsAnswered, ServesLocals, ServesClass, ServesBitfit, ServesPages, ServesBy, ServesRequest, IsTrueRefusal}
+use Rattle.pas_cache.proofs.BitfitRoute.{may_search_bitfit, bitfit_wanted}
+use Rattle.pas_cache.proofs.FitsBefore.{no_fit_before}
+use Rattle.pas_cache.proofs.Obtained.{none_shortened}
+use Rattle.pas_cache.proofs.PagesRoute.{may_find}
+use Rattle.pas_cache.proofs.Refills.{may_search, refused_steps, refusal}
+use Rattle.pas_cache.proofs.Served.{wanted_is, filling_for}
+
+-- ---- a request of a class
+spent_none : (heap class : ℕ) (locals : List Slots) (steps : List Made) → LeavesSpent (local_for heap class locals) steps → HasNoneCached heap class locals
+spent_none heap class locals steps left slots found some = let empty = (subst (λ o. LeavesSpent o steps) found left).0 in true≢false (sym some.2 ∙ empty some.0 some.1)
+
+module _ (f : Profile) (k : ℕ) (l : Whole) (valid : IsValid f) (fill : Filling) (is : IsFilling f fill) (locals : List Slots) (rest : RestsWith f locals (part k l)) where
+  fetch_refused : (fewer : List Slots) (steps : List Made) (room : NoRoom) → Legal f (triples k steps ++ l) → Fetches fill f locals fewer steps (Err room) → IsTrueOf fill f locals l (triples k steps ++ l) room
+  fetch_refused fewer steps room legal fetch =
+      let xs = fetch.before in
+      let ys = fetch.searched in
+      let middle : Whole = triples k xs ++ l in
+      let all : Legal f (triples k (ys ++ xs) ++ l) = subst (λ zs. Legal f (triples k zs ++ l)) fetch.steps_are legal in
+      let rests : RestsWith f fewer (part k middle) = subst (RestsWith f fewer) (sym (part_of_own k xs l)) (fetch.rests.from (part k l) rest (agreed_steps f k l xs valid (legal_earlier f k ys xs l all))) in
+      let searches : AreSearch ys = subst AreSearch (refused_steps fetch.refill) fetch.refill.searches in
+      let may = may_search f (part k middle) fill fewer is (none_shortened fetch.place.taken fetch.place.shortened) rests in
+      let told = refused_told fill.no_fit f fill.directory k middle ys valid is.directory is.fewer (subst (Legal f) (sym (triples_append k ys xs l)) all) searches may room (refusal fetch.refill) in
+      subst (λ zs. IsTrueOf fill f locals l (triples k zs ++ l) room) (sym fetch.steps_are) (subst (λ z. IsTrueOf fill f locals l z room) (triples_append k ys xs l) (record {
+        cached = spent_none fill.directory.heap fill.class locals fetch.place.spent fetch.place.taken.left;
+        entry_fit = no_fit_before fill.no_fit f fill.directory k xs l is.fewer fetch.gives_back told.0;
+        exit_fit = told.1;
+        reason = told.2;
+      }))
+
+  obtained_refused : (fewer : List Slots) (steps : List Made) (room : NoRoom) → Legal f (triples k steps ++ l) → IsObtained fill f locals fewer steps (Err room) → IsTrueOf fill f locals l (triples k steps ++ l) room
+  obtained_refused fewer steps room legal (inl cached) = absurd (let bad : Err room ≡ Ok cached.0 = cached.1 in cc)
+  obtained_refused fewer steps room legal (inr fetch) = fetch_refused fewer steps room legal fetch
+
+  answered_refused : (fewer locals' : List Slots) (given before : List Made) (found : Result Slots NoRoom) (room : NoRoom) → Legal f (triples k (given ++ before) ++ l) → IsObtained fill f locals fewer before found → IsAnswered fewer locals' given found (Err room)
+      → IsTrueOf fill f locals l (triples k (given ++ before) ++ l) room
+  answered_refused fewer locals' given before (Ok slots) room legal how ends = absurd ends
+  answered_refused fewer locals' given before (Err why) room legal how ends =
+      subst (λ xs. IsTrueOf fill f locals l (triples k (xs ++ before) ++ l) room) (sym ends.2)
+      (subst (λ r. IsTrueOf fill f locals l (triples k before ++ l) r) (sym ends.0) (obtained_refused fewer before why (legal_earlier f k given before l legal) how))
+
+  pub locals_refused : (locals' : List Slots) (steps : List Made) (room : NoRoom) → Legal f (triples k steps ++ l) → ServesLocals fill f locals locals' steps (Err room) → IsTrueOf fill f locals l (triples k steps ++ l) room
+  locals_refused locals' steps room legal serves =
+      subst (λ xs. IsTrueOf fill f locals l (triples k xs ++ l) room) (sym serves.steps_are)
+      (answered_refused serves.fewer locals' serves.given serves.before serves.found room (subst (λ xs. Legal f (triples k xs ++ l)) serves.steps_are legal) serves.obtained serves.ends)
+
+-- ---- any request
+module _ (f : Profile) (heap size align k : ℕ) (c c' : Cached) (l : Whole) (steps : List Made) (room : NoRoom) (valid : IsValid f) (admitted : IsAdmitted f size align heap) (rest : AtRest f c (part k l)) (legal : Legal f (triples k steps ++ l)) where
+  abbrev exit : Whole
+  exit = triples k steps ++ l
+
+  abbrev wanted : Wanted
+  wanted = wanted_for f heap size align
+
+  class_refused : (class : ℕ) → route_in f size align ≡ Route.Class class → ServesClass (filling_in wanted.directory class) f c c' steps (Err room) → IsTrueRefusal f wanted c.locals l exit room
+  class_refused class route serves =
+      let same = wanted_is f heap class size align route in
+      let d = class_home f heap class in
+      let home : ServesClass (filling_in d class) f c c' steps (Err room) = subst (λ (w : Wanted). ServesClass (filling_in w.directory class) f c c' steps (Err room)) (sym same) serves in
+      let told = locals_refused f k l valid (filling_in d class) (filling_for f size align heap class admitted route) c.locals rest.locals c'.locals steps room legal home.locals in
+      subst (λ (w : Wanted). IsTrueRefusal f w c.locals l exit room) same (record { cached = λ h. told.cached h.0 h.1 h.2; entry_fit = told.entry_fit; exit_fit = told.exit_fit; reason = told.reason })
+
+  bitfit_refused : route_in f size align ≡ Route.Bitfit → ServesBitfit f wanted c c' steps (Err room) → IsTrueRefusal f wanted c.locals l exit room
+  bitfit_refused route serves =
+      let same = bitfit_wanted f heap size align route in
+      let r = room_in f size align in
+      let d = bitfit_directory heap in
+      let none = NoneFits (run_for r align) in
+      let refused : IsRefused none f d serves.searched room = subst (λ (w : Wanted). IsRefused none f w.directory serves.searched room) (sym same) serves.outcome.0 in
+      let all : steps ≡ serves.searched = serves.steps_are ∙ ap (λ xs. xs ++ serves.searched) serves.outcome.1 in
+      let told = subst (λ xs. HasNoFit none f d l × HasNoFit none f d (triples k xs ++ l) × IsTrueReason f d (triples k xs ++ l) room) (sym all)
+      (refused_told none f d k l serves.searched valid (record { heap = admitted.of_profile; kind = tt; class = tt }) (fewer_runs (run_for r align)) (subst (λ xs. Legal f (triples k xs ++ l)) all legal) serves.searches (may_search_bitfit f (part k l) heap c.locals rest.locals) room refused) in
+      subst (λ (w : Wanted). IsTrueRefusal f w c.locals l exit room) same (record { cached = λ none. none; entry_fit = told.0; exit_fit = told.1; reason = told.2 })
+
+  pages_refused : route_in f size align ≡ Route.Large → ServesPages f wanted None c c' steps (Err room) → IsTrulyRefusedBy Route.Large f wanted c.locals l exit room
+  pages_refused route serves =
+      let n = pages_of wanted in
+      let same : large_directory heap ≡ wanted.directory = ap (λ (r : Route). record { heap = heap; kind = kind_of_route (is_shared f heap) r }) (sym route) in
+      let r = scanned f wanted.directory n serves.tried serves.rest room serves.outcome in
+      let all : steps ≡ r.1 ++ r.0 = serves.steps_are ∙ r.3 in
+      let stands : Legal f (triples k (r.1 ++ r.0) ++ l) = subst (λ xs. Legal f (triples k xs ++ l)) all legal in
+      let met = subst (λ d. MayFind d (part k l)) same (may_find f (part k l) heap c.locals rest.locals) in
+      subst (λ xs. IsTrulyRefusedBy Route.Large f wanted c.locals l (triples k xs ++ l) room) (sym all)
+      (no_run_before f k l wanted.directory n r.0 r.1 room valid r.2 stands met, no_run_after f k l wanted.directory n r.0 r.1 room valid r.2 stands met, reason_after f k l wanted.directory n r.0 r.1 room valid r.2 stands met)
+
+  by_route : (r : Route) → route_in f size align ≡ r → ServesBy r f wanted None c c' steps (Err room) → IsTrulyRefusedBy r f wanted c.locals l exit room
+  by_route (Route.Class class) route serves = class_refused class route serves
+  by_route Route.Bitfit route serves = bitfit_refused route serves
+  by_route Route.Large route serves = pages_refused route serves
+
+  pub truly_refused : ServesRequest f (wanted_for f heap size align) None c c' steps (Err room) → IsTrulyRefused f (wanted_for f heap size align) c.locals l (triples k steps ++ l) room
+  truly_refused serves = by_route (route_in f size align) refl serves

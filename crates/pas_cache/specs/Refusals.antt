@@ -1,0 +1,20 @@
+-- When the refusal of a request is true of the states before and after it.
+use Rattle.std.specs.Prelude.{List}
+use Rattle.pas_profile.specs.declared.directory.Route.{Route}
+use Rattle.pas_profile.specs.declared.event.NoRoom.{NoRoom}
+use Rattle.pas_profile.specs.declared.profile.Profile.{Profile}
+use Rattle.pas_steps.specs.Lists.{Whole}
+use Rattle.pas_search.specs.Telling.{IsTrueReason}
+use Rattle.pas_large.specs.Telling.{HasNoUsableRun}
+use Rattle.pas_segregated.specs.declared.slots.Slots.{Slots}
+use Rattle.pas_cache.specs.Serves.{Wanted, pages_of, IsTrueRefusal}
+
+abbrev pub IsTrulyRefusedBy : Route → Profile → Wanted → List Slots → Whole → Whole → NoRoom → Type 0
+IsTrulyRefusedBy (Route.Class class) f wanted locals entry exit room = IsTrueRefusal f wanted locals entry exit room
+IsTrulyRefusedBy Route.Bitfit f wanted locals entry exit room = IsTrueRefusal f wanted locals entry exit room
+IsTrulyRefusedBy Route.Large f wanted locals entry exit room = HasNoUsableRun f wanted.directory (pages_of wanted) entry × HasNoUsableRun f wanted.directory (pages_of wanted) exit × IsTrueReason f wanted.directory exit room
+
+-- Nothing could serve the request before, and nothing can after: no slot was cached for it and no page serves it, or where it is for whole pages there is no
+-- run of usable ones. The reason is true after.
+abbrev pub IsTrulyRefused : Profile → Wanted → List Slots → Whole → Whole → NoRoom → Type 0
+IsTrulyRefused f wanted locals entry exit room = IsTrulyRefusedBy wanted.route f wanted locals entry exit room

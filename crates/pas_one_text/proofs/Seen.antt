@@ -1,0 +1,195 @@
+-- What a transcript tells, so that the kernel can compare it with what the definition comes to: the records of its lines, the rows of its report, and its
+-- totals; or the fault of a text that is no trace. A record and a row stand for their lines, since `line_of` and `report_text` print just these fields.
+use Rattle.std.specs.Prelude.{ℕ, ◌+◌, ◌*◌, ◌/◌, ◌==◌, Bool, true, false, not, List, [], ◌∷◌, length, count_by, reverse, Option, None, Some, Result, Ok, Err}
+use Rattle.std.specs.List.{flat_map}
+use Rattle.pas_profile.specs.declared.directory.Directory.{Directory}
+use Rattle.pas_profile.specs.declared.directory.Kind.{Kind as TheKind}
+use Rattle.pas_profile.specs.declared.event.Event.{Event as TheEvent}
+use Rattle.pas_profile.specs.declared.event.Event.TheVariants as Event
+use Rattle.pas_profile.specs.declared.event.Why.TheVariants as Why
+use Rattle.pas_profile.specs.declared.name.Block.{Block}
+use Rattle.pas_profile.specs.declared.name.Name.{Name}
+use Rattle.pas_profile.specs.declared.profile.Profile.{Profile}
+use Rattle.pas_profile.specs.Runs.{count_below, grain_of}
+use Rattle.pas_machine.specs.State.{deed_in, epoch_in}
+use Rattle.pas_machine.specs.Totals.{deeds_total, backed_total, live_total, given_total, ended_total}
+use Rattle.pas_report.specs.Marks.{Marked}
+use Rattle.pas_report.specs.Reports.{live_on}
+use Rattle.pas_report.specs.declared.record.Record.{Record as TheRecord}
+use Rattle.pas_report.specs.declared.record.Record.TheVariants as Record
+use Rattle.pas_report.specs.declared.record.Said.TheVariants as Said
+use Rattle.pas_trace.specs.Plans.{Parsed, parsed, fault_at}
+use Rattle.pas_trace.specs.declared.fault.Reason.{Reason}
+use Rattle.pas_trace.specs.declared.fault.TraceFault.{TraceFault}
+use Rattle.pas_one_text.specs.State.{World}
+use Rattle.pas_one_text.specs.Pages.{page_numbers, blocks_on, is_covered}
+use Rattle.pas_one_text.specs.Reports.{marks_of}
+use Rattle.pas_one_text.specs.Order.{region_of, replay_of}
+
+-- ---- what is seen
+pub record Row : Type 0 where
+  pub page : ℕ
+  pub directory : Directory
+  pub live : ℕ
+  pub free : ℕ
+  pub stamp : ℕ
+  pub marks : Marked
+
+pub record Totals : Type 0 where
+  pub deeds : ℕ
+  pub backed : ℕ
+  pub live : ℕ
+  pub given : ℕ
+  pub ended : ℕ
+
+pub record Seen : Type 0 where
+  pub records : List TheRecord
+  pub rows : List Row
+  pub totals : Totals
+
+-- ---- of the definition
+-- the grains of the page that none of these blocks covers
+abbrev uncovered_by : List Block → ℕ → ℕ
+uncovered_by blocks page = count_below 256 (λ b. not (is_covered blocks (256 * page + b)))
+
+abbrev free_on : World → ℕ → ℕ
+free_on w page = uncovered_by (blocks_on w page) page
+
+-- a row of these numbers of live blocks and of free grains
+abbrev row_with : World → ℕ → Option Directory → ℕ → ℕ → List Row
+row_with w page None live free = []
+row_with w page (Some d) live free = record { page = page; directory = d; live = live; free = free; stamp = epoch_in w.events page; marks = marks_of w page } ∷ []
+
+-- with the numbers of live blocks, of gives and of ends that the report has: those of each grain of the region
+abbrev seen_of : Profile → World → Seen
+seen_of f w = record {
+  records = reverse w.records;
+  rows = flat_map (λ page. row_with w page (deed_in w.events page) (live_on w.events page) (free_on w page)) (page_numbers f);
+  totals = record { deeds = deeds_total f w.events; backed = backed_total f w.events; live = live_total f w.events; given = given_total f w.events; ended = ended_total f w.events };
+}
+
+abbrev seen_by : Result Parsed TraceFault → Result Seen TraceFault
+seen_by (Err fault) = Err fault
+seen_by (Ok p) = Ok (seen_of (region_of p) (replay_of p))
+
+unfoldable pub seen : List ℕ → Result Seen TraceFault
+seen bytes = seen_by (parsed bytes)
+
+-- ---- the same in fewer steps: these numbers are counted in the list of live blocks and in the events
+abbrev begins_on : ℕ → Block → Bool
+begins_on page b = grain_of b.name / 256 == page
+
+abbrev is_give : TheEvent → Bool
+is_give (Event.Deed k p d) = false
+is_give (Event.Back k p) = false
+is_give (Event.Unback k p e) = false
+is_give (Event.Give k block) = true
+is_give (Event.End k name e) = false
+is_give (Event.Reject k name why) = false
+
+abbrev is_end : TheEvent → Bool
+is_end (Event.Deed k p d) = false
+is_end (Event.Back k p) = false
+is_end (Event.Unback k p e) = false
+is_end (Event.Give k block) = false
+is_end (Event.End k name e) = true
+is_end (Event.Reject k name why) = false
+
+abbrev counted_of : Profile → World → Seen
+counted_of f w = record {
+  records = reverse w.records;
+  rows = flat_map (λ page. row_with w page (deed_in w.events page) (count_by (begins_on page) w.live) (free_on w page)) (page_numbers f);
+  totals = record { deeds = deeds_total f w.events; backed = backed_total f w.events; live = length w.live; given = count_by is_give w.events; ended = count_by is_end w.events };
+}
+
+abbrev counted_by : Result Parsed TraceFault → Result Seen TraceFault
+counted_by (Err fault) = Err fault
+counted_by (Ok p) = Ok (counted_of (region_of p) (replay_of p))
+
+unfoldable pub counted : List ℕ → Result Seen TraceFault
+counted bytes = counted_by (parsed bytes)
+
+-- ---- of a transcript: each line in its own words
+abbrev pub shown : List TheRecord → List Row → Totals → Result Seen TraceFault
+shown records rows totals = Ok record { records = records; rows = rows; totals = totals }
+
+abbrev pub faulty : ℕ → Reason → Result Seen TraceFault
+faulty line reason = Err (fault_at line reason)
+
+abbrev pub in_heap : ℕ → TheKind → Directory
+in_heap heap kind = record { heap = heap; kind = kind }
+
+abbrev pub name : ℕ → ℕ → Name
+name address turn = record { address = record { 0 = address }; turn = turn }
+
+abbrev pub deed_of : ℕ → ℕ → ℕ → TheKind → TheRecord
+deed_of k page heap kind = Record.Event (Event.Deed k page (in_heap heap kind))
+
+abbrev pub back_of : ℕ → ℕ → TheRecord
+back_of k page = Record.Event (Event.Back k page)
+
+abbrev pub unback_of : ℕ → ℕ → ℕ → TheRecord
+unback_of k page epoch = Record.Event (Event.Unback k page epoch)
+
+abbrev pub give_of : ℕ → ℕ → ℕ → ℕ → ℕ → TheRecord
+give_of k address turn room heap = Record.Event (Event.Give k (record { name = name address turn; room = room; heap = heap }))
+
+abbrev pub freed_of : ℕ → ℕ → ℕ → ℕ → TheRecord
+freed_of k address turn epoch = Record.Event (Event.End k (name address turn) epoch)
+
+abbrev pub ended_of : ℕ → ℕ → ℕ → TheRecord
+ended_of k address turn = Record.Event (Event.Reject k (name address turn) Why.Ended)
+
+abbrev pub no_block_of : ℕ → ℕ → ℕ → TheRecord
+no_block_of k address turn = Record.Event (Event.Reject k (name address turn) Why.NoBlock)
+
+abbrev pub outside_of : ℕ → ℕ → ℕ → TheRecord
+outside_of k address turn = Record.Said k (Said.Outside (name address turn))
+
+abbrev pub unaligned_of : ℕ → ℕ → ℕ → TheRecord
+unaligned_of k address turn = Record.Said k (Said.Unaligned (name address turn))
+
+abbrev pub no_space_of : ℕ → ℕ → TheRecord
+no_space_of k asked = Record.Said k (Said.NoSpace asked)
+
+abbrev pub held_of : ℕ → ℕ → ℕ → TheRecord
+held_of k page asked = Record.Said k (Said.Held page asked)
+
+abbrev pub skipped_of : ℕ → ℕ → TheRecord
+skipped_of k freed = Record.Said k (Said.Skipped freed)
+
+abbrev pub tick_of : ℕ → TheRecord
+tick_of epoch = Record.Said 0 (Said.Tick epoch)
+
+abbrev pub pass_of : ℕ → TheRecord
+pass_of epoch = Record.Said 0 (Said.Pass epoch)
+
+abbrev pub bare_of : ℕ → TheRecord
+bare_of page = Record.Said 0 (Said.Bare page)
+
+abbrev pub young_of : ℕ → ℕ → TheRecord
+young_of page stamp = Record.Said 0 (Said.Young page stamp)
+
+abbrev pub in_use_of : ℕ → ℕ → ℕ → TheRecord
+in_use_of page word value = Record.Said 0 (Said.InUse page word value)
+
+abbrev pub not_offered_of : ℕ → TheRecord
+not_offered_of page = Record.Said 0 (Said.NotOffered page)
+
+abbrev pub stopped_of : ℕ → TheRecord
+stopped_of thread = Record.Said 0 (Said.Stopped thread)
+
+abbrev pub phase_of : ℕ → TheRecord
+phase_of n = Record.Phase n
+
+abbrev pub closed : TheRecord
+closed = Record.Close
+
+abbrev pub row_of : ℕ → ℕ → TheKind → ℕ → ℕ → ℕ → Marked → Row
+row_of page heap kind live free stamp marks = record { page = page; directory = in_heap heap kind; live = live; free = free; stamp = stamp; marks = marks }
+
+abbrev pub marked : Bool → Bool → Bool → Bool → Marked
+marked backed offered parked hinted = record { backed = backed; offered = offered; parked = parked; hinted = hinted }
+
+abbrev pub totalled : ℕ → ℕ → ℕ → ℕ → ℕ → Totals
+totalled deeds backed live given ended = record { deeds = deeds; backed = backed; live = live; given = given; ended = ended }

@@ -1,0 +1,2 @@
+//! Random traces of the text of a replay, as theorems.
+#![tactic(auto)]

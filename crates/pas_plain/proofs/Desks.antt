@@ -1,0 +1,308 @@
+-- Desks at a plain region, and their passes.
+use Rattle.std.proofs.Common.{◌≡◌, ◌≢◌, ℕ, zero, suc, ◌+◌, ◌-◌, ◌^◌, ◌≤◌, min, All, List, [], ◌∷◌, ◌++◌, length, reverse, refl, ap, sym, ◌∙◌, arith, true, subst, Option, None, Some}
+use Rattle.pas_profile.specs.Rooms.{shown, EventRoom}
+use Rattle.pas_profile.specs.declared.profile.Profile.{Profile}
+use Rattle.pas_steps.specs.Events.{events_of, with_event, event_of}
+use Rattle.pas_steps.specs.Views.{known_epoch, View, epoch_of, or_zero}
+use Rattle.pas_steps.specs.Lists.{Whole, part, Legal}
+use Rattle.pas_steps.specs.Desks.{triples, Seat, Standing, made, triple, CanCall, CanMake, Makes}
+use Rattle.pas_steps.specs.declared.step.Made.{Made}
+use Rattle.pas_steps.proofs.Parts.{part_of_others, part_of_own}
+use Rattle.pas_plain.specs.Plain.{actor_of, PassStands, pass_for, passes_from, profile_of, room_of_pass, events_shown, RegionStands, epoch_known, IsExchanged}
+use Rattle.pas_plain.specs.declared.pass.PlainPass.{PlainPass}
+use Rattle.pas_steps.specs.Allowed.{Allowed, IsStepOf}
+use Rattle.pas_steps.specs.Agreement.{Agrees}
+use Rattle.pas_steps.specs.Calls.{nothing, Does, Calls}
+use Rattle.pas_steps.specs.Clear.{IsClear, HasNothing}
+use Rattle.pas_steps.specs.Kinds.{Kinds, kind_of, is_in, apart, changing}
+use Rattle.pas_steps.specs.declared.step.Step.{Step}
+use Rattle.pas_steps.proofs.Called.{call_none, call_step, call_as}
+use Rattle.pas_steps.proofs.Calls.{still_clear, does_idly}
+use Rattle.pas_plain.specs.Seats.{region_of, pass_of, DeskStands, standing_of, IsChanged}
+use Rattle.pas_plain.specs.Storms.{Acts, StormStands, MayStorm, seat_for, storm_of, own_stands}
+use Rattle.pas_plain.specs.declared.region.PlainRegion.{PlainRegion}
+use Rattle.pas_plain.specs.declared.desk.PlainDesk.{PlainDesk}
+use Rattle.std.proofs.lemmas.List.{length-reverse}
+use Rattle.pas_profile.specs.declared.event.Event.{Event}
+use Rattle.std.specs.Prelude.{slice_index}
+use Rattle.pas_profile.specs.Layouts.{index_of}
+use Rattle.pas_profile.specs.Profiles.{IsWordOf}
+use Rattle.pas_steps.specs.Effects.{target}
+use Rattle.pas_steps.proofs.Targets.{target_of_region}
+use Rattle.pas_core.specs.WordLists.{AreWordsAfter}
+use Rattle.pas_core.proofs.Nexts.{legal_next, agrees_next, words_next}
+use Rattle.pas_region.specs.Noted.{IsNoted}
+use Rattle.pas_region.proofs.Noting.{notes_next}
+
+-- ==== Passes that stand: at the opening, and at rest while another actor steps.
+
+-- ---- at the opening
+fresh_stands : (f : Profile) (k : ℕ) (room : EventRoom) → k ≤ f.threads → shown room ≡ [] → PassStands f (pass_for k room) []
+fresh_stands f k room actor empty = record { actor = actor; shown = empty; count = refl; epoch = refl }
+
+pub passes_stand : (f : Profile) (n : ℕ) (rooms : List EventRoom) → n + length rooms ≤ f.threads + 1 → All (λ room. shown room ≡ []) rooms → All (λ pass. PassStands f pass []) (passes_from n rooms)
+passes_stand f n [] few empty k d h = absurd (omega (arith, h))
+passes_stand f n (room ∷ rooms) few empty zero d h = fresh_stands f n room (omega (arith, few)) (empty zero room (omega arith))
+passes_stand f n (room ∷ rooms) few empty (suc k) d h =
+    passes_stand f (n + 1) rooms (omega (arith, few)) (λ j e g. empty (suc j) e (omega (arith, g))) k d (omega (arith, h))
+
+-- ---- at rest: the steps of another actor change nothing of what a pass stands for
+pub pass_rests : (f : Profile) (pass : PlainPass) (k : ℕ) (steps : List Made) (l : Whole) → k ≢ actor_of pass → PassStands f pass l → PassStands f pass (triples k steps ++ l)
+pass_rests f pass k steps l other stands =
+    let j = actor_of pass in
+    let same : part j l ≡ part j (triples k steps ++ l) = sym (part_of_others j k steps l other) in
+    record {
+      actor = stands.actor;
+      shown = stands.shown ∙ ap (λ v. reverse (events_of j v)) same;
+      count = stands.count ∙ ap (λ v. min (length v) (2 ^ 64 - 1)) same;
+      epoch = stands.epoch ∙ ap known_epoch same;
+    }
+
+-- ==== A desk between whose own steps another actor acts.
+
+-- ---- the foreign actor sits at the desk
+-- it stands for its part of each list
+foreign_stands : (d : PlainDesk) (own : PlainPass) (v : View) (l : Whole) → StormStands (region_of d) own (pass_of d) v l → DeskStands d (part (actor_of (pass_of d)) l) l
+foreign_stands d own v l stood = record { region = stood.region_stands; pass = stood.foreign_part; part_is = refl }
+
+-- it acted, and has nothing again: its steps stand on the list, and the own part is as it was
+acted : (old new : PlainDesk) (own : PlainPass) → Acts (standing_of old) (standing_of new) → (v : View) (l : Whole) → StormStands (region_of old) own (pass_of old) v l → (w : Whole) × StormStands (region_of new) own (pass_of new) v w
+acted old new own acts v l stood =
+    let j : ℕ = actor_of (pass_of old) in
+    let u : View = part j l in
+    let w : Whole = triples j acts.steps ++ l in
+    let here : DeskStands old u l = foreign_stands old own v l stood in
+    let next : DeskStands new (acts.steps ++ u) w = acts.calls.adds.added u l here stood.nothing in
+    let after : HasNothing (acts.steps ++ u) = acts.calls.leads.from u stood.nothing (acts.calls.adds.agreed u l here stood.nothing) in
+    let actor : actor_of (pass_of new) ≡ j = ap (λ (s : Seat). s.actor) acts.calls.adds.seat_is in
+    let profile : profile_of (region_of new) ≡ profile_of (region_of old) = ap (λ (s : Seat). s.profile) acts.calls.adds.seat_is in (
+      w,
+      record {
+        region_stands = next.region;
+        own_part = subst (λ (f : Profile). PassStands f own w) (sym profile) (pass_rests (profile_of (region_of old)) own j acts.steps l stood.other stood.own_part);
+        foreign_part = next.pass;
+        other = λ e. stood.other (sym actor ∙ e);
+        part_is = part_of_others (actor_of own) j acts.steps l stood.other ∙ stood.part_is;
+        nothing = subst HasNothing (sym next.part_is) after;
+      },
+    )
+
+-- ---- the two passes were exchanged, the foreign actor acted, and they were exchanged again
+pub may_act : (old seated : PlainDesk) (foreign : PlainPass) → region_of seated ≡ region_of old → pass_of seated ≡ foreign → MayStorm (region_of old) (pass_of old) foreign → CanCall (standing_of seated) HasNothing
+may_act old seated foreign region pass may =
+    let stood : StormStands (region_of seated) (pass_of old) (pass_of seated) may.view may.whole =
+    subst (λ (r : PlainRegion). StormStands r (pass_of old) (pass_of seated) may.view may.whole) (sym region) (subst (λ (p : PlainPass). StormStands (region_of old) (pass_of old) p may.view may.whole) (sym pass) may.stands) in
+    record {
+      view = part (actor_of (pass_of seated)) may.whole;
+      whole = may.whole;
+      stood = foreign_stands seated (pass_of old) may.view may.whole stood;
+      met = stood.nothing;
+    }
+
+pub disturbed : (old seated acts_done new : PlainDesk) (foreign foreign' waiting : PlainPass) → region_of seated ≡ region_of old → pass_of seated ≡ foreign → waiting ≡ pass_of old → Acts (standing_of seated) (standing_of acts_done)
+    → region_of new ≡ region_of acts_done → pass_of new ≡ waiting → foreign' ≡ pass_of acts_done
+    → (v : View) (l : Whole) → StormStands (region_of old) (pass_of old) foreign v l → (w : Whole) × StormStands (region_of new) (pass_of new) foreign' v w
+disturbed old seated acts_done new foreign foreign' waiting region pass own acts region' pass' risen v l stood =
+    let before : StormStands (region_of seated) waiting (pass_of seated) v l =
+    subst (λ (r : PlainRegion). StormStands r waiting (pass_of seated) v l) (sym region)
+    (subst (λ (p : PlainPass). StormStands (region_of old) p (pass_of seated) v l) (sym own) (subst (λ (p : PlainPass). StormStands (region_of old) (pass_of old) p v l) (sym pass) stood)) in
+    let after = acted seated acts_done waiting acts v l before in (
+      after.0,
+      subst (λ (r : PlainRegion). StormStands r (pass_of new) foreign' v after.0) (sym region')
+          (subst (λ (p : PlainPass). StormStands (region_of acts_done) p foreign' v after.0) (sym pass') (subst (λ (p : PlainPass). StormStands (region_of acts_done) waiting p v after.0) (sym risen) after.1)),
+    )
+
+pub profile_kept : (seated acts_done : PlainDesk) → Acts (standing_of seated) (standing_of acts_done) → profile_of (region_of acts_done) ≡ profile_of (region_of seated)
+profile_kept seated acts_done acts = ap (λ (s : Seat). s.profile) acts.calls.adds.seat_is
+
+-- ---- an own step
+storm_next : (mid new : PlainDesk) (foreign : PlainPass) (s : Step) (a : ℕ) → Makes (standing_of mid) (standing_of new) s a → (v : View) (w : Whole) → StormStands (region_of mid) (pass_of mid) foreign v w → Allowed (profile_of (region_of mid)) v s
+    → StormStands (region_of new) (pass_of new) foreign (made s a ∷ v) (triple (actor_of (pass_of mid)) (made s a) ∷ w)
+storm_next mid new foreign s a makes v w at allowed =
+    let k : ℕ = actor_of (pass_of mid) in
+    let j : ℕ = actor_of foreign in
+    let next : Whole = triple k (made s a) ∷ w in
+    let stands : DeskStands new (made s a ∷ v) next = makes.added v w (own_stands mid foreign v w at) allowed in
+    let other : k ≢ j = λ e. at.other (sym e) in
+    let actor : actor_of (pass_of new) ≡ k = ap (λ (x : Seat). x.actor) makes.seat_is in
+    let profile : profile_of (region_of new) ≡ profile_of (region_of mid) = ap (λ (x : Seat). x.profile) makes.seat_is in
+    record {
+      region_stands = stands.region;
+      own_part = stands.pass;
+      foreign_part = subst (λ (f : Profile). PassStands f foreign next) (sym profile) (pass_rests (profile_of (region_of mid)) foreign k (made s a ∷ []) w other at.foreign_part);
+      other = λ e. at.other (e ∙ actor);
+      part_is = stands.part_is;
+      nothing = subst HasNothing (sym (part_of_others j k (made s a ∷ []) w other)) at.nothing;
+    }
+
+-- the own step can be made after the intruder acted
+pub may_step : (old mid : PlainDesk) (foreign foreign' : PlainPass) (s : Step) → profile_of (region_of mid) ≡ profile_of (region_of old)
+    → ((v : View) (l : Whole) → StormStands (region_of old) (pass_of old) foreign v l → (w : Whole) × StormStands (region_of mid) (pass_of mid) foreign' v w)
+    → CanMake (storm_of old foreign) s → CanMake (standing_of mid) s
+may_step old mid foreign foreign' s profile stands can =
+    let at = stands can.view can.stood.0 can.stood.1 in
+    record {
+      of_region = subst (λ (f : Profile). IsStepOf f s) (sym profile) can.of_region;
+      view = can.view;
+      whole = at.0;
+      stood = own_stands mid foreign' can.view at.0 at.1;
+      allowed = subst (λ (f : Profile). Allowed f can.view s) (sym profile) can.allowed;
+    }
+
+abbrev seat_at : Profile → PlainPass → Seat
+seat_at f pass = record { actor = actor_of pass; profile = f; room = room_of_pass pass }
+
+-- what a call says, from what the intruder left and what the step changed
+pub storm_makes : (old mid new : PlainDesk) (foreign foreign' : PlainPass) (s : Step) (a : ℕ) → pass_of mid ≡ pass_of old → profile_of (region_of mid) ≡ profile_of (region_of old)
+    → ((v : View) (l : Whole) → StormStands (region_of old) (pass_of old) foreign v l → (w : Whole) × StormStands (region_of mid) (pass_of mid) foreign' v w)
+    → Makes (standing_of mid) (standing_of new) s a → Makes (storm_of old foreign) (storm_of new foreign') s a
+storm_makes old mid new foreign foreign' s a own profile stands makes =
+    let allowed_there = λ (v : View) (allowed : Allowed (profile_of (region_of old)) v s). subst (λ (f : Profile). Allowed f v s) (sym profile) allowed in
+    record {
+      seat_is = makes.seat_is ∙ ap (seat_for (region_of mid)) own ∙ ap (λ (f : Profile). seat_at f (pass_of old)) profile;
+      added = λ v l stood allowed.
+          let at = stands v stood.0 stood.1 in
+          (triple (actor_of (pass_of mid)) (made s a) ∷ at.0, storm_next mid new foreign' s a makes v at.0 at.1 (allowed_there v allowed));
+      agrees = λ v l stood allowed.
+          let at = stands v stood.0 stood.1 in
+          subst (λ (f : Profile). Agrees f v s a) profile (makes.agrees v at.0 (own_stands mid foreign' v at.0 at.1) (allowed_there v allowed));
+    }
+
+-- ---- for those who write intruders
+-- an actor that has nothing makes no step
+pub acts_not : {σ : Standing} → Acts σ σ
+acts_not = record { steps = []; calls = call_none {R = λ v w. HasNothing w} (λ v met. met) }
+
+pub still_nothing : {v w : View} → Does nothing v w → HasNothing v → HasNothing w
+still_nothing does none = record { grains = λ g. does.held g ∙ none.grains g; rights = λ page. does.right page ∙ none.rights page; clear = still_clear does none.clear }
+
+-- one that changes nothing of what it holds, has and owes, and that it may always make
+pub acts_idly : {σ σ' : Standing} {s : Step} {a : ℕ} (ks : Kinds) → apart ks changing ≡ true → is_in ks (kind_of s) ≡ true → ((v : View) → Allowed σ.seat.profile v s) → Makes σ σ' s a → Acts σ σ'
+acts_idly {σ} {s = s} {a = a} ks w is allowed makes = record {
+  steps = made s a ∷ [];
+  calls = call_step (λ v w. HasNothing w) (call_none {R = λ v w. HasNothing w} (λ v met. met)) makes (λ v met same. allowed v)
+      (λ v met same agrees. still_nothing (does_idly σ.seat.profile ks w (made s a ∷ []) v (is, tt) (agrees, tt)) met);
+}
+
+-- calls after which the actor holds, has and owes what it did
+pub acts_still : {σ σ' : Standing} {steps : List Made} → Calls σ σ' IsClear (Does nothing) steps → Acts σ σ'
+acts_still {steps = steps} calls = record { steps = steps; calls = call_as (λ v w. HasNothing w) calls (λ v none. none.clear) (λ v w none does. still_nothing does none) }
+
+-- ==== The walk of an actor alone at a plain desk, step by step from the opening on.
+
+-- the desk stands for the view of this actor, beside its steps alone
+pub record At (f : Profile) (room k : ℕ) (d : PlainDesk) (v : View) : Type 0 where
+  pub stood : DeskStands d v (triples k v)
+  pub actor_is : actor_of d.pass ≡ k
+  pub of_profile : profile_of d.region ≡ f
+  pub of_room : room_of_pass d.pass ≡ room
+
+pub start : {f : Profile} {room : ℕ} {d : PlainDesk} → DeskStands d [] [] → profile_of d.region ≡ f → room_of_pass d.pass ≡ room → At f room (actor_of d.pass) d []
+start fresh of size = record { stood = fresh; actor_is = refl; of_profile = of; of_room = size }
+
+pub next : {f : Profile} {room k : ℕ} {d d' : PlainDesk} {v : View} {s : Step} {a : ℕ} → At f room k d v → Makes (standing_of d) (standing_of d') s a → Allowed f v s → At f room k d' (made s a ∷ v)
+next {f} {room} {k} {d} {d'} {v} {s} {a} at m allowed = record {
+  stood = subst (λ (j : ℕ). DeskStands d' (made s a ∷ v) (triple j (made s a) ∷ triples k v)) at.actor_is (m.added v (triples k v) at.stood (subst (λ (x : Profile). Allowed x v s) (sym at.of_profile) allowed));
+  actor_is = ap (λ (x : Seat). x.actor) m.seat_is ∙ at.actor_is;
+  of_profile = ap (λ (x : Seat). x.profile) m.seat_is ∙ at.of_profile;
+  of_room = ap (λ (x : Seat). x.room) m.seat_is ∙ at.of_room;
+}
+
+pub can : {f : Profile} {room k : ℕ} {d : PlainDesk} {v : View} (s : Step) → At f room k d v → IsStepOf f s → Allowed f v s → CanMake (standing_of d) s
+can {f} {room} {k} {d} {v} s at of allowed = record {
+  of_region = subst (λ (x : Profile). IsStepOf x s) (sym at.of_profile) of;
+  view = v;
+  whole = triples k v;
+  stood = at.stood;
+  allowed = subst (λ (x : Profile). Allowed x v s) (sym at.of_profile) allowed;
+}
+
+-- each answer is the value of its word
+pub told : {f : Profile} {room k : ℕ} {d : PlainDesk} {v : View} → At f room k d v → Legal (profile_of d.region) (triples k v)
+told at = at.stood.region.legal
+
+with_few : (o : Option Event) (es : List Event) → length (with_event o es) ≤ length es + 1
+with_few None es = omega arith
+with_few (Some e) es = omega arith
+
+events_few : (k : ℕ) (v : View) → length (events_of k v) ≤ length v
+events_few k [] = omega arith
+events_few k (m ∷ v) = omega (arith, with_few (event_of k (epoch_of v) m.step m.answer) (events_of k v), events_few k v)
+
+-- there is room for n events after so few steps
+pub spare : {f : Profile} {room k : ℕ} {d : PlainDesk} {v : View} (n : ℕ) → At f room k d v → length v + n ≤ room → n ≤ room_of_pass d.pass - length (events_shown d.pass)
+spare {d = d} {v = v} n at few =
+    let j = actor_of d.pass in
+    let e : length (events_shown d.pass) ≡ length (events_of j v) = ap length at.stood.pass.shown ∙ length-reverse _ ∙ ap (λ x. length (events_of j x)) at.stood.part_is in
+    let size = at.of_room in
+    omega (arith, e, events_few j v, size, few)
+
+-- ==== A region, a pass and a desk after a step.
+
+-- the actor's part has the step
+own_part : (k : ℕ) (m : Made) (l : Whole) → part k (triple k m ∷ l) ≡ m ∷ part k l
+own_part k m l = part_of_own k (m ∷ []) l
+
+-- ---- the pass
+pub pass_next : (f : Profile) (old new : PlainPass) (s : Step) (a : ℕ) (l : Whole) → PassStands f old l → actor_of new ≡ actor_of old → IsNoted old.notes new.notes (actor_of old) s a → PassStands f new (triple (actor_of old) (made s a) ∷ l)
+pass_next f old new s a l stands same noted =
+    let k = actor_of old in
+    let next = triple k (made s a) ∷ l in
+    let here : k ≡ actor_of new = sym same in
+    let own = sym (own_part k (made s a) l) in
+    let notes = notes_next old.notes new.notes k s a (part k l) (record { shown = stands.shown; count = stands.count; epoch = stands.epoch }) noted in
+    record {
+      actor = subst (λ (x : ℕ). x ≤ f.threads) here stands.actor;
+      shown = notes.shown ∙ ap (λ v. reverse (events_of k v)) own ∙ ap (λ (x : ℕ). reverse (events_of x (part x next))) here;
+      count = notes.count ∙ ap (λ v. min (length v) (2 ^ 64 - 1)) own ∙ ap (λ (x : ℕ). min (length (part x next)) (2 ^ 64 - 1)) here;
+      epoch = notes.epoch ∙ ap known_epoch own ∙ ap (λ (x : ℕ). known_epoch (part x next)) here;
+    }
+
+-- ---- the region
+are_words_after : (r : PlainRegion) (l : Whole) → RegionStands r l → AreWordsAfter (profile_of r) r.words.items l
+are_words_after r l stands = record { sized = omega (arith, r.sized, r.words.ok.0); values = stands.ends }
+
+pub region_next : (old new : PlainRegion) (e : ℕ) (s : Step) (a : ℕ) (l : Whole) (k : ℕ) → RegionStands old l → IsExchanged old new e s a → e ≡ epoch_of (part k l) → IsWordOf (profile_of old) (target s)
+    → Legal (profile_of old) (triple k (made s a) ∷ l) → RegionStands new (triple k (made s a) ∷ l)
+region_next old new e s a l k stands changed ep of legal =
+    let f = profile_of old in
+    let after = words_next f old.words.items l e k s a (are_words_after old l stands) of changed.answer_is ep in
+    record {
+      legal = subst (λ (g : Profile). Legal g (triple k (made s a) ∷ l)) (sym changed.profile) legal;
+      ends = λ w hw.
+          ap (λ (g : Profile). slice_index new.words.items (index_of g.pages w)) changed.profile
+          ∙ ap (λ (ws : List ℕ). slice_index ws (index_of f.pages w)) changed.words
+          ∙ after.values w (subst (λ (g : Profile). IsWordOf g w) changed.profile hw);
+    }
+
+-- ---- the desk
+abbrev seat : ℕ → Profile → ℕ → Seat
+seat a f r = record { actor = a; profile = f; room = r }
+
+seat_same : {a a' r r' : ℕ} {f f' : Profile} → a ≡ a' → f ≡ f' → r ≡ r' → seat a f r ≡ seat a' f' r'
+seat_same {a} {a'} {r} {r'} {f} {f'} x y z = ap (λ (n : ℕ). seat n f r) x ∙ ap (λ (g : Profile). seat a' g r) y ∙ ap (λ (n : ℕ). seat a' f' n) z
+
+desk_next : (d new : PlainDesk) (s : Step) (a : ℕ) → IsStepOf (profile_of d.region) s → IsChanged d new s a → (v : View) (l : Whole) → DeskStands d v l → Allowed (profile_of d.region) v s
+    → DeskStands new (made s a ∷ v) (triple (actor_of d.pass) (made s a) ∷ l)
+desk_next d new s a of changed v l stood allowed =
+    let f = profile_of d.region in
+    let k = actor_of d.pass in
+    let of_word = target_of_region f v s of allowed in
+    let legal = legal_next f l k v s a stood.region.legal stood.pass.actor stood.part_is of allowed (changed.region.answer_is ∙ stood.region.ends (target s) of_word) in
+    record {
+      region = region_next d.region new.region (or_zero (epoch_known d.pass)) s a l k stood.region changed.region (ap or_zero stood.pass.epoch) of_word legal;
+      pass = subst (λ (g : Profile). PassStands g new.pass (triple k (made s a) ∷ l)) (sym changed.region.profile) (pass_next f d.pass new.pass s a l stood.pass changed.actor changed.pass);
+      part_is = ap (λ (x : ℕ). part x (triple k (made s a) ∷ l)) changed.actor ∙ own_part k (made s a) l ∙ ap (λ x. made s a ∷ x) stood.part_is;
+    }
+
+-- what a call says, from what it changed
+pub plain_makes : (d new : PlainDesk) (s : Step) (a : ℕ) → IsStepOf (profile_of d.region) s → IsChanged d new s a → Makes (standing_of d) (standing_of new) s a
+plain_makes d new s a of changed =
+    let f = profile_of d.region in
+    let k = actor_of d.pass in
+    record {
+      seat_is = seat_same changed.actor changed.region.profile changed.pass.size;
+      added = desk_next d new s a of changed;
+      agrees = λ v l stood allowed.
+          agrees_next f l k v s a d.region.valid stood.region.legal stood.part_is of (changed.region.answer_is ∙ stood.region.ends (target s) (target_of_region f v s of allowed));
+    }

@@ -1,0 +1,69 @@
+-- A search whose actor alone made steps meanwhile: its promise is what the law of the lone search asks.
+use Rattle.std.proofs.Common.{◌≡◌, ℕ, false, List, ◌++◌, inl, inr, refl, Result, Ok, Err, MatchResult}
+use Rattle.pas_profile.specs.Profiles.{IsValid, IsDirectoryOf}
+use Rattle.pas_profile.specs.declared.directory.Directory.{Directory}
+use Rattle.pas_profile.specs.declared.event.NoRoom.{NoRoom}
+use Rattle.pas_profile.specs.declared.event.NoRoom.TheVariants.{NoSpace, Held}
+use Rattle.pas_profile.specs.declared.profile.Profile.{Profile}
+use Rattle.pas_steps.specs.Agreement.{Agreed}
+use Rattle.pas_steps.specs.Desks.{triples}
+use Rattle.pas_steps.specs.Evidence.{Readings, IsAntitone}
+use Rattle.pas_steps.specs.Lists.{Whole, part, Legal}
+use Rattle.pas_steps.specs.Views.{View}
+use Rattle.pas_steps.specs.declared.step.Made.{Made}
+use Rattle.pas_steps.specs.declared.step.Step.TheVariants.{Deed}
+use Rattle.pas_steps.proofs.Past.{once_map}
+use Rattle.pas_core.specs.Alone.{ShowsNone, ShowsAnswer, IsPlainAnswer}
+use Rattle.pas_core.specs.Fits.{HasNoFit}
+use Rattle.pas_core.specs.Rights.{AllRest}
+use Rattle.pas_core.proofs.OneActorRights.{plain_answer}
+use Rattle.pas_core.proofs.Nexts.{agreed_steps}
+use Rattle.pas_core.proofs.OneActorGrains.{lends_none}
+use Rattle.pas_search.specs.Alone.{page_found, FindsWhatThereIs}
+use Rattle.pas_search.specs.Kinds.{searching, AreSearch}
+use Rattle.pas_search.specs.Searches.{MaySearch, DeedMadeHere, IsServed, IsRefused}
+use Rattle.pas_search.specs.Serving.{Rule}
+use Rattle.pas_search.specs.Telling.{IsTrueReason, IsTold}
+use Rattle.pas_search.specs.declared.serving.Served.{Served}
+use Rattle.pas_search.proofs.FindingAPage.{all_told}
+
+abbrev pub IsOutcome : {F : Type 0} → Rule F → Profile → Directory → List Made → Result (Served F) NoRoom → Type 0
+IsOutcome rule f d steps answer = MatchResult answer (IsServed rule f d steps) (IsRefused rule.no_fit f d steps)
+
+-- ---- its promise is what the law asks
+shows_none : {F : Type 0} (rule : Rule F) (f : Profile) (d : Directory) (steps : List Made) (room : NoRoom) → IsRefused rule.no_fit f d steps room → ShowsNone rule.no_fit f d steps
+shows_none rule f d steps room is = record { searched = is.searched; deeds = is.deeds; quiet = is.quiet }
+
+pub shows_answer : {F : Type 0} (rule : Rule F) (f : Profile) (d : Directory) (v : View) (steps : List Made) → MaySearch d v → Agreed f v steps → (answer : Result (Served F) NoRoom) → IsOutcome rule f d steps answer → ShowsAnswer rule.no_fit f d v steps (page_found answer)
+shows_answer rule f d v steps may agreed (Ok served) is = elim is.choice [
+  | inl from ↦ inl (record { of_region = is.page; offered = from.offered; readings = is.shows.readings; fits = is.shows.fits; read = is.shows.read; none_held = is.shows.held.from v may agreed })
+  | inr deed ↦ inr (record { of_region = is.page; made = once_map (DeedMadeHere rule.no_fit f d served.page) (λ m before. (m.step ≡ Deed served.page d) × (m.answer ≡ 0)) steps (λ m before h. (h.deed, h.made)) deed.made_here })
+]
+shows_answer rule f d v steps may agreed (Err NoSpace) is = shows_none rule f d steps NoSpace is
+shows_answer rule f d v steps may agreed (Err (Held page)) is =
+    (shows_none rule f d steps (Held page) is, record { of_region = is.answer.page_of; of_directory = is.answer.of_directory v agreed; held = is.answer.held; lacked = is.answer.lacked })
+
+-- ---- where no other actor made a step meanwhile
+module _ {F : Type 0} (rule : Rule F) (f : Profile) (d : Directory) (k : ℕ) (l : Whole) (steps : List Made) (valid : IsValid f) (of : IsDirectoryOf f d) (fewer : IsAntitone rule.no_fit) (legal : Legal f (triples k steps ++ l)) (searches : AreSearch steps) (may : MaySearch d (part k l)) where
+  agreed : Agreed f (part k l) steps
+  agreed = agreed_steps f k l steps valid legal
+
+  pub told_alone : (answer : Result (Served F) NoRoom) → IsOutcome rule f d steps answer → IsTold (λ (s : Served F). s.page) rule.no_fit f d l (triples k steps ++ l) answer
+  told_alone = all_told rule f k l d steps valid of fewer legal (lends_none searching refl steps searches.kinds) may agreed
+
+  pub plain_alone : AllRest f l → (answer : Result (Served F) NoRoom) → IsOutcome rule f d steps answer → IsPlainAnswer rule.no_fit f d l (page_found answer)
+  plain_alone rest answer is = plain_answer rule.no_fit f d k l steps (page_found answer) valid of fewer rest (record { legal = legal; lends_none = lends_none searching refl steps searches.kinds; shows = shows_answer rule f d (part k l) steps may agreed answer is })
+
+-- ---- a refusal, which is the same for all that a back end takes
+abbrev any_of : (Readings → Type 0) → Rule (Unit {0})
+any_of no_fit = record { suits = λ d. Unit {0}; no_fit = no_fit; kept = λ found b. false; keeps_right = λ found. false; serves = λ page steps found. Unit {0}; events = 0; steps = 0 }
+
+module _ (no_fit : Readings → Type 0) (f : Profile) (d : Directory) (k : ℕ) (l : Whole) (steps : List Made) (valid : IsValid f) (of : IsDirectoryOf f d) (fewer : IsAntitone no_fit) (legal : Legal f (triples k steps ++ l)) (searches : AreSearch steps) (may : MaySearch d (part k l)) where
+  pub refused_told : (room : NoRoom) → IsRefused no_fit f d steps room → HasNoFit no_fit f d l × HasNoFit no_fit f d (triples k steps ++ l) × IsTrueReason f d (triples k steps ++ l) room
+  refused_told room is = told_alone (any_of no_fit) f d k l steps valid of fewer legal searches may (Err room) is
+
+  pub finds_what_there_is : {A : Type 0} (answer : Result A NoRoom) → ((room : NoRoom) → answer ≡ Err room → IsRefused no_fit f d steps room) → FindsWhatThereIs no_fit f d l answer
+  finds_what_there_is answer refused = record {
+    none_fits = λ room is. (refused_told room (refused room is)).0;
+    not_held = λ rest page is. (plain_alone (any_of no_fit) f d k l steps valid of fewer legal searches may rest (Err (Held page)) (refused (Held page) is)).not_held page refl;
+  }

@@ -1,0 +1,81 @@
+-- Which pages a call gives up, takes back and hints: those that it got, and hints after the looks that they rest on.
+use Rattle.std.proofs.Common.{◌≡◌, ℕ, Bool, true, false, List, [], ◌∷◌, ◌++◌, inr, refl, sym, ◌∙◌, subst, true≢false}
+use Rattle.pas_rights.specs.Looks.{HintsEmpty}
+use Rattle.pas_rights.specs.Puts.{PutsHere}
+use Rattle.pas_rights.proofs.Hints.{hints_later, hints_none}
+use Rattle.pas_rights.proofs.PutsBack.{unparking}
+use Rattle.pas_steps.specs.Evidence.{GetsHere}
+use Rattle.pas_steps.specs.Frames.{IsOnPage, OnlyOn}
+use Rattle.pas_steps.specs.Kinds.{Kinds, Offering, Parking, Unparking, Hinting, kind_of, place_of, is_in, apart, Only}
+use Rattle.pas_steps.specs.Past.{Once, Always}
+use Rattle.pas_steps.specs.declared.step.Made.{Made}
+use Rattle.pas_steps.specs.declared.step.Step.{Step}
+use Rattle.pas_steps.specs.declared.step.Step.TheVariants.{Unpark}
+use Rattle.pas_steps.proofs.Apart.{in_apart}
+use Rattle.pas_steps.proofs.Past.{always_both, always_map, always_pair, once_earlier, once_later}
+use Rattle.pas_search.specs.Kinds.{IsReturnOf, ReturnsGot, ReturnsDuly, KeepsMarks}
+
+-- ---- steps of two calls
+pub duly_later : (m : Made) (before xs : List Made) → ReturnsDuly m before → ReturnsDuly m (before ++ xs)
+duly_later m before xs h = (λ page is. once_earlier (GetsHere page) (GetsHere page) before xs (λ n b gets. gets) (h.0 page is), hints_later m before xs h.1)
+
+pub duly_both : (ys xs : List Made) → Always ReturnsDuly ys → Always ReturnsDuly xs → Always ReturnsDuly (ys ++ xs)
+duly_both ys xs = always_both ReturnsDuly ReturnsDuly ys xs (λ m before h. duly_later m before xs h)
+
+-- ---- kinds
+abbrev pub turning_back : Kinds
+turning_back = Offering ∷ Parking ∷ Unparking ∷ Hinting ∷ []
+
+return_kind : (page : ℕ) (s : Step) → IsReturnOf page s → is_in turning_back (kind_of s) ≡ true
+return_kind page s (IsReturnOf.Offers d) = refl
+return_kind page s IsReturnOf.Parks = refl
+return_kind page s IsReturnOf.Unparks = refl
+return_kind page s IsReturnOf.Hints = refl
+
+pub no_return : (ks : Kinds) (page : ℕ) (s : Step) → apart ks turning_back ≡ true → is_in ks (kind_of s) ≡ true → IsReturnOf page s → ⊥
+no_return ks page s out is returns = true≢false (sym (return_kind page s returns) ∙ in_apart ks turning_back (place_of (kind_of s)) out is)
+
+-- steps of other kinds
+pub duly_none : (ks : Kinds) (steps : List Made) → apart ks turning_back ≡ true → is_in ks Hinting ≡ false → Only ks steps → Always ReturnsDuly steps
+duly_none ks steps out hints only =
+    always_pair ReturnsGot HintsEmpty steps (always_map (λ m before. is_in ks (kind_of m.step) ≡ true) ReturnsGot steps (λ m before is page returns. absurd (no_return ks page m.step out is returns)) only) (hints_none ks steps hints only)
+
+pub keeps_marks : (ks : Kinds) (page : ℕ) (steps : List Made) → apart ks turning_back ≡ true → Only ks steps → Always (KeepsMarks page) steps
+keeps_marks ks page steps out = always_map (λ m before. is_in ks (kind_of m.step) ≡ true) (KeepsMarks page) steps (λ m before is returns. absurd (no_return ks page m.step out is returns))
+
+-- ---- pages
+pub return_page : (p q : ℕ) (s : Step) → IsReturnOf q s → IsOnPage p s → q ≡ p
+return_page p q s (IsReturnOf.Offers e) (IsOnPage.Offers d) = refl
+return_page p q s IsReturnOf.Parks IsOnPage.Parks = refl
+return_page p q s IsReturnOf.Unparks IsOnPage.Unparks = refl
+return_page p q s IsReturnOf.Hints IsOnPage.Hints = refl
+
+-- these steps return none but these pages
+abbrev pub ReturnsIn : (ℕ → Bool) → List Made → Type 0
+ReturnsIn pages = Always (λ m before. (page : ℕ) → IsReturnOf page m.step → pages page ≡ true)
+
+-- pages that were got before
+pub duly_in : (pages : ℕ → Bool) (ys xs : List Made) → ReturnsIn pages ys → Always HintsEmpty ys → ((p : ℕ) → pages p ≡ true → Once (GetsHere p) xs) → Always ReturnsDuly xs → Always ReturnsDuly (ys ++ xs)
+duly_in pages [] xs within hints got all = all
+duly_in pages (y ∷ ys) xs within hints got all = ((λ q is. once_later (GetsHere q) ys xs (got q (within.0 q is)), hints_later y ys xs hints.0), duly_in pages ys xs within.1 hints.1 got all)
+
+pub duly_on : (p : ℕ) (ys xs : List Made) → OnlyOn p ys → Always HintsEmpty ys → Once (GetsHere p) xs → Always ReturnsDuly xs → Always ReturnsDuly (ys ++ xs)
+duly_on p [] xs on hints got all = all
+duly_on p (y ∷ ys) xs on hints got all =
+    ((λ q is. subst (λ r. Once (GetsHere r) (ys ++ xs)) (sym (return_page p q y.step is on.0)) (once_later (GetsHere p) ys xs got), hints_later y ys xs hints.0), duly_on p ys xs on.1 hints.1 got all)
+
+-- a page that was never got isn't returned
+pub never_returned : (p : ℕ) (xs : List Made) → (Once (GetsHere p) xs → ⊥) → Always ReturnsDuly xs → Always (KeepsMarks p) xs
+never_returned p [] never all = tt
+never_returned p (m ∷ xs) never all = (λ is. absurd (never (inr (all.0.0 p is))), never_returned p xs (λ got. never (inr got)) all.1)
+
+-- ---- after puts the page is taken back from the parked pages, and nothing else
+unparks : (page : ℕ) (s : Step) → is_in unparking (kind_of s) ≡ true → IsReturnOf page s → s ≡ Unpark page
+unparks page s is (IsReturnOf.Offers d) = absurd (true≢false (sym is))
+unparks page s is IsReturnOf.Parks = absurd (true≢false (sym is))
+unparks page s is IsReturnOf.Unparks = refl
+unparks page s is IsReturnOf.Hints = absurd (true≢false (sym is))
+
+pub marks_after : (page : ℕ) (ys xs : List Made) → Only unparking ys → Once (PutsHere page) xs → Always (KeepsMarks page) xs → Always (KeepsMarks page) (ys ++ xs)
+marks_after page [] xs only put all = all
+marks_after page (y ∷ ys) xs only put all = ((λ is. (unparks page y.step only.0 is, once_later (PutsHere page) ys xs put)), marks_after page ys xs only.1 put all)
