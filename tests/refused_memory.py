@@ -2,10 +2,11 @@
 """tests/refused_memory.py PROGRAM
 
 Runs the program `pas` with each of its allocations refused in turn, and once with all from each one on: a run that was refused memory ends with
-status 5 and wrote nothing, or it ends as a run without a refusal: with the same bytes, and on threads with a right transcript. Needs `cc`, for a
-library that stands between the program and malloc. Ends with status 0 where each run is so."""
+status 5 and wrote nothing, or it ends as a run without a refusal: with the same bytes, and on threads with a right transcript. A library that stands
+between the program and malloc is compiled for that, by `cc` or else by the kit's own compiler. Ends with status 0 where each run is so."""
 import os
 import pathlib
+import shutil
 import subprocess
 import sys
 import tempfile
@@ -14,12 +15,19 @@ from transcripts import judge, read_trace
 
 MOST_SECONDS = 60
 
+# The kit's compiler has no headers, so what the library calls is declared here.
 SHIM = r"""
-#define _GNU_SOURCE
-#include <dlfcn.h>
-#include <fcntl.h>
-#include <stdlib.h>
-#include <unistd.h>
+typedef __SIZE_TYPE__ size_t;
+#define RTLD_NEXT ((void *)-1)
+enum { WRITTEN_ANEW = 01 | 0100 | 01000 };
+
+void *dlsym(void *, const char *);
+char *getenv(const char *);
+int unsetenv(const char *);
+long atol(const char *);
+int open(const char *, int, ...);
+long write(int, const void *, size_t);
+void abort(void);
 
 static long made, first = -1, last = -1;
 static void *(*real_malloc)(size_t);
@@ -56,7 +64,7 @@ static void tell(void)
     do
         digits[--at] = '0' + left % 10;
     while (left /= 10);
-    int file = open(path, O_WRONLY | O_CREAT | O_TRUNC, 0600);
+    int file = open(path, WRITTEN_ANEW, 0600);
     if (file < 0 || write(file, digits + at, sizeof digits - at) < 0)
         abort();
 }
@@ -112,6 +120,14 @@ RUNS = {f"{word}, {what}": ([word], text) for word in ("order", "run") for what,
 }
 
 
+def compiler():
+    """The words that start a C compiler: the machine's, or that of the kit beside `rt`."""
+    if shutil.which("cc") or not shutil.which("rt"):
+        return ["cc"]
+    folder = pathlib.Path(shutil.which("rt")).resolve().parent.parent / "toolchain/bin"
+    return [folder / "clang", f"--ld-path={folder / 'ld.lld'}"]
+
+
 def run(program, shim, words, text, first=None, last=None, count=None):
     """The status of a run in which these allocations are refused, and what it wrote."""
     environment = dict(os.environ, LD_PRELOAD=str(shim))
@@ -130,17 +146,29 @@ def is_right(words, text, wanted, found):
     return words == ["run"] and found[0] == wanted[0] == 0 and judge(read_trace(text.decode()), found[1].decode()) is None
 
 
+def wanted_status(words, text):
+    """The status of a run without a refusal: other words get 2, a fault 1."""
+    if words[0] not in ("order", "run", "gen"):
+        return 2
+    return 1 if text == TRACES["a fault"] else 0
+
+
 def tried(program, folder, shim, words, text):
     """How many allocations the run makes, and what is wrong where some are refused."""
     count = folder / "count"
     wanted = run(program, shim, words, text, count=count)
     made = int(count.read_text())
-    faults = []
+    faults, ends = [], set()
+    if wanted[0] != wanted_status(words, text) or not wanted[1]:
+        faults.append(f"refused nothing: status {wanted[0]} and {len(wanted[1])} bytes")
     for first in range(made):
         for last in (first, 1 << 40):
             found = run(program, shim, words, text, first, last)
+            ends.add(found[0])
             if not is_right(words, text, wanted, found):
                 faults.append(f"refused {first} to {last}: status {found[0]} and {len(found[1])} bytes")
+    if 5 not in ends:
+        faults.append("no run ended with status 5")
     return made, faults
 
 
@@ -152,7 +180,7 @@ def main():
         folder = pathlib.Path(name)
         source, shim = folder / "refuse.c", folder / "refuse.so"
         source.write_text(SHIM)
-        subprocess.run(["cc", "-O1", "-shared", "-fPIC", "-o", shim, source, "-ldl"], check=True)
+        subprocess.run([*compiler(), "-O1", "-shared", "-fPIC", "-nostdlib", "-o", shim, source], check=True)
         for what, (words, text) in RUNS.items():
             made, faults = tried(sys.argv[1], folder, shim, words, text)
             for fault in faults:

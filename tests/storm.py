@@ -1,10 +1,12 @@
 #!/usr/bin/env python3
-"""tests/storm.py PROGRAM [--seconds N] [--operations N]
+"""tests/storm.py PROGRAM [--seconds N] [--rounds N] [--operations N]
 
-Replays random traces of 16 threads on 64 pages by `pas run`, again and again for so many seconds (60), with so many operations each (500,000), in 1, 20
-and 200 phases in turn. Each run has to end with status 0; in its report each page with a deed and room is offered, each other one parked, and each
-backed page without a live block is hinted; what was given and not ended is live. Between them small traces are judged line by line
-(tests/transcripts.py). Prints the operations replayed and the greatest memory by the number of phases, which must not grow with it."""
+Replays random traces of 16 threads on 64 pages by `pas run`, again and again for so many seconds (60), or in so many rounds
+however long they take, with so many operations each (500,000), in 1, 20 and 200 phases in turn. Each run has to end with
+status 0; in its report each page with a deed and room is offered, each other one parked, and each backed page without a
+live block is hinted; what was given and not ended is live. Between them small traces are judged line by line
+(tests/transcripts.py). Prints the operations replayed and the greatest memory by the number of phases, which must not grow
+with it."""
 import os
 import random
 import subprocess
@@ -88,14 +90,16 @@ def is_room(words, free):
 def main():
     words = sys.argv[1:]
     seconds = float(words.pop(words.index("--seconds") + 1)) if "--seconds" in words else 60
+    rounds = int(words.pop(words.index("--rounds") + 1)) if "--rounds" in words else None
     operations = int(words.pop(words.index("--operations") + 1)) if "--operations" in words else 500_000
     words = [word for word in words if not word.startswith("--")]
     if len(words) != 1:
         sys.exit(__doc__)
     rng, memory, replayed, judged, wrong = random.Random(7), {}, 0, 0, 0
     texts = {phases: storm(rng, operations, phases) for phases in PHASES}
-    end = time.monotonic() + seconds
-    while time.monotonic() < end:
+    end, done = time.monotonic() + seconds, 0
+    while done < rounds if rounds is not None else time.monotonic() < end:
+        done += 1
         for phases, text in texts.items():
             status, transcript, most = run(words[0], text)
             faults = [f"status {status}"] if status else faults_of(transcript)
