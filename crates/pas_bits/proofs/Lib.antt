@@ -1,7 +1,4 @@
 pub mod Words
-mod Runs
-mod Counts
-mod Places
+mod Masks
 pub mod MovedMasks
-mod LowestBits
 pub mod PageVectors

@@ -15,6 +15,7 @@ impl Mask4 {
     }
 
     /// Sets the grain's bit, and changes no other.
+    #[tactic(auto, using(crate::proofs::Words::after_set))]
     pub fn set(&mut self, grain: u8)
         ensures { (g : ℕ) → is_set self.new g ≡ ((g == grain) || is_set self.old g) }
     {
@@ -22,6 +23,7 @@ impl Mask4 {
     }
 
     /// Clears the grain's bit, and changes no other.
+    #[tactic(auto, using(crate::proofs::Words::after_clear))]
     pub fn clear(&mut self, grain: u8)
         ensures { (g : ℕ) → is_set self.new g ≡ (not (g == grain) && is_set self.old g) }
     {

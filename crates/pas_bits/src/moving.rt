@@ -6,6 +6,7 @@ ghost use Rattle.pas_bits.specs.Masks.{is_set, AreSet, IsNear, bit_of_two};
 use crate::mask::Mask4;
 
 /// The 64 bits from bit `from` on, 0 to 63, of the 128 bits of two words.
+#[tactic(auto, using(crate::proofs::MovedMasks::window_bit))]
 fn window(low: u64, high: u64, from: u8) -> u64
     requires from { from < 64 }
     ensures { (b : ℕ) → b < 64 → has_bit result b ≡ bit_of_two low high (b + from) }

@@ -8,6 +8,7 @@ use crate::mask::Mask4;
 
 /// The number whose lowest so many bits are set, at most 64.
 #[inline(always)]
+#[tactic(auto, using(crate::proofs::Masks::ones_are))]
 fn ones(bits: u16) -> u64
     requires { bits ≤ 64 }
     ensures { result ≡ 2 ^ bits - 1 }
@@ -52,6 +53,7 @@ impl Mask4 {
 
     /// Whether all bits of the run of so many grains from the first on are set. The run ends within the page: `first + grains` is at
     /// most 256. Compares four words.
+    #[tactic(auto, using(crate::proofs::Masks::has_run_where))]
     pub fn has_run(&self, first: u8, grains: u16) -> bool
         requires { first + grains ≤ 256 }
         ensures { IsTrue result ↔ AreSet self.now first grains }

@@ -21,6 +21,7 @@ impl Mask4 {
     }
 
     /// Whether no bit is set. Looks at each word at most once.
+    #[tactic(auto, using(crate::proofs::Masks::is_empty_by))]
     pub fn is_empty(&self) -> bool
         ensures { MatchBool result (IsEmpty self.now) (HasMember self.now) }
     {
@@ -28,6 +29,7 @@ impl Mask4 {
     }
 
     /// The lowest clear bit. None exactly where all 256 are set. Looks at each word at most once.
+    #[tactic(auto, using(crate::proofs::Masks::lowest_clear))]
     pub fn first_zero(&self) -> Option<u8>
         ensures { MatchOption result (AllSetBelow self.now 256) (λ grain. IsLowestClear self.now grain) }
     {

@@ -12,7 +12,7 @@ use Rattle.pas_steps.proofs.Adding.{triples_append}
 use Rattle.pas_steps.proofs.Parts.{part_of_own}
 use Rattle.pas_core.specs.Fits.{HasNoFit}
 use Rattle.pas_core.proofs.Nexts.{agreed_steps}
-use Rattle.pas_core.proofs.OneActorRights.{legal_earlier}
+use Rattle.pas_core.proofs.OneActor.{legal_earlier}
 use Rattle.pas_scan.specs.Runs.{large_directory}
 use Rattle.pas_search.specs.Kinds.{AreSearch}
 use Rattle.pas_search.specs.Searches.{IsRefused}
@@ -30,11 +30,8 @@ use Rattle.pas_cache.specs.Locals.{local_for, RestsWith}
 use Rattle.pas_cache.specs.Parts.{IsTrueOf}
 use Rattle.pas_cache.specs.Refusals.{IsTrulyRefusedBy, IsTrulyRefused}
 use Rattle.pas_cache.specs.Serves.{Wanted, wanted_for, pages_of, filling_in, IsFilling, HasNoneCached, Fetches, IsObtained, IsAnswered, ServesLocals, ServesClass, ServesBitfit, ServesPages, ServesBy, ServesRequest, IsTrueRefusal}
-use Rattle.pas_cache.proofs.BitfitRoute.{may_search_bitfit, bitfit_wanted}
-use Rattle.pas_cache.proofs.FitsBefore.{no_fit_before}
-use Rattle.pas_cache.proofs.Obtained.{none_shortened}
-use Rattle.pas_cache.proofs.PagesRoute.{may_find}
-use Rattle.pas_cache.proofs.Refills.{may_search, refused_steps, refusal}
+use Rattle.pas_cache.proofs.Routes.{may_search_bitfit, bitfit_wanted, may_find}
+use Rattle.pas_cache.proofs.Obtained.{no_fit_before, none_shortened, may_search, refused_steps, refusal}
 use Rattle.pas_cache.proofs.Served.{wanted_is, filling_for}
 
 -- ---- a request of a class

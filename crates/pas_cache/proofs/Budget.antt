@@ -1,5 +1,5 @@
 -- For callers: the room of one request after another.
-use Rattle.std.proofs.Common.{◌≡◌, ℕ, ◌+◌, ◌≤◌, ◌++◌, length, ap, sym, ◌∙◌, subst, arith, length-append, Option, Result, Bool, List}
+use Rattle.std.proofs.Common.{refl, ◌≡◌, ℕ, ◌+◌, ◌≤◌, ◌++◌, length, ap, sym, ◌∙◌, subst, arith, Option, Result, Bool, List}
 use Rattle.std.specs.Prelude.{map}
 use Rattle.std.proofs.lemmas.List.{length-map, length-reverse}
 use Rattle.pas_profile.specs.declared.profile.Profile.{Profile}
@@ -13,10 +13,10 @@ use Rattle.pas_profile.specs.declared.directory.Route.{Route}
 use Rattle.pas_profile.specs.declared.event.NoRoom.{NoRoom}
 use Rattle.pas_profile.specs.declared.name.Block.{Block}
 use Rattle.pas_steps.specs.Views.{View}
-use Rattle.pas_steps.specs.Events.{events_of, events_by}
-use Rattle.pas_steps.specs.Lists.{Whole}
+use Rattle.pas_steps.specs.Events.{events_by}
 use Rattle.pas_steps.specs.Desks.{Standing, Seat, CanCall, triples}
-use Rattle.pas_steps.proofs.Frames.{events_split}
+use Rattle.pas_steps.proofs.Adding.{adds_none, adds_under, can_call}
+use Rattle.pas_steps.proofs.SpareRoom.{Spares, spare_falls}
 use Rattle.pas_steps.specs.Unknown.{unknown_pages}
 use Rattle.pas_cache.specs.Caches.{Cached, AtRest}
 use Rattle.pas_cache.specs.Calls.{MayAllocate, Allocates}
@@ -30,33 +30,22 @@ pub record HasBudget (f : Profile) (c : Cached) (n spare : ℕ) (v : View) : Typ
 
 -- two of the n are enough for a request
 pub may_allocate : {σ : Standing} {c : Cached} {spare : ℕ} (n : ℕ) → 2 ≤ n → CanCall σ (HasBudget σ.seat.profile c n spare) → CanCall σ (MayAllocate σ.seat.profile c spare)
-may_allocate {σ} {c} {spare} n two can = record {
-  view = can.view;
-  whole = can.whole;
-  stood = can.stood;
-  met = record { rest = can.met.rest; room = let room = can.met.room in has_room σ.seat.profile 2 spare can.view (omega (arith, two, room)) };
-}
+may_allocate {σ} {spare = spare} n two can = can_call adds_none can (λ v l stood met. record { rest = met.rest; room = has_room σ.seat.profile 2 spare v (omega (arith, two, met.room)) })
 
 -- and the others are left after it
 pub budget_left : {σ σ' : Standing} {c c' : Cached} {answer : Result Block NoRoom} {wanted : Wanted} {spare spare' : ℕ} {tells : Bool} (n : ℕ) → (h : Allocates wanted tells c c' σ σ' answer) → CanCall σ (HasBudget σ.seat.profile c (n + 2) spare)
-    → ((v : View) (l : Whole) → σ.stands v l → spare + length (events_of σ.seat.actor v) ≡ σ.seat.room) → ((v : View) (l : Whole) → σ'.stands v l → spare' + length (events_of σ'.seat.actor v) ≡ σ'.seat.room)
-    → CanCall σ' (HasBudget σ'.seat.profile c' n spare')
-budget_left {σ} {σ'} {c} {c'} {spare = spare} {spare' = spare'} n h can law law' =
-    let f : Profile = σ.seat.profile in
+    → Spares σ spare → Spares σ' spare' → CanCall σ' (HasBudget σ'.seat.profile c' n spare')
+budget_left {σ} {c = c} {c' = c'} {spare = spare} {spare' = spare'} n h can law law' =
     let k : ℕ = σ.seat.actor in
     let v : View = can.view in
     let ok = h.calls.adds.agreed v can.whole can.stood can.met.rest in
-    let before : spare + length (events_of k v) ≡ σ.seat.room = law v can.whole can.stood in
-    let after : spare' + length (events_of k (h.steps ++ v)) ≡ σ.seat.room
-    = subst (λ (s : Seat). spare' + length (events_of s.actor (h.steps ++ v)) ≡ s.room) h.calls.adds.seat_is (law' (h.steps ++ v) (triples k h.steps ++ can.whole) (h.calls.adds.added v can.whole can.stood can.met.rest)) in
-    let split : length (events_of k (h.steps ++ v)) ≡ length (events_by k v h.steps) + length (events_of k v) = ap length (events_split k h.steps v) ∙ length-append (events_by k v h.steps) (events_of k v) in
+    let left = spare_falls {C = HasBudget σ.seat.profile c (n + 2) spare} spare spare' (length (events_by k v h.steps)) (adds_under h.calls.adds (λ v l stood met. met.rest)) can law law' refl in
     let few = (h.few k v can.met.rest ok).paid in
-    let room = can.met.room in
     record {
       view = h.steps ++ v;
       whole = triples k h.steps ++ can.whole;
       stood = h.calls.adds.added v can.whole can.stood can.met.rest;
-      met = subst (λ (s : Seat). HasBudget s.profile c' n spare' (h.steps ++ v)) (sym h.calls.adds.seat_is) (record { rest = h.calls.leads.from v can.met.rest ok; room = omega (arith, before, after, split, few, room) });
+      met = subst (λ (s : Seat). HasBudget s.profile c' n spare' (h.steps ++ v)) (sym h.calls.adds.seat_is) (record { rest = h.calls.leads.from v can.met.rest ok; room = omega (arith, left, few, can.met.room) });
     }
 
 -- no request changes the log

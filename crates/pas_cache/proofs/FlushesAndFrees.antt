@@ -1,13 +1,17 @@
--- An epoch is read, a log is flushed, names are logged, and a cache is stopped.
-use Rattle.std.proofs.Common.{◌≡◌, ℕ, ◌+◌, ◌-◌, ◌*◌, ◌%◌, ◌^◌, ◌<◌, ◌≤◌, nat_le, Bool, true, false, List, [], ◌∷◌, ◌++◌, length, refl, ap, sym, ◌∙◌, subst, arith, length-append}
-use Rattle.std.specs.Prelude.{All, Ok, Err}
-use Rattle.std.proofs.lemmas.Bool.{le-leb, lt-leb, leb-false}
+-- An epoch is read, a log is flushed, names are logged, a cache is stopped, and runs are handed on.
+use Rattle.std.proofs.Common.{◌≡◌, ℕ, [], sym, subst, arith, ◌+◌, ◌-◌, ◌*◌, ◌%◌, ◌^◌, ◌<◌, ◌≤◌, nat_le, Bool, true, false, List, ◌∷◌, ◌++◌, length, refl, ap, ◌∙◌, length-append}
 use Rattle.std.proofs.lemmas.List.Elements.{All-nil, All-push, All-same}
+use Rattle.pas_steps.specs.Desks.{Standing, CanCall, Seat, Makes, made}
+use Rattle.pas_cache.specs.Caches.{AtRest, Cached}
+use Rattle.pas_cache.specs.Calls.{MayAllocate, Begins, Frees, FlushesLog, StopsCache, SettlesEach}
+use Rattle.pas_cache.specs.Contents.{CacheOf}
+use Rattle.pas_cache.specs.Locals.{HasOneEach, IsFormed, IsLocal, RestsWith}
+use Rattle.std.specs.Prelude.{All, List, Ok, Err}
+use Rattle.pas_segregated.specs.declared.slots.Slots.{Slots}
+use Rattle.std.proofs.lemmas.Bool.{le-leb, lt-leb, leb-false}
 use Rattle.pas_profile.specs.declared.profile.Profile.{Profile}
-use Rattle.pas_profile.specs.declared.word.Word.TheVariants as Word
 use Rattle.pas_profile.specs.declared.event.FreeFault.{FreeFault}
 use Rattle.pas_steps.specs.Views.{View}
-use Rattle.pas_steps.specs.Desks.{Standing, Seat, CanCall, Makes, made}
 use Rattle.pas_steps.specs.declared.step.Made.{Made}
 use Rattle.pas_steps.specs.declared.step.Step.TheVariants.{Look}
 use Rattle.pas_steps.proofs.Adding.{adds_none, adds_step, adds_under}
@@ -16,12 +20,9 @@ use Rattle.pas_free_log.specs.Conditions.{IsEntryOf}
 use Rattle.pas_free_log.specs.declared.log.Entry.{Entry}
 use Rattle.pas_free_log.specs.declared.noting.EndedRun.{EndedRun}
 use Rattle.pas_free_log.specs.Flushes.{Flushes}
-use Rattle.pas_cache.specs.Locals.{IsLocal, RestsWith}
-use Rattle.pas_cache.specs.Caches.{Cached, AtRest}
 use Rattle.pas_cache.specs.Changes.{EmptiesLog, EmptiesFull, LogsEntry, StopsEach}
 use Rattle.pas_cache.specs.Names.{IsInRegion, IsFaultOf, MayFlush, EmptiesWhere, LogsInto}
 use Rattle.pas_cache.specs.Parts.{Releases}
-use Rattle.pas_cache.specs.Calls.{Begins, Frees, FlushesLog, StopsCache}
 use Rattle.pas_steps.specs.Calls.{Leads, Calls, Does, nothing}
 use Rattle.pas_steps.specs.Kinds.{looking}
 use Rattle.pas_steps.proofs.Apart.{no_events}
@@ -29,6 +30,25 @@ use Rattle.pas_steps.proofs.Called.{call_none, call_then, next_call}
 use Rattle.pas_steps.proofs.Calls.{does_none, does_idly}
 use Rattle.pas_cache.specs.Kinds.{releasing}
 use Rattle.pas_cache.proofs.Resting.{rests_kept}
+use Rattle.pas_profile.specs.declared.event.Range.{Range}
+use Rattle.pas_profile.specs.declared.word.Word.TheVariants as Word
+
+-- ==== A cache while its fields are open.
+
+pub rests_open : {σ : Standing} {fields cache : CacheOf} → fields ≡ cache → CanCall σ (AtRest σ.seat.profile cache.contents) → CanCall σ (AtRest σ.seat.profile fields.contents)
+rests_open {σ} is can = subst (λ (x : CacheOf). CanCall σ (AtRest σ.seat.profile x.contents)) (sym is) can
+
+pub may_allocate_open : {σ : Standing} {fields cache : CacheOf} {spare : ℕ} → fields ≡ cache → CanCall σ (MayAllocate σ.seat.profile cache.contents spare) → CanCall σ (MayAllocate σ.seat.profile fields.contents spare)
+may_allocate_open {σ} {spare = spare} is can = subst (λ (x : CacheOf). CanCall σ (MayAllocate σ.seat.profile x.contents spare)) (sym is) can
+
+-- no local allocators are kept as they must be
+pub none_twice : (locals : List Slots) → locals ≡ [] → HasOneEach locals
+none_twice locals none = subst HasOneEach (sym none) (λ heap class. omega arith)
+
+pub none_formed : (locals : List Slots) → locals ≡ [] → All IsFormed locals
+none_formed locals none = subst (λ (xs : List Slots). All IsFormed xs) (sym none) (All-nil IsFormed)
+
+-- ==== Begin, flush, stop and free.
 
 -- ---- an empty cache
 no_locals : (f : Profile) (v : View) → HasNothing v → RestsWith f [] v
@@ -169,3 +189,13 @@ full_room n spare most room full =
 
 pub flush_call : {σ : Standing} {c : Cached} → CanCall σ (AtRest σ.seat.profile c) → CanCall σ (MayFlush σ.seat.profile c.log)
 flush_call can = record { view = can.view; whole = can.whole; stood = can.stood; met = record { clear = can.met.locals.clear; each = can.met.entries } }
+
+-- ==== The runs that were handed on so far.
+
+pub settles_more : {Door : Type 0} (Settles : Door → Door → ℕ → Range → Type 0) (runs : List EndedRun) (run : EndedRun) (a b c : Door) → SettlesEach Settles runs a b → Settles b c run.heap run.range → SettlesEach Settles (runs ++ run ∷ []) a c
+settles_more Settles [] run a b c before one = (c, subst (λ x. Settles x c run.heap run.range) before one, refl)
+settles_more Settles (first ∷ rest) run a b c before one = (before.0, before.1, settles_more Settles rest run before.0 b c before.2 one)
+
+-- a run, for places past the end of a list
+abbrev pub blank : EndedRun
+blank = record { heap = 0; range = record { first = 0; pages = 0 } }

@@ -1,40 +1,245 @@
 -- Slots are obtained: cached ones, or those of a refill.
-use Rattle.std.proofs.Common.{◌≡◌, ℕ, ◌<◌, ◌≤◌, ◌==◌, Bool, true, false, cond, Option, List, [], ◌∷◌, ◌++◌, length, get_or, Some, None, Ok, Err, Result, inl, inr, refl, ap, sym, ◌∙◌, subst, arith, true≢false, append-nil, length-append}
-use Rattle.std.specs.List.{cons_option, list_any, remove}
-use Rattle.std.specs.List.Sorted.{IsPermutation}
+use Rattle.std.proofs.Common.{◌≡◌, Bool, ℕ, ◌==◌, true, false, List, [], ◌∷◌, ◌++◌, Ok, Err, Result, None, refl, ap, sym, ◌∙◌, subst, true≢false, ◌≢◌, ◌+◌, length, Some, inl, inr, arith, append_assoc, length-append, ◌*◌, ◌/◌, ◌%◌, ◌<◌, ◌≤◌, cond, Option, get_or, append-nil}
+use Rattle.std.specs.Prelude.{All, MatchResult, not, ◌≤◌, ◌⊎◌}
+use Rattle.std.specs.List.{cons_option, list_any, AllByRecursion, remove}
 use Rattle.std.specs.Result.{result_ok}
-use Rattle.std.proofs.lemmas.Bool.{and_parts, cases_Bool, eqb-true}
-use Rattle.std.proofs.lemmas.List.Sorted.{length_permutation}
+use Rattle.std.proofs.lemmas.Bool.{eq-eqb, eqb-true, and_parts, and_from, or_parts, or_from, false_from_ne_true, cases_eq, cases_Bool}
+use Rattle.std.proofs.lemmas.List.Elements.{All-head, All-tail}
 use Rattle.pas_profile.specs.Classes.{IsClass}
+use Rattle.pas_profile.specs.Directories.{IsKind, deed_word_of, number_of}
+use Rattle.pas_profile.specs.Requests.{is_shared, kind_of_class}
+use Rattle.pas_profile.specs.Profiles.{IsDirectoryOf, IsPage}
+use Rattle.pas_profile.specs.declared.directory.Directory.{Directory}
 use Rattle.pas_profile.specs.declared.event.NoRoom.{NoRoom}
 use Rattle.pas_profile.specs.declared.profile.Profile.{Profile}
-use Rattle.pas_bits.specs.Masks.{is_set, IsEmpty, HasMember}
-use Rattle.pas_steps.specs.Agreement.{Agreed}
-use Rattle.pas_steps.specs.Desks.{Standing, Seat, CanCall, triples}
-use Rattle.pas_steps.specs.Lists.{Whole}
-use Rattle.pas_steps.specs.Unknown.{HasRoom}
+use Rattle.pas_steps.specs.Agreement.{Agreed, Agrees}
+use Rattle.pas_steps.specs.Calls.{Leads}
+use Rattle.pas_steps.specs.Desks.{Standing, CanCall, triples, Seat}
+use Rattle.pas_steps.specs.Views.{View, known_deed, KnowsDeed}
 use Rattle.pas_steps.specs.declared.step.Made.{Made}
-use Rattle.pas_steps.proofs.Adding.{adds_under, triples_append, agreed_later}
-use Rattle.pas_steps.proofs.Called.{call_none}
-use Rattle.pas_steps.proofs.Unknown.{room_after}
-use Rattle.pas_core.specs.Fits.{HasNoFit}
-use Rattle.pas_search.specs.Telling.{IsTold}
-use Rattle.pas_segregated.specs.Masks.{start_of}
-use Rattle.pas_segregated.specs.Refills.{Filling, Refills}
-use Rattle.pas_rights.specs.PutsBack.{BackSteps}
+use Rattle.pas_search.specs.Searches.{MaySearch, SearchRoom, IsRefused, DeedMadeHere, FromOffered, ByDeed, FewEvents}
+use Rattle.pas_segregated.specs.Refills.{Filling, GetsSlots, Refills}
 use Rattle.pas_segregated.specs.Stops.{home_of, LeavesWhere, StopStepsAt}
 use Rattle.pas_segregated.specs.declared.slots.Slots.{Slots}
+use Rattle.pas_cache.specs.Locals.{keeps_right, any_keeps, is_for, local_for, IsLocal, RestsWith, others_than, HasOneEach, IsPlaceOf}
+use Rattle.pas_cache.specs.Parts.{MayObtain, IsFoundFor, Releases, StopsPlace, BringsCached, Obtains, StandsLast, IsToldOf}
+use Rattle.pas_cache.specs.Serves.{IsFilling, IsRefill, IsFew, IsPreparing, MakesPlace, HasNoneCached}
+use Rattle.pas_cache.proofs.Locals.{none_found, none_any, found_passes, at_place, none_left}
+use Rattle.pas_cache.proofs.Resting.{rests_gained, rests_kept, here, rests_reordered}
+use Rattle.pas_profile.proofs.Codecs.{same_from_deed_word, same_parts, deed_word_of-positive}
+use Rattle.std.proofs.Math.Bool.{not-not}
+use Rattle.pas_steps.proofs.Unknown.{unknown_stays, unknown_less, room_after}
+use Rattle.pas_profile.specs.declared.event.Event.{Event}
+use Rattle.pas_steps.specs.Events.{event_of, events_by}
+use Rattle.pas_steps.specs.Past.{Once}
+use Rattle.pas_steps.specs.declared.step.Step.{Step}
+use Rattle.pas_steps.specs.declared.step.Step.TheVariants.{Deed}
+use Rattle.pas_steps.proofs.Adding.{agreed_first, agreed_later, adds_under, triples_append, adds_none, can_call}
+use Rattle.pas_steps.proofs.Frames.{events_append}
+use Rattle.pas_steps.proofs.Kept.{deed_stays}
+use Rattle.pas_search.specs.Kinds.{AreQuiet, IsDeedOrBack, EventsAt, IsQuiet}
+use Rattle.pas_steps.specs.Evidence.{Readings, IsAntitone}
+use Rattle.pas_search.proofs.ForBackEnds.{events_quiet}
+use Rattle.pas_steps.specs.Unknown.{unknown_pages, HasRoom}
+use Rattle.pas_steps.specs.Kinds.{Only, returning}
+use Rattle.pas_steps.proofs.Apart.{no_events, events_same}
+use Rattle.pas_cache.specs.Kinds.{releasing}
+use Rattle.std.proofs.lemmas.Option.{cond_some, none-some}
+use Rattle.pas_steps.proofs.Events.{each_event}
+use Rattle.pas_steps.specs.Lists.{Whole}
+use Rattle.pas_core.proofs.OneActor.{free_stays, offered_stays, deed_same}
+use Rattle.pas_core.specs.Fits.{HasNoFit}
+use Rattle.pas_core.specs.Rights.{free_of_page}
+use Rattle.std.specs.List.Sorted.{IsPermutation}
+use Rattle.std.proofs.lemmas.List.Sorted.{length_permutation}
+use Rattle.pas_bits.specs.Masks.{is_set, IsEmpty, HasMember}
+use Rattle.pas_steps.proofs.Called.{call_none}
+use Rattle.pas_search.specs.Telling.{IsTold}
+use Rattle.pas_segregated.specs.Masks.{start_of}
+use Rattle.pas_rights.specs.PutsBack.{BackSteps}
 use Rattle.pas_segregated.proofs.Starts.{start_below}
 use Rattle.pas_cache.specs.Changes.{LeavesSpent, StopsFirst, IsTakenOut, IsShortened}
-use Rattle.pas_cache.specs.Locals.{is_for, local_for, others_than, HasOneEach, IsPlaceOf, RestsWith}
-use Rattle.pas_cache.specs.Parts.{Releases, StopsPlace, BringsCached, MayObtain, Obtains, StandsLast, IsToldOf}
-use Rattle.pas_cache.specs.Serves.{MakesPlace, IsFilling, IsRefill, HasNoneCached}
-use Rattle.pas_cache.proofs.FitsBefore.{no_fit_before}
-use Rattle.pas_cache.proofs.Locals.{none_any, found_passes, at_place, none_left}
-use Rattle.pas_cache.proofs.RefillEvents.{refill_few}
-use Rattle.pas_cache.proofs.Refills.{may_search, refill_of, found_by, cached_home, rests_refilled}
-use Rattle.pas_cache.proofs.Resting.{here, rests_reordered}
 use Rattle.pas_cache.proofs.Stops.{releases_as, releases_none, releases_then, rests_then}
+use Rattle.pas_profile.specs.declared.directory.Kind.TheVariants as Kind
+
+-- ==== Slots come by a refill.
+
+-- ---- homes
+unshared : (shared : Bool) (a b : ℕ) → Kind.Class a ≡ kind_of_class shared b → a ≡ b
+unshared false a b h = cc
+unshared true a b h = absurd (let none = h in cc)
+
+kept_by : (right shared : Bool) (a b : ℕ) → kind_of_class (not right) a ≡ kind_of_class shared b → right ≡ not shared
+kept_by true false a b h = refl
+kept_by false true a b h = refl
+kept_by true true a b h = absurd (let none = h in cc)
+kept_by false false a b h = absurd (let none = h in cc)
+
+-- slots that keep their page's right and are at home in the directory are those for its heap and the class
+is_one : (f : Profile) (fill : Filling) → IsFilling f fill → (slots : Slots) → slots.right ≡ true → home_of slots ≡ fill.directory → is_for fill.directory.heap fill.class slots ≡ true
+is_one f fill is slots right home =
+    and_from (slots.heap == fill.directory.heap) (slots.class == fill.class) (eq-eqb slots.heap fill.directory.heap (ap (λ d. d.heap) home))
+    (eq-eqb slots.class fill.class (unshared (is_shared f fill.directory.heap) slots.class fill.class (ap (λ t. kind_of_class (not t) slots.class) (sym right) ∙ (ap (λ d. d.kind) home ∙ is.home))))
+
+-- ---- an actor whose local allocators are all of other directories has no right of a page of this one
+pub no_right_in : (f : Profile) (v : View) (d : Directory) (test : Slots → Bool) → IsKind d.kind → ((slots : Slots) → slots.right ≡ true → home_of slots ≡ d → test slots ≡ true) → (locals : List Slots) → All (IsLocal f v) locals → list_any test locals ≡ false
+    → (p : ℕ) → KnowsDeed p d v → any_keeps locals p ≡ false
+no_right_in f v d test is all_there [] all none p of = refl
+no_right_in f v d test is all_there (first ∷ rest) all none p of =
+    let others = or_parts (test first) (list_any test rest) none in
+    let at : IsLocal f v first = All-head (IsLocal f v) first rest all in
+    or_from (keeps_right first p) (any_keeps rest p)
+    (false_from_ne_true (keeps_right first p) (λ keeps.
+    let both = and_parts first.right (first.page == p) keeps in
+    true≢false (sym (all_there first both.0 (same_from_deed_word (home_of first) d at.directory.kind is (sym at.deed ∙ (ap (known_deed v) (eqb-true first.page p both.1) ∙ of)))) ∙ others.0)))
+    (no_right_in f v d test is all_there rest (All-tail (IsLocal f v) first rest all) others.1 p of)
+
+-- nor of a page of a kind that no class has
+no_test : (locals : List Slots) → list_any (λ (s : Slots). false) locals ≡ false
+no_test [] = refl
+no_test (s ∷ rest) = no_test rest
+
+pub no_right_of : (f : Profile) (v : View) (d : Directory) → IsKind d.kind → ((shared : Bool) (class : ℕ) → kind_of_class shared class ≡ d.kind → ⊥) → (locals : List Slots) → All (IsLocal f v) locals → (p : ℕ) → KnowsDeed p d v → any_keeps locals p ≡ false
+no_right_of f v d is no_class locals known p of = no_right_in f v d (λ s. false) is (λ slots right home. absurd (no_class (not slots.right) slots.class (ap (λ (h : Directory). h.kind) home))) locals known (no_test locals) p of
+
+pub may_search : (f : Profile) (v : View) (fill : Filling) (locals : List Slots) → IsFilling f fill → local_for fill.directory.heap fill.class locals ≡ None → RestsWith f locals v → MaySearch fill.directory v
+may_search f v fill locals is none h = record {
+  rights = λ p of. h.rights p ∙ no_right_in f v fill.directory (is_for fill.directory.heap fill.class) is.directory.kind (is_one f fill is) locals h.known (none_found (is_for fill.directory.heap fill.class) locals none).any p of;
+  clear = h.clear;
+}
+
+pub search_call : {σ : Standing} {n spare : ℕ} (fill : Filling) (locals : List Slots) → IsFilling σ.seat.profile fill → local_for fill.directory.heap fill.class locals ≡ None → CanCall σ (MayObtain σ.seat.profile n spare locals) → CanCall σ (SearchRoom σ.seat.profile fill.directory n spare)
+search_call {σ} fill locals is none can = can_call adds_none can (λ v l stood met. record { may = may_search σ.seat.profile v fill locals is none met.rest; room = met.room })
+
+-- ---- what a refill says, by its answer
+pub refill_of : {σ σ' : Standing} (fill : Filling) (tells : Bool) (answer : Result Slots NoRoom) → (h : Refills fill tells σ σ' answer) → IsRefill fill σ.seat.profile (h.after ++ h.searched) answer
+refill_of fill tells answer h = record { searched = h.searched; searches = h.searches; few = h.few; after = h.after; outcome = h.outcome; steps_are = refl }
+
+pub found_by : (fill : Filling) (f : Profile) (steps : List Made) (answer : Result Slots NoRoom) → IsRefill fill f steps answer → MatchResult answer (IsFoundFor fill) (λ room. Unit {0})
+found_by fill f steps (Ok slots) refill = record { home = refill.outcome.home; class_is = refill.outcome.class_is; some = refill.outcome.some }
+found_by fill f steps (Err room) refill = tt
+
+-- the one that is cached for the heap and the class is at home in its directory
+pub cached_home : (f : Profile) (v : View) (fill : Filling) → IsFilling f fill → (slots : Slots) → IsLocal f v slots → is_for fill.directory.heap fill.class slots ≡ true → home_of slots ≡ fill.directory
+cached_home f v fill is slots at for =
+    let pair = and_parts (slots.heap == fill.directory.heap) (slots.class == fill.class) for in
+    let heap : slots.heap ≡ fill.directory.heap = eqb-true slots.heap fill.directory.heap pair.0 in
+    let kind : kind_of_class (not slots.right) slots.class ≡ fill.directory.kind = ap (λ t. kind_of_class (not t) slots.class) at.kept ∙ (ap (λ t. kind_of_class t slots.class) (not-not (is_shared f slots.heap))
+    ∙ (ap (λ h. kind_of_class (is_shared f h) slots.class) heap ∙ (ap (kind_of_class (is_shared f fill.directory.heap)) (eqb-true slots.class fill.class pair.1) ∙ sym is.home))) in
+    same_parts (home_of slots) fill.directory heap kind
+
+-- ---- what it does to what the actor holds and has
+pub refill_leads : {fill : Filling} {f : Profile} {steps : List Made} {slots : Slots} → IsRefill fill f steps (Ok slots) → Leads f (MaySearch fill.directory) (GetsSlots fill.directory slots) steps
+refill_leads {fill} {f} {slots = slots} h = subst (Leads f (MaySearch fill.directory) (GetsSlots fill.directory slots)) (sym h.steps_are) h.outcome.gets
+
+-- the steps of a refusal are those of the search alone
+pub refused_steps : {fill : Filling} {f : Profile} {steps : List Made} {room : NoRoom} → (h : IsRefill fill f steps (Err room)) → h.searched ≡ steps
+refused_steps h = sym (h.steps_are ∙ ap (λ xs. xs ++ h.searched) h.outcome.1)
+
+pub refusal : {fill : Filling} {f : Profile} {steps : List Made} {room : NoRoom} → IsRefill fill f steps (Err room) → IsRefused fill.no_fit f fill.directory steps room
+refusal {fill} {f} {room = room} h = subst (λ xs. IsRefused fill.no_fit f fill.directory xs room) (refused_steps h) h.outcome.0
+
+-- ---- the actor is at rest with the slots that were found besides
+pub rests_refilled : (f : Profile) (fill : Filling) (locals : List Slots) → IsFilling f fill → local_for fill.directory.heap fill.class locals ≡ None → (steps : List Made) (v : View) → RestsWith f locals v → Agreed f v steps
+    → (answer : Result Slots NoRoom) → IsRefill fill f steps answer → RestsWith f (cons_option (result_ok answer) locals) (steps ++ v)
+rests_refilled f fill locals is none steps v h agreed (Ok slots) refill =
+    let d : Directory = fill.directory in
+    let s = refill.outcome in
+    let heap : slots.heap ≡ d.heap = ap (λ x. x.heap) s.home in
+    let gains : GetsSlots d slots v (steps ++ v) = (refill_leads refill).from v (may_search f v fill locals is none h) agreed in
+    rests_gained f d slots locals steps v h gains agreed
+    (record {
+      page = s.page;
+      class = subst IsClass (sym s.class_is) is.class;
+      directory = subst (IsDirectoryOf f) (sym s.home) is.directory;
+      kept = kept_by slots.right (is_shared f slots.heap) slots.class fill.class (ap (λ x. x.kind) s.home ∙ (is.home ∙ ap (λ n. kind_of_class (is_shared f n) fill.class) (sym heap)));
+      starts = s.starts;
+      deed = gains.may_stop.deed ∙ ap deed_word_of (sym s.home);
+      backed = λ some. gains.backed;
+    })
+    (ap (λ n. local_for n slots.class locals) heap ∙ (ap (λ n. local_for d.heap n locals) s.class_is ∙ none))
+    (λ later page at. no_right_in f (steps ++ v) d (is_for d.heap fill.class) is.directory.kind (is_one f fill is) locals later (none_found (is_for d.heap fill.class) locals none).any page
+    (subst (λ p. KnowsDeed p d (steps ++ v)) (eqb-true slots.page page at) gains.may_stop.deed))
+rests_refilled f fill locals is none steps v h agreed (Err room) refill = rests_kept f locals steps v ((refusal refill).still.from v (may_search f v fill locals is none h) agreed) agreed h
+
+-- ==== Which events a refill makes, and how many.
+
+-- ---- a deed that was made wasn't known before
+made_unknown : (no_fit : Readings → Type 0) (f : Profile) (d : Directory) (page : ℕ) (steps : List Made) (v : View) → Agreed f v steps → Once (DeedMadeHere no_fit f d page) steps → known_deed v page ≢ 0 → ⊥
+made_unknown no_fit f d page [] v agreed h some = h
+made_unknown no_fit f d page (m ∷ more) v agreed (inl h) some =
+    let still : known_deed (more ++ v) page ≡ known_deed v page = deed_stays f more v page agreed.1 some in
+    let agrees : Agrees f (more ++ v) (Deed page d) m.answer = subst (λ s. Agrees f (more ++ v) s m.answer) h.deed agreed.0 in
+    let same : m.answer ≡ known_deed (more ++ v) page = agrees.known (λ z. some (sym still ∙ z)) in
+    some (sym still ∙ (sym same ∙ h.made))
+made_unknown no_fit f d page (m ∷ more) v agreed (inr h) some = made_unknown no_fit f d page more v agreed.1 h some
+
+zero_from : (n : ℕ) → (n ≢ 0 → ⊥) → n ≡ 0
+zero_from n h = elim (cases_eq n 0) [ inl e ↦ e | inr ne ↦ absurd (h ne) ]
+
+-- ---- the events of a refill
+-- the leave makes none
+pub refill_events : {fill : Filling} {f : Profile} {steps : List Made} {slots : Slots} → (h : IsRefill fill f steps (Ok slots)) → (k : ℕ) (v : View) → events_by k v steps ≡ events_by k v h.searched
+refill_events h k v = ap (events_by k v) h.steps_are ∙ events_same returning refl k v h.after h.searched h.outcome.after_kinds
+
+-- where a page was chosen so, and its deed is known in the end
+pub chosen_few : (no_fit : Readings → Type 0) (f : Profile) (d : Directory) (page : ℕ) (searched steps : List Made) → IsPage f page → FromOffered no_fit d page searched ⊎ ByDeed no_fit f d page searched → FewEvents f d 1 searched → (k : ℕ) (v : View) → Agreed f v searched → Agreed f v steps
+    → KnowsDeed page d (steps ++ v) → (n : ℕ) → length (events_by k v steps) ≤ length (events_by k v searched) + n → IsFew f (1 + n) k steps v
+chosen_few no_fit f d page searched steps is choice few k v agreed all deed n more = elim choice [
+  | inl offered ↦
+      let events = (few k v agreed).0 in
+      let fewer = unknown_stays f steps v all in
+      record { paid = omega (arith, events, offered.no_deed, fewer, more); most = omega (arith, events, offered.no_deed, more) }
+  | inr made ↦
+      let events = (few k v agreed).0 in
+      let was : known_deed v page ≡ 0 = zero_from (known_deed v page) (made_unknown no_fit f d page searched v agreed made.made_here) in
+      let fewer = unknown_less f page steps v all is was (λ z. deed_word_of-positive d (sym deed ∙ z)) in
+      record { paid = omega (arith, events, made.one_deed, fewer, more); most = omega (arith, events, made.one_deed, more) }
+]
+
+pub silent_few : (f : Profile) (k : ℕ) (steps : List Made) (v : View) → AreQuiet steps → Agreed f v steps → IsFew f 1 k steps v
+silent_few f k steps v quiet agreed =
+    let none : length (events_by k v steps) ≡ 0 = ap length (events_quiet k v steps quiet) in
+    let fewer = unknown_stays f steps v agreed in
+    record { paid = omega (arith, none, fewer); most = omega (arith, none) }
+
+found_few : (fill : Filling) (f : Profile) (steps : List Made) (found : Result Slots NoRoom) → IsRefill fill f steps found → (k : ℕ) (v : View) → MaySearch fill.directory v → Agreed f v steps → IsFew f 1 k steps v
+found_few fill f steps (Ok slots) h k v may agreed =
+    let s = h.outcome in
+    let same = ap length (refill_events h k v) in
+    chosen_few fill.no_fit f fill.directory slots.page h.searched steps s.page s.choice s.few k v (agreed_later f v h.after h.searched (subst (Agreed f v) h.steps_are agreed)) agreed ((refill_leads h).from v may agreed).may_stop.deed 0 (omega (arith, same))
+found_few fill f steps (Err room) h k v may agreed = silent_few f k steps v (refusal h).quiet agreed
+
+-- after steps without events
+pub refill_few : (fill : Filling) (f : Profile) (ys xs : List Made) (found : Result Slots NoRoom) → IsRefill fill f ys found → Only releasing xs → (k : ℕ) (v : View) → MaySearch fill.directory (xs ++ v) → Agreed f v (ys ++ xs) → IsFew f 1 k (ys ++ xs) v
+refill_few fill f ys xs found refill kinds k v may agreed =
+    let here = found_few fill f ys found refill k (xs ++ v) may (agreed_first f v ys xs agreed) in
+    let before = unknown_stays f xs v (agreed_later f v ys xs agreed) in
+    let split : length (events_by k v (ys ++ xs)) ≡ length (events_by k (xs ++ v) ys) + length (events_by k v xs) = ap length (events_append k ys xs v) ∙ length-append (events_by k (xs ++ v) ys) (events_by k v xs) in
+    let none : length (events_by k v xs) ≡ 0 = ap length (no_events releasing refl k v xs kinds) in
+    let same : unknown_pages f ((ys ++ xs) ++ v) ≡ unknown_pages f (ys ++ (xs ++ v)) = ap (unknown_pages f) (append_assoc ys xs v) in
+    record { paid = omega (arith, here.paid, before, split, none, same); most = omega (arith, here.most, split, none) }
+
+-- ---- which events
+one_prepared : (d : Directory) (k page epoch : ℕ) (s : Step) (a : ℕ) (e : Event) → IsDeedOrBack d page s → event_of k epoch s a ≡ Some e → IsPreparing d e
+one_prepared d k page epoch s a e IsDeedOrBack.Deeds is = subst (IsPreparing d) (cond_some (a == 0) (Event.Deed k page d) e is).1 (IsPreparing.Deeds k page)
+one_prepared d k page epoch s a e IsDeedOrBack.Backs is = subst (IsPreparing d) (cond_some (a == 0) (Event.Back k page) e is).1 (IsPreparing.Backs k page)
+
+pub prepared : (d : Directory) (page : ℕ) (steps : List Made) → EventsAt d page steps → (k : ℕ) (v : View) → AllByRecursion (IsPreparing d) (events_by k v steps)
+prepared d page steps at k v = each_event (IsPreparing d) (λ m before. IsQuiet m ⊎ IsDeedOrBack d page m.step) k v
+    (λ m before epoch e which is. elim which [ inl quiet ↦ absurd (none-some e (sym (quiet k epoch) ∙ is)) | inr some ↦ one_prepared d k page epoch m.step m.answer e some is ]) steps at
+
+pub no_fit_before : (no_fit : Readings → Type 0) (f : Profile) (d : Directory) (k : ℕ) (xs : List Made) (l : Whole) → IsAntitone no_fit → Only releasing xs → HasNoFit no_fit f d (triples k xs ++ l) → HasNoFit no_fit f d l
+no_fit_before no_fit f d k xs l fewer are none = record {
+  offered = λ page o. none.offered page (record {
+    of_region = o.of_region;
+    offered = offered_stays releasing refl k xs l (number_of d) (page / 64) (page % 64) are o.offered;
+    fits = λ unfit. o.fits (fewer (free_of_page (triples k xs ++ l) page) (free_of_page l page) (λ b lt h. free_stays releasing refl k xs l ((page * 256 + b) / 256) ((page * 256 + b) / 64 % 4) (b % 64) are h) unfit);
+  });
+  bare = λ page b. none.bare page (record { of_region = b.of_region; no_deed = deed_same releasing refl k xs l page are ∙ b.no_deed });
+}
+
+-- ==== Cached slots, or those of a refill.
 
 -- ---- what is taken out
 none_in : (heap class : ℕ) (locals others : List Slots) → others ≡ others_than heap class locals → local_for heap class others ≡ None
@@ -108,9 +313,7 @@ none_shortened {heap} {class} {locals} {others} {fewer} {spent} {stopped} taken 
 pub makes_place : {σ σ1 σ2 : Standing} (heap class : ℕ) (locals others fewer : List Slots) → Releases (IsTakenOut heap class locals others) locals others σ σ1 → Releases (IsShortened others fewer) others fewer σ1 σ2 → Releases (MakesPlace heap class locals fewer) locals fewer σ σ2
 makes_place heap class locals others fewer one two =
     let n = length-append two.steps one.steps in
-    let first = one.change.few in
-    let second = two.change.few in
-    releases_then locals others one (MakesPlace heap class locals fewer) fewer two (record { spent = one.steps; kept = others; taken = one.change; stopped = two.steps; shortened = two.change; steps_are = refl; few = omega (arith, n, first, second) })
+    releases_then locals others one (MakesPlace heap class locals fewer) fewer two (record { spent = one.steps; kept = others; taken = one.change; stopped = two.steps; shortened = two.change; steps_are = refl; few = omega (arith, n, one.change.few, two.change.few) })
 
 -- ---- the slots that serve the request
 abbrev pub obtain_rests : {σ : Standing} {n spare : ℕ} {locals : List Slots} → CanCall σ (MayObtain σ.seat.profile n spare locals) → CanCall σ (RestsWith σ.seat.profile locals)
@@ -118,16 +321,11 @@ obtain_rests can = record { view = can.view; whole = can.whole; stood = can.stoo
 
 -- the same room after place was made
 pub obtain_after : {σ σ1 : Standing} {n spare spare1 : ℕ} {Change : List Made → Type 0} (locals fewer : List Slots) → Releases Change locals fewer σ σ1 → spare1 ≡ spare → CanCall σ (MayObtain σ.seat.profile n spare locals) → CanCall σ1 (MayObtain σ1.seat.profile n spare1 fewer)
-obtain_after {σ} {σ1} {n} {spare} {spare1} locals fewer one same can =
+obtain_after {σ} {σ1} {n} {spare} {spare1} locals fewer one same can = can_call (adds_under one.calls.adds (λ v l stood met. met.rest)) can (λ v l stood met.
     let f : Profile = σ.seat.profile in
-    let ok : Agreed f can.view one.steps = one.calls.adds.agreed can.view can.whole can.stood can.met.rest in
-    record {
-      view = one.steps ++ can.view;
-      whole = triples σ.seat.actor one.steps ++ can.whole;
-      stood = one.calls.adds.added can.view can.whole can.stood can.met.rest;
-      met = subst (λ (s : Seat). MayObtain s.profile n spare1 fewer (one.steps ++ can.view)) (sym one.calls.adds.seat_is)
-          (record { rest = one.calls.leads.from can.view can.met.rest ok; room = subst (λ m. HasRoom f n m (one.steps ++ can.view)) (sym same) (room_after f n spare one.steps can.view ok can.met.room) });
-    }
+    let ok : Agreed f v one.steps = one.calls.adds.agreed v l stood met.rest in
+    subst (λ (s : Seat). MayObtain s.profile n spare1 fewer (one.steps ++ v)) (sym one.calls.adds.seat_is)
+    (record { rest = one.calls.leads.from v met.rest ok; room = subst (λ m. HasRoom f n m (one.steps ++ v)) (sym same) (room_after f n spare one.steps v ok met.room) }))
 
 -- the profile is the same after place was made
 pub filling_then : {σ σ1 : Standing} {fill : Filling} {First : List Made → Type 0} {locals fewer : List Slots} → Releases First locals fewer σ σ1 → IsFilling σ.seat.profile fill → IsFilling σ1.seat.profile fill

@@ -26,13 +26,14 @@ use Rattle.pas_profile.specs.declared.event.NoRoom.{NoRoom}
 use Rattle.pas_profile.specs.declared.name.Block.{Block}
 use Rattle.pas_profile.proofs.Codecs.{deed_word_of-positive}
 use Rattle.pas_steps.specs.Views.{View, known_deed}
-use Rattle.pas_steps.specs.Events.{events_of, events_by}
+use Rattle.pas_steps.specs.Events.{events_by}
 use Rattle.pas_steps.specs.Agreement.{Agreed}
 use Rattle.pas_steps.specs.Lists.{Whole}
 use Rattle.pas_steps.specs.Desks.{Standing, Seat, CanCall}
 use Rattle.pas_steps.specs.declared.step.Made.{Made}
-use Rattle.pas_steps.proofs.Adding.{adds_call, room_left, agreed_first, agreed_later}
-use Rattle.pas_steps.proofs.Frames.{events_append, events_split}
+use Rattle.pas_steps.proofs.Adding.{adds_none, adds_call, can_call, agreed_first, agreed_later}
+use Rattle.pas_steps.proofs.SpareRoom.{Spares, spare_falls}
+use Rattle.pas_steps.proofs.Frames.{events_append}
 use Rattle.pas_steps.proofs.Kept.{deed_stays}
 use Rattle.pas_search.proofs.ForBackEnds.{events_quiet}
 use Rattle.pas_search.specs.Searches.{search_steps}
@@ -49,42 +50,23 @@ use Rattle.pas_steps.specs.Kinds.{returning, Only}
 use Rattle.pas_steps.proofs.Apart.{no_events, only_both, only_within}
 use Rattle.pas_search.specs.Kinds.{searching}
 use Rattle.pas_cache.specs.Kinds.{releasing, allocating}
-use Rattle.pas_cache.proofs.Resting.{here, may_give_slot, rests_reordered}
-use Rattle.pas_cache.proofs.GivingSlots.{rests_given, given_page}
-use Rattle.pas_cache.proofs.Obtained.{obtain_rests}
-use Rattle.pas_cache.proofs.RefillEvents.{refill_events, prepared}
-use Rattle.pas_cache.proofs.Refills.{refused_steps, refusal}
+use Rattle.pas_cache.proofs.Resting.{here, may_give_slot, rests_reordered, rests_given, given_page}
+use Rattle.pas_cache.proofs.Obtained.{obtain_rests, refill_events, prepared, refused_steps, refusal}
 use Rattle.pas_steps.proofs.Unknown.{unknown_stays, none_unknown}
 
 -- ---- room
 pub fewer_room : {σ : Standing} {spare : ℕ} {locals : List Slots} → CanCall σ (MayObtain σ.seat.profile 2 spare locals) → CanCall σ (MayObtain σ.seat.profile 1 spare locals)
-fewer_room {σ} {spare} can =
-    let two : 2 ≤ spare = can.met.room.0 in
-    record {
-      view = can.view;
-      whole = can.whole;
-      stood = can.stood;
-      met = record { rest = can.met.rest; room = (omega (arith, two), inr (omega (arith, two))) };
-    }
+fewer_room can = can_call adds_none can (λ v l stood met. record { rest = met.rest; room = (omega (arith, met.room.0), inr (omega (arith, met.room.0))) })
 
 pub room_to_give : {σ σ1 : Standing} {spare spare1 : ℕ} {locals fewer : List Slots} {answer : Result Slots NoRoom} (fill : Filling) (tells : Bool) → Obtains fill tells locals fewer σ σ1 answer → CanCall σ (MayObtain σ.seat.profile 2 spare locals)
-    → ((v : View) (l : Whole) → σ.stands v l → spare + length (events_of σ.seat.actor v) ≡ σ.seat.room) → ((v : View) (l : Whole) → σ1.stands v l → spare1 + length (events_of σ1.seat.actor v) ≡ σ1.seat.room) → 1 ≤ spare1
-room_to_give {σ} {σ1} {spare} {spare1} {locals} fill tells one can law law' =
-    let f : Profile = σ.seat.profile in
-    let k : ℕ = σ.seat.actor in
-    let ok : Agreed f can.view one.steps = one.calls.adds.agreed can.view can.whole can.stood can.met.rest in
-    let now : spare + length (events_of k can.view) ≡ σ.seat.room = law can.view can.whole can.stood in
-    let split : length (events_of k (one.steps ++ can.view)) ≡ length (events_by k can.view one.steps) + length (events_of k can.view)
-    = ap length (events_split k one.steps can.view) ∙ length-append (events_by k can.view one.steps) (events_of k can.view) in
-    let two : 2 ≤ spare = can.met.room.0 in
-    let few = one.few k can.view can.met.rest ok in
-    let paid = few.paid in
-    let most = few.most in
-    let made : length (events_by k can.view one.steps) + 1 ≤ spare = elim can.met.room.1 [
-      | inl all ↦ let none = none_unknown f can.view all in omega (arith, paid, none, two)
-      | inr three ↦ omega (arith, most, three)
-    ] in
-    room_left {spare = spare1} 1 one.calls.adds (obtain_rests can) law' (omega (arith, now, split, made))
+    → Spares σ spare → Spares σ1 spare1 → 1 ≤ spare1
+room_to_give {σ} {spare = spare} {spare1 = spare1} {locals} fill tells one can law law' =
+    let few = one.few σ.seat.actor can.view can.met.rest (one.calls.adds.agreed can.view can.whole can.stood can.met.rest) in
+    let left = spare_falls {C = RestsWith σ.seat.profile locals} spare spare1 (length (events_by σ.seat.actor can.view one.steps)) one.calls.adds (obtain_rests can) law law' refl in
+    elim can.met.room.1 [
+      | inl all ↦ let none = none_unknown σ.seat.profile can.view all in omega (arith, left, few.paid, none, can.met.room.0)
+      | inr three ↦ omega (arith, left, few.most, three)
+    ]
 
 -- ---- the slots that were obtained may give
 pub give_call : {σ σ1 : Standing} {spare : ℕ} (fill : Filling) (tells : Bool) (locals fewer : List Slots) (slots : Slots) → Obtains fill tells locals fewer σ σ1 (Ok slots) → CanCall σ (MayObtain σ.seat.profile 2 spare locals)
@@ -146,13 +128,11 @@ serves_given {σ} {σ1} {σ2} fill tells locals fewer after slots rest block can
       kinds = only_both allocating ys xs (subst (Only allocating) (sym two.gives.steps_are) (refl, (refl, tt))) (obtained_kinds one.how);
       few = λ k v h agreed.
           let few = one.few k v h (agreed_later f v ys xs agreed) in
-          let paid = few.paid in
-          let most = few.most in
           let fewer_left = unknown_stays f ys (xs ++ v) (agreed_first f v ys xs agreed) in
           let split : length (events_by k v (ys ++ xs)) ≡ length (events_by k (xs ++ v) ys) + length (events_by k v xs) = ap length (events_append k ys xs v) ∙ length-append (events_by k (xs ++ v) ys) (events_by k v xs) in
           let last : length (events_by k (xs ++ v) ys) ≡ 1 = ap length (give_event slots rest block ys two.gives k (xs ++ v)) in
           let left : unknown_pages f ((ys ++ xs) ++ v) ≡ unknown_pages f (ys ++ (xs ++ v)) = ap (unknown_pages f) (append_assoc ys xs v) in
-          record { paid = omega (arith, paid, fewer_left, split, last, left); most = omega (arith, most, split, last) };
+          record { paid = omega (arith, few.paid, fewer_left, split, last, left); most = omega (arith, few.most, split, last) };
       outcome = record {
         of_heap = two.gives.heap ∙ ap (λ x. x.heap) for.home;
         room = two.gives.room ∙ ap class_size for.class_is;
@@ -185,7 +165,7 @@ serves_none {σ} fill tells locals fewer room one = record {
   calls = one.calls;
   change = record { found = Err room; fewer = fewer; before = one.steps; obtained = one.how; given = []; ends = (refl, refl, refl); steps_are = refl };
   kinds = obtained_kinds one.how;
-  few = λ k v h agreed. let few = one.few k v h agreed in let paid = few.paid in let most = few.most in record { paid = omega (arith, paid); most = omega (arith, most) };
+  few = λ k v h agreed. let few = one.few k v h agreed in record { paid = omega (arith, few.paid); most = omega (arith, few.most) };
   outcome = silent_before one.steps room one.how;
   place = let few = one.place in omega (arith, few);
   told = one.told;
@@ -230,9 +210,8 @@ serves_short {locals' = locals'} {answer = answer} h =
       | inl cached ↦ let none = ap length cached.2.no_steps in omega (arith, all, two, none)
       | inr fetch ↦
           let n = ap length fetch.steps_are ∙ length-append fetch.searched fetch.before in
-          let place = fetch.place.few in
           let short = refill_short fetch.refill in
-          omega (arith, all, two, n, place, short)
+          omega (arith, all, two, n, fetch.place.few, short)
     ]
 
 -- ---- of a cache
@@ -303,7 +282,7 @@ allocates {σ} {σ'} size align heap class tells c c' answer admitted route is h
     })
 
 pub serve_call : {σ : Standing} {c : Cached} {spare : ℕ} → CanCall σ (MayAllocate σ.seat.profile c spare) → CanCall σ (MayObtain σ.seat.profile 2 spare c.locals)
-serve_call can = record { view = can.view; whole = can.whole; stood = can.stood; met = record { rest = can.met.rest.locals; room = can.met.room } }
+serve_call can = can_call adds_none can (λ v l stood met. record { rest = met.rest.locals; room = met.room })
 
 -- the local allocators of an actor at rest are well formed
 pub formed : (f : Profile) (v : View) (locals : List Slots) → RestsWith f locals v → All IsFormed locals

@@ -5,16 +5,15 @@ use Rattle.std.specs.List.Sorted.{IsPermutation}
 use Rattle.std.proofs.lemmas.Bool.{le-leb, lt-leb, eqb-true, eqb-false}
 use Rattle.std.proofs.lemmas.List.Sorted.{IsPermutation-remove}
 use Rattle.pas_steps.specs.Views.{View}
-use Rattle.pas_steps.specs.Events.{events_of}
-use Rattle.pas_steps.specs.Lists.{Whole}
+use Rattle.pas_profile.specs.declared.event.Event.{Event}
 use Rattle.pas_steps.specs.Desks.{Standing, Seat, CanCall, Adds}
 use Rattle.pas_steps.specs.Calls.{Calls}
 use Rattle.pas_steps.specs.Kinds.{Only}
 use Rattle.pas_steps.specs.declared.step.Made.{Made}
-use Rattle.pas_steps.proofs.Adding.{adds_under}
+use Rattle.pas_steps.proofs.Adding.{adds_none, adds_under, can_call}
 use Rattle.pas_steps.proofs.Apart.{only_both, only_within, no_events}
 use Rattle.pas_steps.proofs.Called.{call_none, call_then, next_call}
-use Rattle.pas_steps.proofs.Frames.{events_split}
+use Rattle.pas_steps.proofs.SpareRoom.{Spares, spare_falls}
 use Rattle.pas_rights.specs.PutsBack.{giving_back}
 use Rattle.pas_segregated.specs.Stops.{home_of, StopStepsAt, MayStopAt, StopsAt}
 use Rattle.pas_segregated.specs.declared.slots.Slots.{Slots}
@@ -37,7 +36,7 @@ module _ {σ : Standing} {locals : List Slots} {place : ℕ} {slots : Slots} {re
   may v h = may_stop σ.seat.profile slots rest v (first v h)
 
   pub may_call : CanCall σ (MayStopAt (home_of slots) slots)
-  may_call = record { view = can.view; whole = can.whole; stood = can.stood; met = may can.view can.met }
+  may_call = can_call adds_none can (λ v l stood met. may v met)
 
   pub stops_place : {σ' : Standing} → StopsAt (home_of slots) slots σ σ' → StopsPlace place locals rest σ σ'
   stops_place stops = record {
@@ -63,15 +62,9 @@ releases_none Change locals change = record { steps = []; calls = call_none (λ 
 
 -- ---- steps without events leave the room
 pub spare_kept : {σ σ' : Standing} {C : View → Type 0} {xs : List Made} {spare spare' : ℕ} → Adds σ σ' C xs → CanCall σ C → Only releasing xs
-    → ((v : View) (l : Whole) → σ.stands v l → spare + length (events_of σ.seat.actor v) ≡ σ.seat.room) → ((v : View) (l : Whole) → σ'.stands v l → spare' + length (events_of σ'.seat.actor v) ≡ σ'.seat.room)
-    → spare' ≡ spare
-spare_kept {σ} {σ'} {C} {xs} {spare} {spare'} adds can kinds law law' =
-    let k : ℕ = σ.seat.actor in
-    let before : spare + length (events_of k can.view) ≡ σ.seat.room = law can.view can.whole can.stood in
-    let after : spare' + length (events_of k (xs ++ can.view)) ≡ σ.seat.room
-    = subst (λ (s : Seat). spare' + length (events_of s.actor (xs ++ can.view)) ≡ s.room) adds.seat_is (law' (xs ++ can.view) _ (adds.added can.view can.whole can.stood can.met)) in
-    let count : length (events_of k (xs ++ can.view)) ≡ length (events_of k can.view) = ap length (events_split k xs can.view ∙ ap (λ es. es ++ events_of k can.view) (no_events releasing refl k can.view xs kinds)) in
-    omega (arith, before, after, count)
+    → Spares σ spare → Spares σ' spare' → spare' ≡ spare
+spare_kept {σ} {C = C} {xs} {spare} {spare'} adds can kinds law law' =
+    let e = spare_falls {C = C} spare spare' 0 adds can law law' (ap (λ (es : List Event). length es) (no_events releasing refl σ.seat.actor can.view xs kinds)) in omega (arith, e)
 
 -- ---- the first one of a full list
 first_stopped : (locals kept : List Slots) (oldest : Slots) (steps : List Made) → (length locals == 32) ≡ true → oldest ≡ slice_index_or locals 0 oldest → kept ≡ remove locals 0 → StopStepsAt (home_of oldest) oldest steps → StopsFirst (nat_le 32 (length locals)) locals kept steps
@@ -109,9 +102,7 @@ pub stops_more : {σ σ1 σ2 : Standing} {place : ℕ} (locals kept rest stopped
 stops_more locals kept rest stopped one h =
     let two = h.stops in
     let n = length-append two.steps one.steps in
-    let here = two.change.few in
-    let before = one.change.few in
-    releases_then locals kept one (StopsEach (h.slots ∷ stopped)) rest two (record { order = (two.steps, one.steps, two.change.order, one.change.order, refl); few = omega (arith, n, here, before) })
+    releases_then locals kept one (StopsEach (h.slots ∷ stopped)) rest two (record { order = (two.steps, one.steps, two.change.order, one.change.order, refl); few = omega (arith, n, two.change.few, one.change.few) })
 
 pub all_stopped : {σ σ1 : Standing} (locals kept stopped : List Slots) → kept ≡ [] → locals ≡ kept ++ stopped → Releases (StopsEach stopped) locals kept σ σ1 → Releases (StopsEach locals) locals [] σ σ1
 all_stopped {σ} {σ1} locals kept stopped empty whole releases =

@@ -22,25 +22,22 @@ use Rattle.pas_steps.specs.Agreement.{heap_recorded, IsDeedWord, AgreesDeed, Agr
 use Rattle.pas_steps.specs.declared.step.Step.{Step}
 use Rattle.pas_steps.specs.declared.step.Step.TheVariants.{End, EndSized, Look, Back, Give, Unback, Deed, Take, Put, TakeRight, Offer, Park, Unpark, Stamp, Hint, Unhint}
 use Rattle.pas_core.specs.Good.{word_of_deed, IsLifeOf, Held, is_free, is_covered_by, covers, IsPlacedOnce}
-use Rattle.pas_core.proofs.DeedWords.{deed_kept, known_is, deed_words}
-use Rattle.pas_core.proofs.Deeds.{deed_of, directory_is_of, backed_of}
+use Rattle.pas_core.proofs.Deeds.{deed_kept, known_is, deed_words, deed_of, directory_is_of, backed_of}
 use Rattle.pas_core.proofs.Stamps.{IsFound, end_finds, epoch_known, epoch_small, stamp_small, stamp_known}
-use Rattle.pas_core.proofs.Placed.{lists_borne}
+use Rattle.pas_core.proofs.MachineRuns.{lists_borne, runs, one_backed}
 use Rattle.pas_profile.proofs.Runs.{IsMet, met, first_of_run}
 use Rattle.pas_profile.specs.declared.name.Block.{Block}
 use Rattle.pas_profile.specs.declared.event.Event.{Event}
 use Rattle.pas_steps.specs.Events.{event_of, with_event}
 use Rattle.pas_core.specs.Given.{WasGiven}
 use Rattle.pas_core.proofs.Lives.{look_is, word_is, life_of, life_is_known, live_is_live, one_more, turn_small}
-use Rattle.pas_core.proofs.MachineRuns.{runs, one_backed}
 use Rattle.std.proofs.lemmas.Option.{same_Some}
 use Rattle.pas_steps.proofs.Flags.{was_set}
 use Rattle.pas_profile.specs.Classes.{has_bit}
 use Rattle.pas_core.proofs.Grains.{is_held_by-true, placed_once}
 use Rattle.pas_core.specs.Rights.{parked_bit, empty_bit, eligible_bit}
-use Rattle.pas_core.proofs.Knowledge.{deeds_known, backed_small, backed_known}
-use Rattle.pas_core.proofs.Rights.{right_not_offered, right_not_parked, offered_is_known, offered_page, parked_page, hinted_page, free_known}
-use Rattle.pas_steps.proofs.Ranged.{guess_fits}
+use Rattle.pas_core.proofs.Rights.{deeds_known, backed_small, backed_known, right_not_offered, right_not_parked, offered_is_known, offered_page, parked_page, hinted_page, free_known}
+use Rattle.pas_steps.proofs.Targets.{guess_fits}
 
 -- ==== What a step of an actor told once is so for good, where every later step keeps it.
 

@@ -21,8 +21,8 @@ use Rattle.pas_steps.specs.declared.step.Step.TheVariants.{Look, Take, Put, Give
 use Rattle.pas_core.specs.Good.{Place, IsFree, Held, Covered, is_free, is_held_by, is_covered_by, covers, IsPlacedOnce}
 use Rattle.pas_bits.proofs.Words.{bit_cleared, bit_of_or}
 use Rattle.pas_profile.proofs.Runs.{first_of_run}
-use Rattle.pas_core.proofs.DeedWords.{looked}
-use Rattle.pas_steps.proofs.Ranged.{guess_fits}
+use Rattle.pas_core.proofs.Deeds.{looked}
+use Rattle.pas_steps.proofs.Targets.{guess_fits}
 
 -- ---- words of grains: one for each grain
 -- two grains have the same life word where they are the same

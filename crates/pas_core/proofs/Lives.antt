@@ -16,19 +16,19 @@ use Rattle.pas_steps.specs.Effects.{life_word_at, target, new_value}
 use Rattle.pas_steps.specs.Views.{View, Move, Stays, Gets, Gives, Ends, grain_move, held_after, holds, epoch_of, looks_at_life, life_after, known_life, given_after, given_count}
 use Rattle.pas_steps.specs.Events.{event_of, end_event, with_event, reason_of, sized_reason, sized_event}
 use Rattle.pas_steps.specs.Allowed.{Allowed, IsStepOf, IsBlockOf}
-use Rattle.pas_steps.specs.Lists.{Whole, word_after, part, visible, IsNext, Legal}
+use Rattle.pas_steps.specs.Lists.{Whole, word_after, part, visible, IsNext, Legal, Triple}
 use Rattle.pas_steps.specs.declared.step.Step.{Step}
 use Rattle.pas_steps.specs.declared.step.Step.TheVariants.{Look, Deed, Back, Give, End, EndSized}
 use Rattle.pas_core.specs.Good.{Place, IsFree, Held, Covered, is_held_by, is_covered_by, covers, IsPlacedOnce, IsLifeOf, IsLifeOfNone, IsLifeOfLive, IsBare}
 use Rattle.pas_core.proofs.Grains.{life_same, give_short, Fits, is_held_by-true, covers_live, some_grain, step_fits, placed_once}
 use Rattle.std.proofs.lemmas.Option.{same_Some, none-some}
-use Rattle.pas_core.proofs.Deeds.{event_if, end_if}
-use Rattle.pas_core.proofs.DeedWords.{looked}
+use Rattle.pas_core.proofs.Deeds.{event_if, end_if, looked}
 use Rattle.pas_profile.proofs.Runs.{first_of_run}
 use Rattle.std.proofs.lemmas.Bool.Decides.{nat_tests}
 use Rattle.pas_machine.specs.Machine.{Admits, Run}
 use Rattle.pas_core.specs.Given.{WasGiven}
 use Rattle.pas_machine.specs.Totals.{sum_below}
+use Rattle.pas_steps.proofs.Parts.{each_part}
 
 -- ==== The life words are those of the machine, and what actors know of them is true.
 
@@ -99,18 +99,19 @@ no_move j k s o fits h ne = absurd (false≢true (sym ne ∙ same_holder j k o f
 abbrev pub TellsLife : View → ℕ → ℕ → Type 0
 TellsLife v g word = (w : ℕ) → known_life v g ≡ Some w → (holds v g ≡ true) × (w ≡ word)
 
+-- the life word of a grain that a step doesn't move
+rests_at : (f : Profile) (t : Triple) (l : Whole) (g : ℕ) → Legal f (t ∷ l) → is_still (grain_move t.made.step t.made.answer g) ≡ true → word_after (t ∷ l) (life_word_at g) ≡ word_after l (life_word_at g)
+rests_at f t l g legal = life_rests f l t.actor (epoch_of (part t.actor l)) t.made.step t.made.answer g legal.0.of_region legal.0.allowed legal.0.answer_is
+
 pub life_is_known : (f : Profile) (l : Whole) → IsValid f → Legal f l → (k g : ℕ) → TellsLife (part k l) g (word_after l (life_word_at g))
-life_is_known f [] valid legal k g = λ w h. cc
-life_is_known f (t ∷ l) valid legal k g =
-    let before : TellsLife (part k l) g (word_after l (life_word_at g)) = life_is_known f l valid legal.1 k g in
-    let next : IsNext f l t = legal.0 in
-    let e : ℕ = epoch_of (part t.actor l) in
+life_is_known f l valid legal k g = each_part f (λ l k v. TellsLife v g (word_after l (life_word_at g))) (λ k w h. cc)
+    (λ t l legal before w. own_life (grain_move t.made.step t.made.answer g) (looks_at_life t.made.step g) (holds (part t.actor l) g) t.made.answer (word_after l (life_word_at g)) (word_after (t ∷ l) (life_word_at g)) (known_life (part t.actor l) g) w
+    (rests_at f t l g legal) (look_is l t.made.step t.made.answer g legal.0.answer_is) before)
+    (λ t l k legal other before w h.
+    let o = before w h in
     let at : IsPlacedOnce l g = placed_once f l valid legal.1 g in
-    let fits : Fits t.actor (grain_move t.made.step t.made.answer g) at.place = step_fits f l t.actor t.made.step t.made.answer g at valid next.of_region next.allowed next.answer_is in
-    let rests : is_still (grain_move t.made.step t.made.answer g) ≡ true → word_after (t ∷ l) (life_word_at g) ≡ word_after l (life_word_at g) = life_rests f l t.actor e t.made.step t.made.answer g next.of_region next.allowed next.answer_is in
-    cond_both (t.actor == k) (t.made ∷ part k l) (part k l) (λ v. TellsLife v g (word_after (t ∷ l) (life_word_at g)))
-    (λ own w. own_life (grain_move t.made.step t.made.answer g) (looks_at_life t.made.step g) (holds (part k l) g) t.made.answer (word_after l (life_word_at g)) (word_after (t ∷ l) (life_word_at g)) (known_life (part k l) g) w rests (look_is l t.made.step t.made.answer g next.answer_is) before)
-    (λ other w h. let o = before w h in (o.0, o.1 ∙ sym (rests (no_move t.actor k (grain_move t.made.step t.made.answer g) at.place fits (is_held_by-true k at.place (sym (at.held k) ∙ o.0)) other))))
+    let fits = step_fits f l t.actor t.made.step t.made.answer g at valid legal.0.of_region legal.0.allowed legal.0.answer_is in
+    (o.0, o.1 ∙ sym (rests_at f t l g legal (no_move t.actor k (grain_move t.made.step t.made.answer g) at.place fits (is_held_by-true k at.place (sym (at.held k) ∙ o.0)) other)))) l legal k
 
 -- ---- life words of the machine
 -- the block that a live word tells of
@@ -392,12 +393,7 @@ few_next f v (Give block) allowed h = let few = allowed.few in omega (arith, few
 few_next f v s allowed h = h
 
 given_small : (f : Profile) (l : Whole) → Legal f l → (k : ℕ) → given_count (part k l) ≤ 2 ^ 32
-given_small f [] legal k = omega arith
-given_small f (t ∷ l) legal k =
-    let next : IsNext f l t = legal.0 in
-    let before : (j : ℕ) → given_count (part j l) ≤ 2 ^ 32 = given_small f l legal.1 in
-    cond_both (t.actor == k) (t.made ∷ part k l) (part k l) (λ v. given_count v ≤ 2 ^ 32)
-    (λ own. subst (λ j. given_after t.made.step (given_count (part j l)) ≤ 2 ^ 32) (eqb-true t.actor k own) (few_next f (part t.actor l) t.made.step next.allowed (before t.actor))) (λ other. before k)
+given_small f = each_part f (λ l k v. given_count v ≤ 2 ^ 32) (λ k. omega arith) (λ t l legal before. few_next f (part t.actor l) t.made.step legal.0.allowed before) (λ t l k legal other before. before)
 
 -- ---- all gives are the sum of those of the actors
 -- a step adds this many gives

@@ -1,9 +1,10 @@
--- The visible events of every legal list are a run of the machine.
-use Rattle.std.proofs.Common.{◌≡◌, ◌≢◌, ℕ, ◌+◌, ◌-◌, ◌*◌, ◌/◌, ◌%◌, ◌^◌, ◌<◌, ◌≤◌, ◌==◌, nat_lt, Bool, true, false, ◌&&◌, if◌then◌else◌, List, [], ◌∷◌, Option, Some, None, refl, ap, sym, ◌∙◌, subst, arith}
-use Rattle.std.proofs.lemmas.Bool.{false≢true, eqb-true, eqb-false, eq-eqb, and_parts, and_from, cond_both, false_from_ne_true}
+-- The machine behind a legal list: its visible events are a run, the words are those of the machine, each grain is in one place in the machine's words,
+-- and in some list a page is unbacked.
+use Rattle.std.proofs.Common.{◌≡◌, ◌≢◌, ℕ, ◌+◌, ◌-◌, ◌*◌, ◌/◌, ◌%◌, ◌^◌, ◌<◌, ◌≤◌, ◌==◌, nat_lt, Bool, true, false, ◌&&◌, if◌then◌else◌, List, [], ◌∷◌, Option, Some, None, refl, ap, sym, ◌∙◌, subst, arith, inl, inr, max}
+use Rattle.std.proofs.lemmas.Bool.{false≢true, eqb-true, eqb-false, eq-eqb, and_parts, and_from, cond_both, false_from_ne_true, leb-true, cases_eq}
 use Rattle.std.proofs.lemmas.Bool.Decides.{nat_tests}
 use Rattle.pas_profile.specs.Directories.{kind_number, deed_word_of}
-use Rattle.pas_profile.specs.Lives.{live_word, is_live, turn_of}
+use Rattle.pas_profile.specs.Lives.{live_word, is_live, turn_of, grains_of}
 use Rattle.pas_profile.specs.Profiles.{IsValid, IsPage, IsDirectoryOf}
 use Rattle.pas_profile.specs.declared.profile.Profile.{Profile}
 use Rattle.pas_profile.specs.declared.directory.Directory.{Directory}
@@ -15,22 +16,32 @@ use Rattle.pas_profile.specs.declared.event.Why.{Why}
 use Rattle.pas_profile.specs.Runs.{in_run, meets_page, address_of, grain_of, length_of}
 use Rattle.pas_machine.specs.State.{Live, deed_in, backed_in, live_in, gives_in, ends_in, touches, epoch_in}
 use Rattle.pas_machine.specs.Machine.{IsPlace, Bears, IsClear, IsLive, MayGive, IsReason, Admits, Run}
-use Rattle.pas_steps.specs.Effects.{life_word_at, target}
-use Rattle.pas_steps.specs.Views.{holds, epoch_of, known_deed}
+use Rattle.pas_steps.specs.Effects.{life_word_at, target, free_word_at, in_mask}
+use Rattle.pas_steps.specs.Views.{holds, epoch_of, known_deed, View, Gets, Stays, held_after, holds_on, holds_all, knows_backed, known_stamp, all_ones}
 use Rattle.pas_steps.specs.Events.{event_of, with_event, reason_of}
 use Rattle.pas_steps.specs.Allowed.{Allowed, IsStepOf, IsBlockOf, KnowsBearing, MayUnback}
-use Rattle.pas_steps.specs.Lists.{Whole, word_after, part, visible, Legal}
+use Rattle.pas_steps.specs.Lists.{Whole, word_after, part, visible, Legal, IsNext}
 use Rattle.pas_steps.specs.declared.step.Step.{Step}
-use Rattle.pas_steps.specs.declared.step.Step.TheVariants.{Deed, Back, Give, End, EndSized, Unback}
-use Rattle.pas_core.specs.Good.{word_of_deed, word_of_backed, IsLifeOf, IsLifeOfNone, IsLifeOfLive, AgreesWithWords}
-use Rattle.pas_core.proofs.Grains.{some_grain, placed_once}
-use Rattle.pas_core.proofs.DeedWords.{known_is}
-use Rattle.pas_core.proofs.Knowledge.{deeds_known, backed_known}
-use Rattle.pas_core.proofs.Deeds.{deed_of, backed_of, directory_is_of, is_backed}
-use Rattle.pas_core.proofs.Lives.{life_is_known, block_of_word, turn_is, live_is_live, no_block, dead_while_held, life_of, life_at, bare_of, live_of}
-use Rattle.pas_core.proofs.Stamps.{stamp_known, ends_before}
+use Rattle.pas_steps.specs.declared.step.Step.TheVariants.{Deed, Back, Give, End, EndSized, Unback, Look, Take, Tick}
+use Rattle.pas_core.specs.Good.{word_of_deed, word_of_backed, IsLifeOf, IsLifeOfNone, IsLifeOfLive, AgreesWithWords, Place, IsFree, Held, Covered, is_free, is_held_by, is_covered_by, covers, IsPlacedOnce, IsInOnePlace}
+use Rattle.pas_core.proofs.Grains.{some_grain, placed_once, covers_live}
+use Rattle.pas_core.proofs.Deeds.{known_is, deed_of, backed_of, directory_is_of, is_backed}
+use Rattle.pas_core.proofs.Rights.{deeds_known, backed_known}
+use Rattle.pas_core.proofs.Lives.{life_is_known, block_of_word, turn_is, live_is_live, no_block, dead_while_held, life_of, life_at, bare_of, live_of, live_is_aligned}
+use Rattle.pas_core.proofs.Stamps.{stamp_known, ends_before, moved_held}
 use Rattle.pas_profile.proofs.Codecs.{kind_number_lt}
 use Rattle.pas_profile.proofs.Runs.{run_of, first_of_run, IsMet, met}
+use Rattle.pas_profile.specs.Classes.{has_bit}
+use Rattle.pas_machine.specs.Laws.{AreBorne, AreApart}
+use Rattle.pas_machine.proofs.LiveBlocks.{all_borne, live_apart}
+use Rattle.std.proofs.lemmas.Nat.Bits.{bit_at_ones}
+use Rattle.pas_profile.specs.declared.directory.Kind.TheVariants.{Large}
+use Rattle.pas_steps.specs.Desks.{made, triple, triples}
+use Rattle.pas_steps.specs.declared.step.Made.{Made}
+use Rattle.pas_steps.proofs.Kept.{any_from}
+use Rattle.pas_steps.proofs.Bits.{all_below-from}
+
+-- ==== The visible events of every legal list are a run of the machine.
 
 -- the machine that the visible events reach agrees with the words
 pub agrees : (f : Profile) (l : Whole) → IsValid f → Legal f l → AgreesWithWords f l
@@ -203,3 +214,139 @@ admits f l valid legal k s a of allowed is run = run
 pub runs : (f : Profile) (l : Whole) → IsValid f → Legal f l → Run f (visible l)
 runs f [] valid legal = tt
 runs f (t ∷ l) valid legal = admits f l valid legal.1 t.actor t.made.step t.made.answer legal.0.of_region legal.0.allowed legal.0.answer_is (runs f l valid legal.1)
+
+-- ==== Where a grain is, in the machine's words.
+
+-- a live block has the grain just where the grain's place says so
+part_is : (f : Profile) (l : Whole) (g : ℕ) → IsValid f → Legal f l → (at : IsPlacedOnce l g) (address : ℕ) (b : Live) → live_in (visible l) address ≡ Some b → in_run (address / 16) (length_of b.block) g ≡ is_covered_by (address / 16) at.place
+part_is f l g valid legal at address b is =
+    let life : IsLifeOfLive f (address / 16) (word_after l (life_word_at (address / 16))) b (gives_in (visible l) address) (ends_in (visible l) address) = live_of f l valid legal address b is in
+    sym (covers_live (ends_in (visible l) address) (length_of b.block) (address / 16) g life.few life.short) ∙ ap (λ w. covers w (address / 16) g) (sym life.word_is) ∙ at.covered (address / 16)
+
+-- the block that a live word tells of
+record LivesAt (l : Whole) (a : ℕ) : Type 0 where
+  block : Live
+  lives : live_in (visible l) (16 * a) ≡ Some block
+
+found_block : (f : Profile) (l : Whole) (a word : ℕ) (live : Option Live) (gives ends : ℕ) → live_in (visible l) (16 * a) ≡ live → IsLifeOf f a word live gives ends → is_live word ≡ true → LivesAt l a
+found_block f l a word None gives ends is life live = let w = life.word_is in let few = life.few in let big : 2 ^ 63 ≤ word = leb-true (2 ^ 63) word live in absurd (omega (arith, w, few, big))
+found_block f l a word (Some b) gives ends is life live = record { block = b; lives = is }
+
+in_place : (f : Profile) (l : Whole) (g : ℕ) → Legal f l → (o : Place) → has_bit (word_after l (free_word_at g)) (g % 64) ≡ is_free o → ((k : ℕ) → holds (part k l) g ≡ is_held_by k o)
+    → ((address : ℕ) (b : Live) → live_in (visible l) address ≡ Some b → in_run (address / 16) (length_of b.block) g ≡ is_covered_by (address / 16) o) → ((a : ℕ) → o ≡ Covered a → LivesAt l a) → IsInOnePlace l g
+in_place f l g legal IsFree free held parts lives = inl (record { free = free; nobody = held; no_block = λ address b is here. false≢true (sym (parts address b is) ∙ here) })
+in_place f l g legal (Held k) free held parts lives = inr (inl (record { actor = k; not_free = free; holder = held; no_block = λ address b is here. false≢true (sym (parts address b is) ∙ here) }))
+in_place f l g legal (Covered a) free held parts lives =
+    let found : LivesAt l a = lives a refl in
+    let own : 16 * a / 16 ≡ a = omega arith in
+    inr (inr (record {
+      address = 16 * a;
+      block = found.block;
+      lives = found.lives;
+      covered = parts (16 * a) found.block found.lives ∙ eq-eqb a (16 * a / 16) (sym own);
+      not_free = free;
+      nobody = held;
+      one = λ other b is here.
+          let e : a ≡ other / 16 = eqb-true a (other / 16) (sym (parts other b is) ∙ here) in
+          let aligned : other % 16 ≡ 0 = live_is_aligned f l legal other b is in
+          omega (arith, e, aligned);
+    }))
+
+-- after every legal list each grain is free, or held by one actor, or part of one live block
+pub in_one_place : (f : Profile) (l : Whole) → IsValid f → Legal f l → (g : ℕ) → IsInOnePlace l g
+in_one_place f l valid legal g =
+    let at : IsPlacedOnce l g = placed_once f l valid legal g in
+    in_place f l g legal at.place at.free at.held (part_is f l g valid legal at) (λ a is.
+    let covering : covers (word_after l (life_word_at a)) a g ≡ true = at.covered a ∙ ap (is_covered_by a) is ∙ eq-eqb a a refl in
+    let live = and_parts (is_live (word_after l (life_word_at a))) (in_run a (grains_of (word_after l (life_word_at a))) g) covering in
+    found_block f l a (word_after l (life_word_at a)) (live_in (visible l) (16 * a)) (gives_in (visible l) (16 * a)) (ends_in (visible l) (16 * a)) refl (life_of f l valid legal a) live.0)
+
+-- the laws of the machine's runs, for every legal list
+pub lists_borne : (f : Profile) (l : Whole) → IsValid f → Legal f l → AreBorne f (visible l)
+lists_borne f l valid legal = all_borne f (visible l) (runs f l valid legal)
+
+pub lists_apart : (f : Profile) (l : Whole) → IsValid f → Legal f l → AreApart (visible l)
+lists_apart f l valid legal = live_apart f (visible l) (runs f l valid legal)
+
+-- ==== A page can be unbacked: some legal list of every valid profile has an unback.
+
+-- ---- the actor makes the deed of page 1, takes all its grains, backs it, reads its stamp, and raises the epoch
+abbrev large : Directory
+large = record { heap = 0; kind = Large }
+
+abbrev taken : List Made
+taken = made (Take 1 3 all_ones) all_ones ∷ made (Take 1 2 all_ones) all_ones ∷ made (Take 1 1 all_ones) all_ones ∷ made (Take 1 0 all_ones) all_ones ∷ made (Deed 1 large) 0 ∷ []
+
+abbrev backed : List Made
+backed = made (Back 1) 0 ∷ taken
+
+abbrev looked : List Made
+looked = made (Look (Word.Stamp 1)) 0 ∷ backed
+
+abbrev ticked : ℕ → List Made
+ticked age = made (Tick age) 0 ∷ looked
+
+-- ---- it holds all grains then
+in_ones : (w g : ℕ) → g / 256 ≡ 1 → g / 64 % 4 ≡ w → (in_mask 1 w all_ones g && has_bit all_ones (g % 64)) ≡ true
+in_ones w g page word =
+    let bit : has_bit all_ones (g % 64) ≡ true = ap (λ x. x == 1) (bit_at_ones 64 (g % 64) (omega arith)) in
+    let place : ((w == g / 64 % 4) && (1 == g / 256)) ≡ true = and_from (w == g / 64 % 4) (1 == g / 256) (eq-eqb w (g / 64 % 4) (sym word)) (eq-eqb 1 (g / 256) (sym page)) in
+    and_from (in_mask 1 w all_ones g) (has_bit all_ones (g % 64)) (and_from ((w == g / 64 % 4) && (1 == g / 256)) (has_bit all_ones (g % 64)) place bit) bit
+
+abbrev gets : ℕ → ℕ → Bool
+gets w g = in_mask 1 w all_ones g && has_bit all_ones (g % 64)
+
+abbrev held_to : ℕ → ℕ → Bool → Bool
+held_to w g held = held_after (if gets w g then Gets else Stays) held
+
+all_taken : (g : ℕ) → g / 256 ≡ 1 → held_to 3 g (held_to 2 g (held_to 1 g (held_to 0 g false))) ≡ true
+all_taken g page = elim (cases_eq (g / 64 % 4) 0) [
+  | inl e ↦ moved_held (gets 3 g) (held_to 2 g (held_to 1 g (held_to 0 g false))) Gets (λ here. refl) (moved_held (gets 2 g) (held_to 1 g (held_to 0 g false)) Gets (λ here. refl) (moved_held (gets 1 g) (held_to 0 g false) Gets (λ here. refl) (ap (λ x. held_after (if x then Gets else Stays) false) (in_ones 0 g page e))))
+  | inr n0 ↦ elim (cases_eq (g / 64 % 4) 1) [
+    | inl e ↦ moved_held (gets 3 g) (held_to 2 g (held_to 1 g (held_to 0 g false))) Gets (λ here. refl) (moved_held (gets 2 g) (held_to 1 g (held_to 0 g false)) Gets (λ here. refl) (ap (λ x. held_after (if x then Gets else Stays) (held_to 0 g false)) (in_ones 1 g page e)))
+    | inr n1 ↦ elim (cases_eq (g / 64 % 4) 2) [
+      | inl e ↦ moved_held (gets 3 g) (held_to 2 g (held_to 1 g (held_to 0 g false))) Gets (λ here. refl) (ap (λ x. held_after (if x then Gets else Stays) (held_to 1 g (held_to 0 g false))) (in_ones 2 g page e))
+      | inr n2 ↦ ap (λ x. held_after (if x then Gets else Stays) (held_to 2 g (held_to 1 g (held_to 0 g false)))) (in_ones 3 g page (omega (arith, n0, n1, n2)))
+    ]
+  ]
+]
+
+holds_one : (v : View) → ((g : ℕ) → g / 256 ≡ 1 → holds v g ≡ true) → holds_on v 1 ≡ true
+holds_one v h = any_from 256 (λ b. holds v (1 * 256 + b)) 0 (omega arith) (h 256 refl)
+
+holds_each : (v : View) → ((g : ℕ) → g / 256 ≡ 1 → holds v g ≡ true) → holds_all v 1 ≡ true
+holds_each v h = all_below-from 256 (λ b. holds v (1 * 256 + b)) (λ i lt. h (1 * 256 + i) (omega (arith, lt)))
+
+backed_is_known : (age : ℕ) → knows_backed (ticked age) 1 ≡ true
+backed_is_known age =
+    let one : knows_backed backed 1 ≡ true = holds_one backed all_taken in
+    let two : knows_backed looked 1 ≡ true = and_from (knows_backed backed 1) (holds_on looked 1) one (holds_one looked all_taken) in
+    and_from (knows_backed looked 1) (holds_on (ticked age) 1) two (holds_one (ticked age) all_taken)
+
+stamp_is_known : (age : ℕ) → known_stamp (ticked age) 1 ≡ Some 0
+stamp_is_known age =
+    ap (λ t. if t then known_stamp looked 1 else None) (holds_each (ticked age) all_taken)
+    ∙ ap (λ t. if t then Some 0 else None) (holds_each looked all_taken)
+
+may_unback : (f : Profile) → MayUnback f (ticked f.age) 1
+may_unback f = record { held = all_taken; stamped = refl; backed = backed_is_known f.age; stamp = 0; known = stamp_is_known f.age; read = tt; old = omega arith }
+
+-- ---- the list
+pub can_unback : (f : Profile) → IsValid f → (l : Whole) × Legal f l × (more : List Event) × (visible l ≡ Event.Unback 0 1 f.age ∷ more)
+can_unback f valid =
+    let pages = valid.some_page in let heaps = valid.some_heap in let age = valid.age in
+    let deed : IsNext f (triples 0 ([])) (triple 0 (made (Deed 1 large) 0)) = record { actor = omega arith; of_region = ((omega arith, omega (arith, pages)), record { heap = omega (arith, heaps); kind = tt; class = tt }); allowed = tt; answer_is = refl } in
+    let first : IsNext f (triples 0 (made (Deed 1 large) 0 ∷ [])) (triple 0 (made (Take 1 0 all_ones) all_ones)) = record { actor = omega arith; of_region = ((omega arith, omega (arith, pages)), omega arith, omega arith); allowed = refl; answer_is = refl } in
+    let second : IsNext f (triples 0 (made (Take 1 0 all_ones) all_ones ∷ made (Deed 1 large) 0 ∷ [])) (triple 0 (made (Take 1 1 all_ones) all_ones)) = record { actor = omega arith; of_region = ((omega arith, omega (arith, pages)), omega arith, omega arith); allowed = refl; answer_is = refl } in
+    let third : IsNext f (triples 0 (made (Take 1 1 all_ones) all_ones ∷ made (Take 1 0 all_ones) all_ones ∷ made (Deed 1 large) 0 ∷ [])) (triple 0 (made (Take 1 2 all_ones) all_ones)) = record { actor = omega arith; of_region = ((omega arith, omega (arith, pages)), omega arith, omega arith); allowed = refl; answer_is = refl } in
+    let fourth : IsNext f (triples 0 (made (Take 1 2 all_ones) all_ones ∷ made (Take 1 1 all_ones) all_ones ∷ made (Take 1 0 all_ones) all_ones ∷ made (Deed 1 large) 0 ∷ [])) (triple 0 (made (Take 1 3 all_ones) all_ones)) = record { actor = omega arith; of_region = ((omega arith, omega (arith, pages)), omega arith, omega arith); allowed = refl; answer_is = refl } in
+    let back : IsNext f (triples 0 (taken)) (triple 0 (made (Back 1) 0)) = record { actor = omega arith; of_region = (omega arith, omega (arith, pages)); allowed = ((256, refl, all_taken 256 refl), λ z. absurd (omega (arith, z))); answer_is = refl } in
+    let look : IsNext f (triples 0 (backed)) (triple 0 (made (Look (Word.Stamp 1)) 0)) = record { actor = omega arith; of_region = (omega arith, omega (arith, pages)); allowed = tt; answer_is = refl } in
+    let tick : IsNext f (triples 0 (looked)) (triple 0 (made (Tick f.age) 0)) = record { actor = omega arith; of_region = omega (arith, age); allowed = tt; answer_is = refl } in
+    let unback : IsNext f (triples 0 (ticked f.age)) (triple 0 (made (Unback 1) 1)) = record { actor = omega arith; of_region = (omega arith, omega (arith, pages)); allowed = may_unback f; answer_is = refl } in
+    let same : max 0 f.age ≡ f.age = omega arith in (
+      triples 0 (made (Unback 1) 1 ∷ ticked f.age),
+      (unback, (tick, (look, (back, (fourth, (third, (second, (first, (deed, tt))))))))),
+      Event.Back 0 1 ∷ Event.Deed 0 1 large ∷ [],
+      ap (λ e. Event.Unback 0 1 e ∷ Event.Back 0 1 ∷ Event.Deed 0 1 large ∷ []) same,
+    )

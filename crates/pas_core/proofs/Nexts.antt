@@ -15,7 +15,7 @@ use Rattle.std.specs.Prelude.{slice_index, slice_set}
 use Rattle.pas_profile.specs.Layouts.{index_of, same_word}
 use Rattle.pas_profile.specs.declared.word.Word.{Word}
 use Rattle.pas_profile.proofs.Places.{same_word-true}
-use Rattle.pas_steps.proofs.Written.{place_written}
+use Rattle.pas_steps.proofs.Targets.{place_written}
 use Rattle.pas_core.specs.WordLists.{AreWordsAfter}
 use Rattle.std.proofs.lemmas.Bool.{eq-eqb, eqb-true, ne_eqb, false≢true}
 use Rattle.pas_steps.proofs.Parts.{part_of_own, part_of_others}

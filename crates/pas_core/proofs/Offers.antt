@@ -20,14 +20,13 @@ use Rattle.pas_core.specs.Rights.{empty_bit, parked_bit, IsUsableFree, IsOwed, I
 use Rattle.pas_core.specs.Hints.{IsEmptyBacked, IsMinded}
 use Rattle.pas_bits.proofs.Words.{bit_cleared}
 use Rattle.pas_bits.proofs.PageVectors.{page_bit-clear, page_bit-set}
-use Rattle.pas_core.proofs.DeedWords.{next_value, looked, known_is, word_stays}
+use Rattle.pas_core.proofs.Deeds.{next_value, looked, known_is, word_stays}
 use Rattle.pas_core.proofs.Grains.{is_held_by-true, placed_once}
 use Rattle.pas_core.proofs.Stamps.{words_fit}
 use Rattle.pas_steps.proofs.Flags.{stays_set}
 use Rattle.pas_steps.proofs.Bits.{none_set, all_set, all_below-at}
 use Rattle.pas_profile.specs.Directories.{number_of, directory_read}
-use Rattle.pas_core.proofs.Spots.{Spot, InParked, is_with, is_parked, spot_after, spot_of, DeedFits, IsSpotted, spotted}
-use Rattle.pas_core.proofs.Rights.{parked_spot, right_in_one_place}
+use Rattle.pas_core.proofs.Rights.{Spot, InParked, is_with, is_parked, spot_after, spot_of, DeedFits, IsSpotted, spotted, parked_spot, right_in_one_place}
 use Rattle.pas_steps.specs.Clear.{IsClear}
 use Rattle.pas_steps.specs.declared.step.Made.{Made}
 use Rattle.pas_steps.proofs.Parts.{part_of_others}

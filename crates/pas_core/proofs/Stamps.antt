@@ -19,14 +19,14 @@ use Rattle.pas_steps.specs.declared.step.Step.{Step}
 use Rattle.pas_steps.specs.declared.step.Step.TheVariants.{Look, Deed, Back, Take, Put, Give, End, EndSized, TakeRight, Offer, Park, Unpark, Stamp, Hint, Tick, Unhint, Unback}
 use Rattle.pas_core.proofs.Grains.{give_short, one_holder}
 use Rattle.pas_bits.proofs.PageVectors.{page_mask_lt}
-use Rattle.pas_core.proofs.DeedWords.{next_value, looked}
+use Rattle.pas_core.proofs.Deeds.{next_value, looked, event_if, end_if}
 use Rattle.std.proofs.lemmas.Bool.{cond_both, false≢true, eqb-true, eq-eqb, and_parts, and_from, false_from_ne_true, cases_Bool}
 use Rattle.pas_profile.proofs.Codecs.{kind_number_lt}
 use Rattle.pas_profile.specs.declared.name.Name.{Name}
 use Rattle.pas_machine.specs.State.{Live, live_in, gives_in, ends_in, touches, epoch_in}
 use Rattle.pas_core.specs.Good.{IsLifeOf}
 use Rattle.pas_core.proofs.Lives.{life_at}
-use Rattle.pas_steps.proofs.Ranged.{guess_fits}
+use Rattle.pas_steps.proofs.Targets.{guess_fits}
 use Rattle.pas_profile.specs.Classes.{has_bit}
 use Rattle.pas_profile.specs.declared.name.Block.{Block}
 use Rattle.pas_profile.specs.declared.event.Event.{Event}
@@ -35,8 +35,8 @@ use Rattle.pas_steps.specs.Desks.{made}
 use Rattle.pas_core.specs.Stamps.{IsSoAtEnd, EachEnd, IsStampedOr, KeepsToEnds, AllKeepToEnds}
 use Rattle.pas_steps.proofs.Bits.{all_below-at}
 use Rattle.pas_steps.proofs.Flags.{stays_set, was_set}
-use Rattle.pas_core.proofs.Deeds.{event_if, end_if}
 use Rattle.pas_profile.proofs.Runs.{IsMet, met}
+use Rattle.pas_steps.proofs.Parts.{each_part}
 
 -- ==== The epoch only grows, every word fits 64 bits, and epochs and stamps are below 2 ^ 40.
 
@@ -57,13 +57,9 @@ epoch_learns l e s a known is h = h
 
 -- the epoch that a view knows is at most the epoch
 pub epoch_known : (f : Profile) (l : Whole) → Legal f l → (k : ℕ) → epoch_of (part k l) ≤ word_after l Word.Epoch
-epoch_known f [] legal k = omega arith
-epoch_known f (t ∷ l) legal k =
-    let next : IsNext f l t = legal.0 in
-    let before : epoch_of (part k l) ≤ word_after l Word.Epoch = epoch_known f l legal.1 k in
-    let new : or_zero (epoch_after t.made.step t.made.answer (known_epoch (part k l))) ≤ word_after (t ∷ l) Word.Epoch = epoch_learns l (epoch_of (part t.actor l)) t.made.step t.made.answer (known_epoch (part k l)) next.answer_is before in
-    let grows : word_after l Word.Epoch ≤ word_after (t ∷ l) Word.Epoch = epoch_grows l t in
-    cond_both (t.actor == k) (t.made ∷ part k l) (part k l) (λ v. epoch_of v ≤ word_after (t ∷ l) Word.Epoch) (λ own. new) (λ other. omega (arith, before, grows))
+epoch_known f = each_part f (λ l k v. epoch_of v ≤ word_after l Word.Epoch) (λ k. omega arith)
+    (λ t l legal before. epoch_learns l (epoch_of (part t.actor l)) t.made.step t.made.answer (known_epoch (part t.actor l)) legal.0.answer_is before)
+    (λ t l k legal other before. omega (arith, before, epoch_grows l t))
 
 -- ---- every word is below 2 ^ 64
 deed_small : (f : Profile) (d : Directory) → IsValid f → IsDirectoryOf f d → deed_word_of d < 2 ^ 64
@@ -206,14 +202,10 @@ other_stamps f l valid legal t k p next other all = false_from_ne_true (stamps t
 
 -- a stamp that a view knows is the page's
 pub stamp_known : (f : Profile) (l : Whole) → IsValid f → Legal f l → (k p s : ℕ) → known_stamp (part k l) p ≡ Some s → word_after l (Word.Stamp p) ≡ s
-stamp_known f [] valid legal k p s told = cc
-stamp_known f (t ∷ l) valid legal k p s told =
-    let e : ℕ = epoch_of (part t.actor l) in
-    let next : IsNext f l t = legal.0 in
-    let before : (s : ℕ) → known_stamp (part k l) p ≡ Some s → word_after l (Word.Stamp p) ≡ s = stamp_known f l valid legal.1 k p in
-    cond_both (t.actor == k) (t.made ∷ part k l) (part k l) (λ v. known_stamp v p ≡ Some s → word_after (t ∷ l) (Word.Stamp p) ≡ s)
-    (λ own h. stamp_learns l e t.made.step t.made.answer p (known_stamp (part k l) p) s next.answer_is before (all_if (holds_all (t.made ∷ part k l) p) (stamp_after t.made.step t.made.answer p (known_stamp (part k l) p)) s h).1)
-    (λ other h. stamp_rests e t.made.step p (word_after l (Word.Stamp p)) (other_stamps f l valid legal.1 t k p next other (known_all (part k l) p s h)) ∙ before s h) told
+stamp_known f l valid legal k p = each_part f (λ l k v. (s : ℕ) → known_stamp v p ≡ Some s → word_after l (Word.Stamp p) ≡ s) (λ k s told. cc)
+    (λ t l legal before s h. stamp_learns l (epoch_of (part t.actor l)) t.made.step t.made.answer p (known_stamp (part t.actor l) p) s legal.0.answer_is before
+    (all_if (holds_all (t.made ∷ part t.actor l) p) (stamp_after t.made.step t.made.answer p (known_stamp (part t.actor l) p)) s h).1)
+    (λ t l k legal other before s h. stamp_rests (epoch_of (part t.actor l)) t.made.step p (word_after l (Word.Stamp p)) (other_stamps f l valid legal.1 t k p legal.0 other (known_all (part k l) p s h)) ∙ before s h) l legal k
 
 -- ---- an actor holds a grain of each page that is unstamped for it
 pub moved_held : (t held : Bool) (m : Move) → (t ≡ true → held_after m held ≡ true) → held ≡ true → held_after (if t then m else Stays) held ≡ true
@@ -249,12 +241,8 @@ keeps_held f v s a p of allowed before h = let was = before h in (was.0, was.1, 
 
 -- an actor holds a grain of each page that is unstamped for it
 pub unstamped_is_held : (f : Profile) (l : Whole) → Legal f l → (k p : ℕ) → is_unstamped (part k l) p ≡ true → HoldsOn (part k l) p
-unstamped_is_held f [] legal k p h = absurd (false≢true h)
-unstamped_is_held f (t ∷ l) legal k p h =
-    let next : IsNext f l t = legal.0 in
-    let own : is_unstamped (t.made ∷ part t.actor l) p ≡ true → HoldsOn (t.made ∷ part t.actor l) p = keeps_held f (part t.actor l) t.made.step t.made.answer p next.of_region next.allowed (unstamped_is_held f l legal.1 t.actor p) in
-    cond_both (t.actor == k) (t.made ∷ part k l) (part k l) (λ v. is_unstamped v p ≡ true → HoldsOn v p)
-    (λ e. subst (λ j. is_unstamped (t.made ∷ part j l) p ≡ true → HoldsOn (t.made ∷ part j l) p) (eqb-true t.actor k e) own) (λ other. unstamped_is_held f l legal.1 k p) h
+unstamped_is_held f l legal k p = each_part f (λ l k v. is_unstamped v p ≡ true → HoldsOn v p) (λ k h. absurd (false≢true h))
+    (λ t l legal before. keeps_held f (part t.actor l) t.made.step t.made.answer p legal.0.of_region legal.0.allowed before) (λ t l k legal other before. before) l legal k
 
 -- ---- the epoch of each end on a page
 so_map : (P Q : ℕ → ℕ → Type 0) (e : Event) (es : List Event) (p : ℕ) → ((k e : ℕ) → P k e → Q k e) → IsSoAtEnd P e es p → IsSoAtEnd Q e es p

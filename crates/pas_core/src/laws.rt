@@ -42,6 +42,7 @@ pub fn agrees()
 
 /// Each grain is free, or held by exactly one actor, or part of exactly one live block. So no memory is given twice, none is lost,
 /// and what an actor holds nobody else has.
+#[tactic(auto, using(crate::proofs::MachineRuns::in_one_place, crate::proofs::Grains::placed_once))]
 pub fn placed()
     ensures place { (f : Profile) (l : Whole) → IsValid f → Legal f l → (g : ℕ) → IsInOnePlace l g }
     ensures words { (f : Profile) (l : Whole) → IsValid f → Legal f l → (g : ℕ) → IsPlacedOnce l g }
@@ -65,6 +66,7 @@ pub fn parked_pages_are_checked()
 /// However late an actor stamps the pages of a block that it ended: the epoch of each end on a page is at most the page's stamp, or the page is
 /// unstamped for the actor that made the end, which knows an epoch at least as great. An actor holds a grain of each page that is unstamped
 /// for it. So whoever holds all grains of a page reads a stamp that no end on the page is past.
+#[tactic(auto, using(crate::proofs::Stamps::ends_stamped, crate::proofs::Stamps::unstamped_is_held, crate::proofs::Stamps::ends_before))]
 pub fn ends_are_stamped()
     ensures ends { (f : Profile) (l : Whole) → IsValid f → Legal f l → (page : ℕ) → EachEnd (IsStampedOr l page) (visible l) page }
     ensures held { (f : Profile) (l : Whole) → Legal f l → (k page : ℕ) → is_unstamped (part k l) page ≡ true → HoldsOn (part k l) page }
@@ -80,19 +82,21 @@ pub fn stamps_are_ends()
 
 /// No empty page is forgotten: where a page is backed and each of its grains is free, its empty bit is set, or some actor owes its hint, or
 /// some actor examines it.
+#[tactic(auto, using(crate::proofs::Offers::empty_is_minded))]
 pub fn empty_pages_are_minded()
     ensures { (f : Profile) (l : Whole) → IsValid f → Legal f l → (page : ℕ) → IsEmptyBacked l page → IsMinded l page }
 {}
 
 /// Once each actor is clear nothing is lost: a page with a deed and a free grain that its blocks may cover, whose right nobody has, is
 /// offered, and a page that is backed and each of whose grains is free is hinted.
+#[tactic(auto, using(crate::proofs::Offers::offered_at_rest, crate::proofs::Offers::hinted_at_rest))]
 pub fn nothing_is_lost()
     ensures offered { (f : Profile) (l : Whole) → Legal f l → AllClear f l → (page word bit : ℕ) → word < 4 → word_after l (Word.Deed page) ≢ 0 → IsUsableFree l page word bit → NobodyHasRight l page → IsRightOffered f l page }
     ensures hinted { (f : Profile) (l : Whole) → IsValid f → Legal f l → AllClear f l → (page : ℕ) → IsEmptyBacked l page → empty_bit l page ≡ true }
 {}
 
 /// A page can be unbacked: in every region some legal list does it.
-#[tactic(auto, using(crate::proofs::CanUnback::can_unback))]
+#[tactic(auto, using(crate::proofs::MachineRuns::can_unback))]
 pub fn unbacks_happen()
     ensures { (f : Profile) → IsValid f → (l : Whole) × Legal f l × (more : List Event) × (visible l ≡ Event.Unback 0 1 f.age ∷ more) }
 {}
@@ -121,6 +125,7 @@ pub fn actors_are_few()
 {}
 
 /// Each bit that is set in a page vector is that of a page of the region: never that of page 0 or of one past the last.
+#[tactic(auto, using(crate::proofs::Rights::offered_page, crate::proofs::Rights::parked_page, crate::proofs::Rights::hinted_page))]
 pub fn bits_of_pages()
     ensures parked { (f : Profile) (l : Whole) → Legal f l → (page : ℕ) → parked_bit l page ≡ true → IsPage f page }
     ensures empty { (f : Profile) (l : Whole) → Legal f l → (page : ℕ) → empty_bit l page ≡ true → IsPage f page }
@@ -128,6 +133,7 @@ pub fn bits_of_pages()
 {}
 
 /// A live block lies on backed pages with deeds of its heap as long as it lives, and shares no grain with another live block.
+#[tactic(auto, using(crate::proofs::MachineRuns::lists_apart))]
 pub fn live_on_backed()
     ensures backed { (f : Profile) (l : Whole) → IsValid f → Legal f l → AreBorne f (visible l) }
     ensures apart { (f : Profile) (l : Whole) → IsValid f → Legal f l → AreApart (visible l) }
@@ -135,6 +141,7 @@ pub fn live_on_backed()
 
 /// A name stands for its block for good: from its give on, no other block ever lives under that name, so its room and its heap stay
 /// what they were.
+#[tactic(auto, using(crate::proofs::Lives::new_block))]
 pub fn names_last()
     ensures new { (f : Profile) (k : ℕ) (block : Block) (es : List Event) → Admits f es (Event.Give k block) → WasGiven (Event.Give k block ∷ es) block }
     ensures kept { (f : Profile) (more es : List Event) (block : Block) → Run f (more ++ es) → WasGiven es block → WasGiven (more ++ es) block }

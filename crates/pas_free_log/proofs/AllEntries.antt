@@ -10,11 +10,11 @@ use Rattle.pas_profile.specs.Runs.{address_of, grain_of}
 use Rattle.pas_steps.specs.Desks.{made, Standing}
 use Rattle.pas_steps.specs.declared.step.Made.{Made}
 use Rattle.pas_steps.specs.declared.step.Step.TheVariants.{Look, Stamp}
-use Rattle.pas_steps.proofs.InTurn.{in_turn_length}
+use Rattle.pas_steps.proofs.Past.{in_turn_length}
 use Rattle.pas_rights.proofs.Orders.{return_few}
 use Rattle.pas_rights.proofs.Puts.{puts_few}
 use Rattle.pas_free_log.specs.Stamps.{pages_met, stamps_with, stamps_by}
-use Rattle.pas_free_log.specs.Endings.{guess_by, Tries, TriesBy, EndSteps}
+use Rattle.pas_free_log.specs.Endings.{guess_by, TriesBy, EndSteps}
 use Rattle.pas_free_log.specs.Logs.{is_sized}
 use Rattle.pas_free_log.specs.Returns.{PageSteps, first_on, count_on}
 use Rattle.pas_free_log.specs.declared.log.Entry.{Entry}
@@ -48,13 +48,10 @@ page_few g n steps h =
     let after = return_few (g / 256) h.directory h.after h.returns in
     omega (arith, all, most, puts, after)
 
-tries_few : (name : Name) (first guess : ℕ) (before : List Made) → Tries name first guess before → length before ≤ 1
-tries_few name first guess before (inl none) = let n = ap length none.1 in omega (arith, n)
-tries_few name first guess before (inr one) = let n = ap length one.4 in omega (arith, n)
-
 by_few : (t : Bool) (entry : Entry) (first guess : ℕ) (before : List Made) → TriesBy t entry first guess before → length before ≤ 1
-by_few true entry first guess before one = let n = ap length one.1 in omega (arith, n)
-by_few false entry first guess before tries = tries_few entry.name first guess before tries
+by_few true entry first guess before none = let n = ap length none.1 in omega (arith, n)
+by_few false entry first guess before (inl none) = let n = ap length none.1 in omega (arith, n)
+by_few false entry first guess before (inr one) = let n = ap length one.4 in omega (arith, n)
 
 end_few : (entry : Entry) (outcome : Outcome) (steps : List Made) → EndSteps entry outcome steps → length steps ≤ 3
 end_few entry outcome steps h = let all = ap length h.steps_are in let n = length-append h.before (made (Look (Word.Deed (address_of entry.name / 4096))) h.deed ∷ []) in let few = by_few (is_sized entry) entry (guess_by (directory_read h.deed)) h.guess h.before h.tries in omega (arith, all, n, few)

@@ -1,14 +1,14 @@
 -- What a flush does for one entry of a log.
-use Rattle.std.proofs.Common.{◌≡◌, ℕ, true, false, List, [], ◌∷◌, ◌++◌, refl, ap, sym, ◌∙◌, append_assoc, true≢false, ◌+◌, ◌-◌, ◌/◌, ◌%◌, ◌≤◌, ◌==◌, if◌then◌else◌, Option, Some, arith, ◌&&◌, suc, ◌*◌, ◌<◌, ◌⊎◌, ◌||◌, min, inl, inr, subst, ◌≢◌, ◌^◌, None, Bool}
+use Rattle.std.proofs.Common.{◌≡◌, ℕ, true, false, List, [], ◌∷◌, ◌++◌, refl, ap, sym, ◌∙◌, append_assoc, true≢false, ◌+◌, ◌-◌, ◌/◌, ◌%◌, ◌≤◌, ◌==◌, if◌then◌else◌, Option, Some, arith, ◌&&◌, suc, ◌*◌, ◌<◌, ◌||◌, min, inl, inr, subst, ◌≢◌, ◌^◌, None, Bool}
 use Rattle.std.proofs.lemmas.List.{append-nil, map-append}
 use Rattle.pas_steps.specs.declared.step.Made.{Made}
 use Rattle.pas_steps.specs.declared.step.Step.{Step}
 use Rattle.pas_steps.specs.declared.step.Step.TheVariants.{Stamp, Look, End, EndSized}
 use Rattle.pas_steps.specs.Kinds.{Kinds, Stamping, kind_of, place_of, is_in, apart, Only, LookDeed, Putting, returning, Ending}
-use Rattle.pas_steps.specs.Views.{View, epoch_of, known_deed, known_epoch, is_unstamped, examines, holds, or_zero, ends_on, Stays, Ends, grain_move, held_after}
+use Rattle.pas_steps.specs.Views.{View, EndedOn, epoch_of, known_deed, known_epoch, is_unstamped, examines, holds, or_zero, ends_on, Stays, Ends, grain_move, held_after}
 use Rattle.pas_steps.proofs.Apart.{in_apart, only_within, only_both, deeds_same, unstamped_same, examines_same, epoch_same, events_same}
 use Rattle.pas_free_log.specs.Stamps.{stamped_by, stamps_by, page_count, pages_from, pages_met, stamps_with}
-use Rattle.std.proofs.lemmas.Bool.{ne_eqb, cases_lt, cases_eq, cases_Bool, eqb-true, eqb-false, eq-eqb, not-true, and_parts, and_from, false≢true}
+use Rattle.std.proofs.lemmas.Bool.{ne_eqb, cases_eq, cases_Bool, eqb-true, eqb-false, eq-eqb, not-true, and_parts, and_from, false≢true}
 use Rattle.std.proofs.lemmas.Bool.Decides.{nat_tests}
 use Rattle.pas_profile.specs.Directories.{deed_word_of, directory_read, IsKind}
 use Rattle.pas_profile.specs.Profiles.{IsValid, IsDirectoryOf}
@@ -17,7 +17,7 @@ use Rattle.pas_profile.specs.declared.profile.Profile.{Profile}
 use Rattle.pas_profile.specs.declared.word.Word.TheVariants as Word
 use Rattle.pas_profile.specs.Runs.{in_run, meets_page, address_of, grain_of}
 use Rattle.pas_profile.proofs.Runs.{to_run, run_of, run_above, met_by}
-use Rattle.pas_steps.specs.Allowed.{HoldsOn, IsEpochKnown, IsStepOf, Allowed}
+use Rattle.pas_steps.specs.Allowed.{HoldsOn, IsEpochKnown, IsStepOf}
 use Rattle.pas_steps.specs.Agreement.{AgreesDeed, AgreesLife, AgreesEnd, Agrees}
 use Rattle.pas_steps.specs.Calls.{nothing, put, Does, Calls, Kept, Lost, now, Leads}
 use Rattle.pas_steps.specs.Frames.{OnlyReturns}
@@ -43,7 +43,7 @@ use Rattle.pas_profile.specs.declared.directory.Kind.{Kind}
 use Rattle.pas_profile.specs.declared.name.Name.{Name}
 use Rattle.pas_profile.proofs.ClassFacts.{class_grains_positive, class_grains_le}
 use Rattle.pas_profile.proofs.Codecs.{read_is, is_live-live_word, turn_of-live_word}
-use Rattle.pas_free_log.specs.Endings.{guess_by, guess_by_kind, is_of, Tries, TriesBy, IsRefusedBy, last_step, IsEndOf, IsOfRegion, EndsOne, reason_by, reason_for, EndSteps}
+use Rattle.pas_free_log.specs.Endings.{guess_by, guess_by_kind, is_of, Tries, TriesBy, IsRefusedBy, last_step, IsEndOf, IsOfRegion, EndsOne, reason_by, reason_for}
 use Rattle.pas_free_log.specs.declared.ending.Outcome.{Outcome}
 use Rattle.pas_free_log.specs.declared.ending.Outcome.TheVariants.{Refused, Ended}
 use Rattle.pas_free_log.specs.declared.log.Entry.{Entry}
@@ -200,28 +200,17 @@ back_none g = record { kinds = tt; stamps = λ v. refl }
 pub none_freed : (g : ℕ) (v : View) → Does (run_freed g 0) v v
 none_freed g v = freed_nothing (in_run g 0) (in_run (g / 256) 0) (does_none v) (no_run g) (no_run (g / 256))
 
-both_stamps : (e : ℕ) (ys xs : List ℕ) → stamps_with e ys ++ stamps_with e xs ≡ stamps_with e (ys ++ xs)
-both_stamps e ys xs = sym (map-append (λ page. (page, e)) ys xs)
-
 -- ---- the pages so far
--- the run begins here, or a page does, or nothing is left
+-- the run begins here, or a page does, unless nothing is left
 abbrev pub IsBorder : ℕ → ℕ → ℕ → Type 0
-IsBorder g n from = (from ≡ g) ⊎ ((from % 256 ≡ 0) ⊎ (from ≡ g + n))
-
-count_none : (g n : ℕ) → n ≡ 0 → page_count g n ≡ 0
-count_none g n z = ap (λ k. page_count g k) z
-
-count_at_page : (g from : ℕ) → g ≤ from → from % 256 ≡ 0 → g / 256 + page_count g (from - g) ≡ from / 256
-count_at_page g from low page = elim (cases_eq from g) [
-  | inl start ↦ let c = count_none g (from - g) (omega (arith, start)) in omega (arith, c, start)
-  | inr other ↦ let c = count_some g (from - g) (omega (arith, low, other)) in omega (arith, c, low, other, page)
-]
+IsBorder g n from = from < g + n → first_on g (from / 256) ≡ from
 
 -- how many pages are done, and which is the next one
 count_so_far : (g n from : ℕ) → g ≤ from → from < g + n → IsBorder g n from → g / 256 + page_count g (from - g) ≡ from / 256
-count_so_far g n from low high (inl start) = let c = count_none g (from - g) (omega (arith, start)) in omega (arith, c, start)
-count_so_far g n from low high (inr (inl page)) = count_at_page g from low page
-count_so_far g n from low high (inr (inr done)) = absurd (omega (arith, high, done))
+count_so_far g n from low high border = elim (cases_eq from g) [
+  | inl start ↦ let none : from - g ≡ 0 = omega (arith, start) in let c : page_count g (from - g) ≡ 0 = ap (λ k. page_count g k) none in omega (arith, c, start)
+  | inr other ↦ let c = count_some g (from - g) (omega (arith, low, other)) in let page = border high in omega (arith, c, low, other, page)
+]
 
 -- the next piece ends here
 abbrev pub next_border : ℕ → ℕ → ℕ → ℕ
@@ -233,11 +222,8 @@ pub record IsNextBorder (g n from next : ℕ) : Type 0 where
   pub on_page : from % 256 + (next - from) ≤ 256
   pub border : IsBorder g n next
 
-pub next_is : (g n from next : ℕ) → from < g + n → next ≡ next_border g n from → IsNextBorder g n from next
-next_is g n from next high is = elim (cases_lt (g + n) ((from / 256 + 1) * 256)) [
-  | inl last ↦ let e : next ≡ g + n = omega (arith, is, last) in record { some = omega (arith, e, high); within = omega (arith, e); on_page = omega (arith, e, last, high); border = inr (inr e) }
-  | inr more ↦ let e : next ≡ (from / 256 + 1) * 256 = omega (arith, is, more) in record { some = omega (arith, e); within = omega (arith, e, more); on_page = omega (arith, e); border = inr (inl (omega (arith, e))) }
-]
+pub next_is : (g n from next : ℕ) → g ≤ from → from < g + n → next ≡ next_border g n from → IsNextBorder g n from next
+next_is g n from next low high is = record { some = omega (arith, is, high); within = omega (arith, is); on_page = omega (arith, is, high); border = λ left. omega (arith, is, low, left) }
 
 pub count_next : (g n from next : ℕ) → g ≤ from → from < g + n → IsBorder g n from → IsNextBorder g n from next → page_count g (next - g) ≡ suc (page_count g (from - g))
 count_next g n from next low high border is =
@@ -260,7 +246,7 @@ back_more g n from next ys xs low high border is a b = record {
   stamps = λ v.
       stamps_append v ys xs ∙ ap (λ s. s ++ stamps_by v xs) (b.stamps (xs ++ v)) ∙ ap (λ s. stamps_with (epoch_of (xs ++ v)) (pages_met from (next - from)) ++ s) (a.stamps v)
       ∙ ap (λ o. stamps_with (or_zero o) (pages_met from (next - from)) ++ stamps_with (epoch_of v) (pages_met g (from - g))) (epoch_same putting_back refl xs v a.kinds)
-      ∙ both_stamps (epoch_of v) (pages_met from (next - from)) (pages_met g (from - g)) ∙ ap (stamps_with (epoch_of v)) (sym (pages_more g n from next low high border is));
+      ∙ sym (map-append (λ page. (page, epoch_of v)) (pages_met from (next - from)) (pages_met g (from - g))) ∙ ap (stamps_with (epoch_of v)) (sym (pages_more g n from next low high border is));
 }
 
 pub more_freed : {v w u : View} (g n from next : ℕ) → g ≤ from → from < g + n → IsBorder g n from → IsNextBorder g n from next → Does (run_freed g (from - g)) v w → Does (run_freed from (next - from)) w u → Does (run_freed g (next - g)) v u
@@ -272,21 +258,16 @@ more_freed g n from next low high border is d e =
     (λ x. join g (from - g) from (next - from) (next - g) x (omega (arith, low)) (omega (arith, low, some)))
     (λ q. join (g / 256) (page_count g (from - g)) (from / 256) (page_count from (next - from)) (page_count g (next - g)) q (sym (count_so_far g n from low high border)) (omega (arith, one, more)))
 
-first_is : (g n from : ℕ) → g ≤ from → from < g + n → IsBorder g n from → first_on g (from / 256) ≡ from
-first_is g n from low high (inl start) = omega (arith, start)
-first_is g n from low high (inr (inl page)) = omega (arith, page, low)
-first_is g n from low high (inr (inr done)) = absurd (omega (arith, high, done))
-
 count_is : (g n from next : ℕ) → from < g + n → next ≡ next_border g n from → first_on g (from / 256) ≡ from → count_on g n (from / 256) ≡ next - from
 count_is g n from next high is first = ap (λ k. min (g + n) (256 * (from / 256) + 256) - k) first ∙ omega (arith, is)
 
 pub order_more : (g n from next : ℕ) (ys xs : List Made) → g ≤ from → from < g + n → IsBorder g n from → next ≡ next_border g n from → PagesSteps (page_count g (from - g)) g n xs → PageSteps from (next - from) ys → PagesSteps (page_count g (next - g)) g n (ys ++ xs)
 order_more g n from next ys xs low high border is before piece =
     let c = count_so_far g n from low high border in
-    let first = first_is g n from low high border in
+    let first = border high in
     let one : PageSteps (first_on g (from / 256)) (count_on g n (from / 256)) ys = subst (λ k. PageSteps (first_on g (from / 256)) k ys) (sym (count_is g n from next high is first)) (subst (λ s. PageSteps s (next - from) ys) (sym first) piece) in
     let here : PageSteps (first_on g (g / 256 + page_count g (from - g))) (count_on g n (g / 256 + page_count g (from - g))) ys = subst (λ p. PageSteps (first_on g p) (count_on g n p) ys) (sym c) one in
-    subst (λ k. PagesSteps k g n (ys ++ xs)) (sym (count_next g n from next low high border (next_is g n from next high is))) (ys, xs, here, before, refl)
+    subst (λ k. PagesSteps k g n (ys ++ xs)) (sym (count_next g n from next low high border (next_is g n from next low high is))) (ys, xs, here, before, refl)
 
 meets_more : (g n from k page : ℕ) → g ≤ from → from + k ≤ g + n → meets_page from k page ≡ true → meets_page g n page ≡ true
 meets_more g n from k page low high meets = grind (arith, nat_tests, low, high, meets)
@@ -343,60 +324,10 @@ known_kind deed directory is = kind_if directory (λ d e. (read_is deed d (sym i
 abbrev pub first_look : Name → ℕ → List Made
 first_look name deed = made (Look (Word.Deed (address_of name / 4096))) deed ∷ []
 
-epoch_before : (name : Name) (deed first guess : ℕ) (before : List Made) (v : View) → Tries name first guess before → known_epoch (before ++ first_look name deed ++ v) ≡ known_epoch v
-epoch_before name deed first guess before v (inl t) = ap (λ s. known_epoch (s ++ first_look name deed ++ v)) t.1
-epoch_before name deed first guess before v (inr t) = ap (λ s. known_epoch (s ++ first_look name deed ++ v)) t.4
-
-pub may_end : (name : Name) (deed first guess : ℕ) (before : List Made) (v : View) → Tries name first guess before → KnowsEpoch v → KnowsEpoch (before ++ first_look name deed ++ v)
-may_end name deed first guess before v tries knows = subst (λ o. IsEpochKnown o) (sym (epoch_before name deed first guess before v tries)) knows
-
 pub looked : {σ σ1 : Standing} (name : Name) (deed : ℕ) → Makes σ σ1 (Look (Word.Deed (address_of name / 4096))) deed → Adds σ σ1 KnowsEpoch (first_look name deed)
 looked name deed makes = adds_step adds_none makes (λ v l stood met. tt)
 
-pub tried : {σ σ1 σ2 : Standing} (name : Name) (deed first guess a : ℕ) (before : List Made) → Tries name first guess before → Adds σ σ1 KnowsEpoch (before ++ first_look name deed) → Makes σ1 σ2 (End name guess) a
-    → Adds σ σ2 KnowsEpoch (made (End name guess) a ∷ before ++ first_look name deed)
-tried name deed first guess a before tries adds makes = adds_step adds makes (λ v l stood met. may_end name deed first guess before v tries met)
-
--- what the last try came to, by what its answer agrees with
-pub ends_by : {σ σ1 σ2 : Standing} (name : Name) (outcome : Outcome) (directory : Option Directory) (deed guess a : ℕ) (before : List Made) → directory ≡ directory_read deed → Tries name (guess_by (directory_read deed)) guess before → Adds σ σ1 KnowsEpoch (before ++ first_look name deed) → Makes σ1 σ2 (End name guess) a
-    → CanCall σ KnowsEpoch → ((v : View) → AgreesEnd σ.seat.profile (before ++ first_look name deed ++ v) name guess a → IsEndOf (entry_of name) guess a outcome × IsOfRegion σ.seat.profile name outcome) → EndsOne (entry_of name) σ σ2 outcome directory
-ends_by {σ} {σ1} {σ2} name outcome directory deed guess a before tells tries adds makes can told =
-    let all : Adds σ σ2 KnowsEpoch (made (End name guess) a ∷ before ++ first_look name deed) = tried name deed (guess_by (directory_read deed)) guess a before tries adds makes in
-    let came = told can.view (all.agreed can.view can.whole can.stood can.met).0 in
-    record {
-      steps = made (End name guess) a ∷ before ++ first_look name deed;
-      adds = all;
-      order = record { deed = deed; before = before; guess = guess; answer = a; tries = tries; comes_to = came.0; steps_are = refl };
-      of_region = came.1;
-      tells = tells;
-    }
-
 -- ---- an entry with a room
--- the one try
-tried_by_room : {σ σ1 σ2 : Standing} (name : Name) (deed room a : ℕ) → Adds σ σ1 KnowsEpoch (first_look name deed) → Makes σ1 σ2 (EndSized name room) a → Adds σ σ2 KnowsEpoch (made (EndSized name room) a ∷ first_look name deed)
-tried_by_room name deed room a adds makes = adds_step adds makes (λ v l stood met. met)
-
-pub ends_by_room : {σ σ1 σ2 : Standing} (entry : Entry) (outcome : Outcome) (directory : Option Directory) (deed a : ℕ) → is_sized entry ≡ true → directory ≡ directory_read deed → Adds σ σ1 KnowsEpoch (first_look entry.name deed) → Makes σ1 σ2 (EndSized entry.name entry.room) a
-    → CanCall σ KnowsEpoch → ((v : View) → AgreesEnd σ.seat.profile (first_look entry.name deed ++ v) entry.name (entry.room / 16) a → IsEndOf entry (entry.room / 16) a outcome × IsOfRegion σ.seat.profile entry.name outcome) → EndsOne entry σ σ2 outcome directory
-ends_by_room {σ} {σ1} {σ2} entry outcome directory deed a sized tells adds makes can told =
-    let all : Adds σ σ2 KnowsEpoch (made (EndSized entry.name entry.room) a ∷ first_look entry.name deed) = tried_by_room entry.name deed entry.room a adds makes in
-    let came = told can.view (all.agreed can.view can.whole can.stood can.met).0 in
-    record {
-      steps = made (EndSized entry.name entry.room) a ∷ first_look entry.name deed;
-      adds = all;
-      order = record {
-        deed = deed;
-        before = [];
-        guess = entry.room / 16;
-        answer = a;
-        tries = subst (λ t. TriesBy t entry (guess_by (directory_read deed)) (entry.room / 16) []) (sym sized) (refl, refl);
-        comes_to = came.0;
-        steps_are = ap (λ t. made (last_step t entry (entry.room / 16)) a ∷ first_look entry.name deed) (sym sized);
-      };
-      of_region = came.1;
-      tells = tells;
-    }
-
 some_bytes : (entry : Entry) → is_sized entry ≡ true → 0 < entry.room
 some_bytes entry sized = let ne = eqb-false entry.room 0 (not-true (entry.room == 0) sized) in omega (arith, ne)
 
@@ -487,6 +418,11 @@ pub tries_idle : (name : Name) (deed first guess : ℕ) (before : List Made) →
 tries_idle name deed first guess before (inl t) = subst (λ s. AreIdle (s ++ first_look name deed)) (sym t.1) (idle_look name deed)
 tries_idle name deed first guess before (inr t) = subst (λ s. AreIdle (s ++ first_look name deed)) (sym t.4) (idle_try name deed first t.0 t.1 t.2)
 
+-- the steps of a try
+pub tried : {σ σ1 σ2 : Standing} (name : Name) (deed first guess a : ℕ) (before : List Made) → Tries name first guess before → Adds σ σ1 KnowsEpoch (before ++ first_look name deed) → Makes σ1 σ2 (End name guess) a
+    → Adds σ σ2 KnowsEpoch (made (End name guess) a ∷ before ++ first_look name deed)
+tried name deed first guess a before tries adds makes = adds_step adds makes (λ v l stood met. subst IsEpochKnown (sym (epoch_same trying refl (before ++ first_look name deed) v (tries_idle name deed first guess before tries).kinds)) met)
+
 -- ==== The step that tries an end, by a length or by a room: what holds of both.
 
 -- the step ends the block of the name where it has so many grains
@@ -499,7 +435,6 @@ pub record EndsWith (name : Name) (n : ℕ) (s : Step) : Type 0 where
   pub event : (k e a : ℕ) → a ≡ live_word name.turn n → event_of k e s a ≡ Some (Event.End k name e)
   pub stamps : (e : ℕ) (xs : List (ℕ × ℕ)) → stamped_by s e xs ≡ xs
   pub agrees : (f : Profile) (v : View) (a : ℕ) → Agrees f v s a → AgreesEnd f v name n a
-  pub allowed : (f : Profile) (v : View) → KnowsEpoch v → Allowed f v s
 
 success : (k e : ℕ) (name : Name) (n a : ℕ) (other : Option Event) → a ≡ live_word name.turn n → (if succeeds name n a then Some (Event.End k name e) else other) ≡ Some (Event.End k name e)
 success k e name n a other live = ap (λ t. if t then Some (Event.End k name e) else other) (eq-eqb a (live_word name.turn n) live)
@@ -514,7 +449,6 @@ ends_by_length name n = record {
   event = λ k e a live. success k e name n a (if is_live a && (turn_of a == name.turn) then None else Some (Event.Reject k name (reason_of name a))) live;
   stamps = λ e xs. refl;
   agrees = λ f v a h. h;
-  allowed = λ f v knows. knows;
 }
 
 sized_does : (f : Profile) (name : Name) (room a : ℕ) (t : Bool) (v : View) → (a == live_word name.turn (room / 16)) ≡ t → Agrees f v (EndSized name room) a → Does (end_effect t (grain_of name) (room / 16)) v (made (EndSized name room) a ∷ v)
@@ -530,7 +464,6 @@ by_room name room = record {
   event = λ k e a live. success k e name (room / 16) a (Some (Event.Reject k name (sized_reason name room a))) live;
   stamps = λ e xs. refl;
   agrees = λ f v a h. h;
-  allowed = λ f v knows. knows;
 }
 
 -- the last try of an entry is such a step
@@ -551,150 +484,97 @@ pub last_refused : (t : Bool) (entry : Entry) (n k e a : ℕ) → (t ≡ true �
 last_refused true entry n k e a is refused ne = sized_refusal k e entry.name entry.room a (subst (λ m. a ≢ live_word entry.name.turn m) (is refl) ne)
 last_refused false entry n k e a is refused ne = refusal k e entry.name n a ne refused
 
--- ==== One entry of a log.
+-- ==== The end of one entry.
 
--- the steps of an end: idle ones, and the last try
-abbrev pub ending_steps : Entry → ℕ → ℕ → List Made → List Made
-ending_steps entry guess a pre = made (last_step (is_sized entry) entry guess) a ∷ pre
-
-abbrev Last : Entry → ℕ → Type 0
-Last entry guess = EndsWith entry.name guess (last_step (is_sized entry) entry guess)
-
--- the tries before the last one change nothing, and the length is that of the room, where one was named
+-- the length is that of the room, where one was named
 pub guess_is : (t : Bool) (entry : Entry) (first guess : ℕ) (before : List Made) → TriesBy t entry first guess before → t ≡ true → guess ≡ entry.room / 16
 guess_is true entry first guess before tries e = tries.0
 guess_is false entry first guess before tries e = absurd (true≢false (sym e))
 
-last_is : (entry : Entry) (first guess : ℕ) (before : List Made) → TriesBy (is_sized entry) entry first guess before → Last entry guess
-last_is entry first guess before tries = last_ends (is_sized entry) entry guess (guess_is (is_sized entry) entry first guess before tries)
+-- what the last try came to, by what its answer agrees with
+pub ends_by : {σ σ1 : Standing} (entry : Entry) (outcome : Outcome) (directory : Option Directory) (deed guess a : ℕ) (before : List Made) → directory ≡ directory_read deed → TriesBy (is_sized entry) entry (guess_by (directory_read deed)) guess before
+    → Adds σ σ1 KnowsEpoch (made (last_step (is_sized entry) entry guess) a ∷ before ++ first_look entry.name deed) → CanCall σ KnowsEpoch
+    → ((v : View) → AgreesEnd σ.seat.profile (before ++ first_look entry.name deed ++ v) entry.name guess a → IsEndOf entry guess a outcome × IsOfRegion σ.seat.profile entry.name outcome) → EndsOne entry σ σ1 outcome directory
+ends_by {σ} entry outcome directory deed guess a before tells tries adds can told =
+    let last = last_ends (is_sized entry) entry guess (guess_is (is_sized entry) entry (guess_by (directory_read deed)) guess before tries) in
+    let came = told can.view (last.agrees σ.seat.profile (before ++ first_look entry.name deed ++ can.view) a (adds.agreed can.view can.whole can.stood can.met).0) in
+    record {
+      steps = made (last_step (is_sized entry) entry guess) a ∷ before ++ first_look entry.name deed;
+      adds = adds;
+      order = record { deed = deed; before = before; guess = guess; answer = a; tries = tries; comes_to = came.0; steps_are = refl };
+      of_region = came.1;
+      tells = tells;
+    }
 
+-- by the name alone
+pub ends_named : {σ σ1 σ2 : Standing} (name : Name) (outcome : Outcome) (directory : Option Directory) (deed guess a : ℕ) (before : List Made) → directory ≡ directory_read deed → Tries name (guess_by (directory_read deed)) guess before → Adds σ σ1 KnowsEpoch (before ++ first_look name deed) → Makes σ1 σ2 (End name guess) a
+    → CanCall σ KnowsEpoch → ((v : View) → AgreesEnd σ.seat.profile (before ++ first_look name deed ++ v) name guess a → IsEndOf (entry_of name) guess a outcome × IsOfRegion σ.seat.profile name outcome) → EndsOne (entry_of name) σ σ2 outcome directory
+ends_named name outcome directory deed guess a before tells tries adds makes = ends_by (entry_of name) outcome directory deed guess a before tells tries (tried name deed (guess_by (directory_read deed)) guess a before tries adds makes)
+
+-- an entry with a room has the one try
+pub ends_by_room : {σ σ1 σ2 : Standing} (entry : Entry) (outcome : Outcome) (directory : Option Directory) (deed a : ℕ) → is_sized entry ≡ true → directory ≡ directory_read deed → Adds σ σ1 KnowsEpoch (first_look entry.name deed) → Makes σ1 σ2 (EndSized entry.name entry.room) a
+    → CanCall σ KnowsEpoch → ((v : View) → AgreesEnd σ.seat.profile (first_look entry.name deed ++ v) entry.name (entry.room / 16) a → IsEndOf entry (entry.room / 16) a outcome × IsOfRegion σ.seat.profile entry.name outcome) → EndsOne entry σ σ2 outcome directory
+ends_by_room {σ} {σ2 = σ2} entry outcome directory deed a sized tells adds makes can told =
+    ends_by entry outcome directory deed (entry.room / 16) a [] tells (subst (λ t. TriesBy t entry (guess_by (directory_read deed)) (entry.room / 16) []) (sym sized) (refl, refl))
+    (subst (λ t. Adds σ σ2 KnowsEpoch (made (last_step t entry (entry.room / 16)) a ∷ first_look entry.name deed)) (sym sized) (adds_step adds makes (λ v l stood met. met))) can told
+
+-- ---- the tries before the last one change nothing
 idle_before : (t : Bool) (entry : Entry) (deed first guess : ℕ) (before : List Made) → TriesBy t entry first guess before → AreIdle (before ++ first_look entry.name deed)
 idle_before true entry deed first guess before tries = subst (λ s. AreIdle (s ++ first_look entry.name deed)) (sym tries.1) (idle_look entry.name deed)
 idle_before false entry deed first guess before tries = tries_idle entry.name deed first guess before tries
 
-last_kind : (entry : Entry) (guess : ℕ) (ks : Kinds) → Last entry guess → is_in ks Ending ≡ true → is_in ks (kind_of (last_step (is_sized entry) entry guess)) ≡ true
-last_kind entry guess ks last is = ap (is_in ks) last.kind ∙ is
+module _ {σ σ1 : Standing} {entry : Entry} {outcome : Outcome} {directory : Option Directory} (e : EndsOne entry σ σ1 outcome directory) where
+  abbrev first_steps : List Made
+  first_steps = e.order.before ++ first_look entry.name e.order.deed
+
+  idle : AreIdle first_steps
+  idle = idle_before (is_sized entry) entry e.order.deed (guess_by (directory_read e.order.deed)) e.order.guess e.order.before e.order.tries
+
+  last : EndsWith entry.name e.order.guess (last_step (is_sized entry) entry e.order.guess)
+  last = last_ends (is_sized entry) entry e.order.guess (guess_is (is_sized entry) entry (guess_by (directory_read e.order.deed)) e.order.guess e.order.before e.order.tries)
+
+  end_kinds : Only ending e.steps
+  end_kinds = subst (Only ending) (sym e.order.steps_are) (ap (is_in ending) last.kind, only_within trying ending first_steps refl idle.kinds)
+
+  end_stamps : (v : View) → stamps_by v e.steps ≡ []
+  end_stamps v = ap (stamps_by v) e.order.steps_are ∙ last.stamps (epoch_of (first_steps ++ v)) (stamps_by v first_steps) ∙ no_stamps trying refl v first_steps idle.kinds
+
+  -- the last one makes the event
+  end_shows : (k : ℕ) (v : View) (event : Event) → event_of k (epoch_of v) (last_step (is_sized entry) entry e.order.guess) e.order.answer ≡ Some event → events_by k v e.steps ≡ event ∷ []
+  end_shows k v event is =
+      ap (events_by k v) e.order.steps_are
+      ∙ ap (λ o. with_event (event_of k (or_zero o) (last_step (is_sized entry) entry e.order.guess) e.order.answer) (events_by k v first_steps)) (epoch_same trying refl first_steps v idle.kinds)
+      ∙ ap (λ o. with_event o (events_by k v first_steps)) is ∙ ap (λ es. event ∷ es) (idle.events k v)
 
 -- ---- a name that was refused
 pub not_ended : (t : Bool) (name : Name) (guess a : ℕ) → name.turn < 2 ^ 40 - 1 → IsRefusedBy t name guess a → a ≢ live_word name.turn guess
 not_ended true name guess a turn refused = refused
 not_ended false name guess a turn refused = not_live name guess a turn refused
 
-refused_event : (k : ℕ) (entry : Entry) (guess a read : ℕ) (pre : List Made) (v : View) → AreIdle pre → (is_sized entry ≡ true → guess ≡ entry.room / 16) → a ≢ live_word entry.name.turn guess → IsRefusedBy (is_sized entry) entry.name guess a → read ≡ a
-    → events_by k v (ending_steps entry guess a pre) ≡ event_for k (epoch_of v) entry (Refused read) ∷ []
-refused_event k entry guess a read pre v idle is ne refused same =
-    ap (λ o. with_event o (events_by k v pre)) (last_refused (is_sized entry) entry guess k (epoch_of (pre ++ v)) a is refused ne)
-    ∙ ap (λ es. Event.Reject k entry.name (reason_for entry a) ∷ es) (idle.events k v) ∙ ap (λ n. Event.Reject k entry.name (reason_for entry n) ∷ []) (sym same)
-
 pub came_to : {σ σ1 : Standing} {entry : Entry} {directory : Option Directory} {outcome : Outcome} (o : Outcome) → outcome ≡ o → EndsOne entry σ σ1 outcome directory → EndsOne entry σ σ1 o directory
 came_to {σ} {σ1} {entry} {directory} o is e = subst (λ x. EndsOne entry σ σ1 x directory) is e
 
 pub entry_refused : {σ σ1 : Standing} (entry : Entry) (read : ℕ) (directory : Option Directory) → IsEntryOf σ.seat.profile entry → EndsOne entry σ σ1 (Refused read) directory → EndsEntry entry σ σ1 None
-entry_refused {σ} {σ1} entry read directory named e =
+entry_refused {σ} entry read directory named e =
     let o = e.order in
-    let pre = o.before ++ first_look entry.name o.deed in
-    let steps : List Made = ending_steps entry o.guess o.answer pre in
-    let first : ℕ = guess_by (directory_read o.deed) in
-    let idle : AreIdle pre = idle_before (is_sized entry) entry o.deed (guess_by (directory_read o.deed)) o.guess o.before o.tries in
-    let last : Last entry o.guess = last_is entry (guess_by (directory_read o.deed)) o.guess o.before o.tries in
+    let f : Profile = σ.seat.profile in
     let ne = not_ended (is_sized entry) entry.name o.guess o.answer named.name.turn o.comes_to.0 in
     record {
       outcome = Refused read;
       directory = directory;
       run_is = refl;
       range = All-nil (λ run. IsRange run.range);
-      steps = steps;
-      calls = record { adds = adds_under (subst (λ s. Adds σ σ1 KnowsEpoch s) o.steps_are e.adds) (λ v l stood met. met.epoch); leads = leads_as (nothing_then (idle.does σ.seat.profile) (last.fails σ.seat.profile o.answer ne)) (λ v met. tt) (λ v w met d. d) };
-      kinds = (last_kind entry o.guess ending last refl, only_within trying ending pre refl idle.kinds);
-      order = record { ends = steps; order = record { deed = o.deed; before = o.before; guess = o.guess; answer = o.answer; tries = o.tries; comes_to = o.comes_to; steps_are = refl }; directory = e.tells; after = []; returns = refl; steps_are = refl };
-      event = λ v. refused_event σ.seat.actor entry o.guess o.answer read pre v idle (guess_is (is_sized entry) entry (guess_by (directory_read o.deed)) o.guess o.before o.tries) ne o.comes_to.0 o.comes_to.1;
-      stamps = λ v. last.stamps (epoch_of (pre ++ v)) (stamps_by v pre) ∙ no_stamps trying refl v pre idle.kinds;
+      steps = e.steps;
+      calls = record { adds = adds_under e.adds (λ v l stood met. met.epoch); leads = leads_as (subst (Leads f AnyView (Does nothing)) (sym o.steps_are) (nothing_then ((idle e).does f) ((last e).fails f o.answer ne))) (λ v met. tt) (λ v w met d. d) };
+      kinds = end_kinds e;
+      order = record { ends = e.steps; order = o; directory = e.tells; after = []; returns = refl; steps_are = refl };
+      event = λ v. end_shows e σ.seat.actor v (event_for σ.seat.actor (epoch_of v) entry (Refused read))
+          (last_refused (is_sized entry) entry o.guess σ.seat.actor (epoch_of v) o.answer (guess_is (is_sized entry) entry (guess_by (directory_read o.deed)) o.guess o.before o.tries) o.comes_to.0 ne
+          ∙ ap (λ n. Some (Event.Reject σ.seat.actor entry.name (reason_for entry n))) (sym o.comes_to.1));
+      stamps = end_stamps e;
     }
 
--- ---- a block that ended
-ended_held : (t inside : Bool) (held : Bool) (g : ℕ) → t ≡ true → inside ≡ true → held_after (if t && inside then Ends g else Stays) held ≡ true
-ended_held t inside held g a b = ap (λ x. held_after (if x && inside then Ends g else Stays) held) a ∙ ap (λ x. held_after (if x then Ends g else Stays) held) b
-
-pub may_return : (entry : Entry) (guess a : ℕ) (pre : List Made) (v : View) → AreIdle pre → Last entry guess → a ≡ live_word entry.name.turn guess → MayEnd v → MayReturn (grain_of entry.name) guess (ending_steps entry guess a pre ++ v)
-may_return entry guess a pre v idle last live met = let name = entry.name in record {
-  held = λ x inside. ap (λ m. held_after m (holds (pre ++ v) x)) (last.moves a x) ∙ ended_held (a == live_word name.turn guess) (in_run (grain_of name) guess x) (holds (pre ++ v) x) (grain_of name) (eq-eqb a (live_word name.turn guess) live) inside;
-  ended = λ page meets. inl (last.ends a page ∙ and_from (a == live_word name.turn guess) (meets_page (grain_of name) guess page) (eq-eqb a (live_word name.turn guess) live) meets);
-  examined = λ page meets. unexamined_over ending refl page (ending_steps entry guess a pre) v (last_kind entry guess ending last refl, only_within trying ending pre refl idle.kinds) (met.examined page);
-  epoch = subst IsEpochKnown (sym (epoch_same ending refl (ending_steps entry guess a pre) v (last_kind entry guess ending last refl, only_within trying ending pre refl idle.kinds))) met.epoch;
-}
-
--- ---- what it does
--- the tries and the end
-ends_block : (f : Profile) (entry : Entry) (guess a : ℕ) (pre : List Made) → AreIdle pre → Last entry guess → a ≡ live_word entry.name.turn guess → Leads f AnyView (EndsBlock (grain_of entry.name) guess) (ending_steps entry guess a pre)
-ends_block f entry guess a pre idle last live = leads_then (EndsBlock (grain_of entry.name) guess) (idle.does f) (last.hits f a live) (λ v w met d. tt)
-    (λ v w u d e. end_later (grain_of entry.name) guess d e)
-
--- each page that the run meets is one of its pages
-page_of_run : (g n page : ℕ) → 1 ≤ n → meets_page g n page ≡ true → in_run (g / 256) (page_count g n) page ≡ true
-page_of_run g n page some meets =
-    let at = met_by g n page meets in let low = at.0 in let high = at.1 in
-    let c = count_some g n some in
-    to_run (g / 256) (page_count g n) page (omega (arith, low)) (omega (arith, c, low, high))
-
-ended_event : (k : ℕ) (entry : Entry) (guess a : ℕ) (pre after : List Made) (v : View) → AreIdle pre → Last entry guess → a ≡ live_word entry.name.turn guess → Only putting_back after → events_by k v (after ++ ending_steps entry guess a pre) ≡ Event.End k entry.name (epoch_of v) ∷ []
-ended_event k entry guess a pre after v idle last live kinds =
-    events_same putting_back refl k v after (ending_steps entry guess a pre) kinds
-    ∙ ap (λ o. with_event o (events_by k v pre)) (last.event k (epoch_of (pre ++ v)) a live)
-    ∙ ap (λ es. Event.End k entry.name (epoch_of (pre ++ v)) ∷ es) (idle.events k v)
-    ∙ ap (λ o. Event.End k entry.name (or_zero o) ∷ []) (epoch_same trying refl pre v idle.kinds)
-
-ended_stamps : (entry : Entry) (guess a : ℕ) (pre after : List Made) (v : View) → AreIdle pre → Last entry guess → PutsBack (grain_of entry.name) guess after → stamps_by v (after ++ ending_steps entry guess a pre) ≡ stamps_with (epoch_of v) (pages_met (grain_of entry.name) guess)
-ended_stamps entry guess a pre after v idle last back = let name = entry.name in
-    stamps_append v after (ending_steps entry guess a pre)
-    ∙ ap (λ s. s ++ stamps_by v (ending_steps entry guess a pre)) (back.stamps (ending_steps entry guess a pre ++ v))
-    ∙ ap (λ s. stamps_with (epoch_of (ending_steps entry guess a pre ++ v)) (pages_met (grain_of name) guess) ++ s) (last.stamps (epoch_of (pre ++ v)) (stamps_by v pre) ∙ no_stamps trying refl v pre idle.kinds)
-    ∙ append-nil (stamps_with (epoch_of (ending_steps entry guess a pre ++ v)) (pages_met (grain_of name) guess))
-    ∙ ap (λ o. stamps_with (or_zero o) (pages_met (grain_of name) guess)) (epoch_same ending refl (ending_steps entry guess a pre) v (last_kind entry guess ending last refl, only_within trying ending pre refl idle.kinds))
-
--- the end, with its parts
-pub record IsEnded (entry : Entry) (grains : ℕ) (directory : Option Directory) (σ σ1 : Standing) : Type 0 where
-  pub guess : ℕ
-  pub answer : ℕ
-  pub pre : List Made
-  pub idle : AreIdle pre
-  pub last : EndsWith entry.name guess (last_step (is_sized entry) entry guess)
-  pub live : answer ≡ live_word entry.name.turn guess
-  pub length_is : grains ≡ guess
-  pub some : 1 ≤ guess
-  pub calls : Calls σ σ1 MayEnd (λ v w. EndsBlock (grain_of entry.name) grains v w × MayReturn (grain_of entry.name) grains w) (ending_steps entry guess answer pre)
-  pub order : EndSteps entry (Ended grains) (ending_steps entry guess answer pre)
-  pub tells : directory ≡ directory_read order.deed
-  pub of_region : IsRun σ.seat.profile (grain_of entry.name) grains
-
-pub is_ended : {σ σ1 : Standing} (entry : Entry) (grains : ℕ) (directory : Option Directory) → EndsOne entry σ σ1 (Ended grains) directory → IsEnded entry grains directory σ σ1
-is_ended {σ} {σ1} entry grains directory e =
-    let name = entry.name in
-    let o = e.order in
-    let pre = o.before ++ first_look entry.name o.deed in
-    let idle : AreIdle pre = idle_before (is_sized entry) entry o.deed (guess_by (directory_read o.deed)) o.guess o.before o.tries in
-    let last : Last entry o.guess = last_is entry (guess_by (directory_read o.deed)) o.guess o.before o.tries in
-    record {
-      guess = o.guess;
-      answer = o.answer;
-      pre = pre;
-      idle = idle;
-      last = last;
-      live = o.comes_to.0;
-      length_is = o.comes_to.1;
-      some = subst (λ n. 1 ≤ n) o.comes_to.1 e.of_region.some;
-      calls = record {
-        adds = adds_under (subst (λ s. Adds σ σ1 KnowsEpoch s) o.steps_are e.adds) (λ v l stood met. met.epoch);
-        leads = record {
-          from = λ v met agreed. subst (λ n. EndsBlock (grain_of name) n v (ending_steps entry o.guess o.answer pre ++ v) × MayReturn (grain_of name) n (ending_steps entry o.guess o.answer pre ++ v)) (sym o.comes_to.1)
-              ((ends_block σ.seat.profile entry o.guess o.answer pre idle last o.comes_to.0).from v tt agreed, may_return entry o.guess o.answer pre v idle last o.comes_to.0 met);
-        };
-      };
-      order = record { deed = o.deed; before = o.before; guess = o.guess; answer = o.answer; tries = o.tries; comes_to = o.comes_to; steps_are = refl };
-      tells = e.tells;
-      of_region = e.of_region;
-    }
-
--- the pages of a large block are some
+-- ---- the pages of a large block are some
 range_of_kind : (kind : Kind) (heap : ℕ) (range : Range) → IsRange range → AreRanges (option_to_list (run_of_kind kind heap range))
 range_of_kind Kind.Large heap range is = All-cons (λ run. IsRange run.range) (record { heap = heap; range = range }) [] is (All-nil (λ run. IsRange run.range))
 range_of_kind kind heap range is = All-nil (λ run. IsRange run.range)
@@ -716,23 +596,57 @@ whole_range f name grains directory valid run = elim (cases_Bool (is_whole name 
   | inr other ↦ subst (λ t. AreRanges (option_to_list (if t then run_in directory (range_of name grains) else None))) (sym other) (All-nil (λ run. IsRange run.range))
 ]
 
--- whoever ended a block and put its grains back is as before
-pub entry_ended : {σ σ1 σ2 : Standing} (entry : Entry) (grains : ℕ) (directory : Option Directory) (run : Option EndedRun) → IsValid σ.seat.profile → IsEnded entry grains directory σ σ1 → ReturnsRun (grain_of entry.name) grains σ1 σ2 → run ≡ large_run entry.name grains directory → EndsEntry entry σ σ2 run
-entry_ended {σ} {σ1} {σ2} entry grains directory run valid e r is =
-    let name = entry.name in
-    let g = grain_of name in
-    let ends : List Made = ending_steps entry e.guess e.answer e.pre in
-    let some : 1 ≤ grains = subst (λ n. 1 ≤ n) (sym e.length_is) e.some in
-    let back : PutsBack g e.guess r.steps = subst (λ n. PutsBack g n r.steps) e.length_is r.back in
-    record {
-      outcome = Ended grains;
-      directory = directory;
-      run_is = ap option_to_list is;
-      range = subst (λ o. AreRanges (option_to_list o)) (sym is) (whole_range σ.seat.profile name grains directory valid e.of_region);
-      steps = r.steps ++ ends;
-      calls = call_then (Does nothing) e.calls r.calls (λ v met q. q.1) (λ v met q b. ends_back g grains (in_run (g / 256) (page_count g grains)) q.0 b (λ page. page_of_run g grains page some));
-      kinds = only_both ending r.steps ends (only_within putting_back ending r.steps refl r.back.kinds) (last_kind entry e.guess ending e.last refl, only_within trying ending e.pre refl e.idle.kinds);
-      order = record { ends = ends; order = e.order; directory = e.tells; after = r.steps; returns = r.order; steps_are = refl };
-      event = λ v. ended_event σ.seat.actor entry e.guess e.answer e.pre r.steps v e.idle e.last e.live r.back.kinds;
-      stamps = λ v. ended_stamps entry e.guess e.answer e.pre r.steps v e.idle e.last back ∙ ap (λ n. stamps_with (epoch_of v) (pages_met (grain_of name) n)) (sym e.length_is);
-    }
+-- ---- a block that ended
+ended_held : (t inside : Bool) (held : Bool) (g : ℕ) → t ≡ true → inside ≡ true → held_after (if t && inside then Ends g else Stays) held ≡ true
+ended_held t inside held g a b = ap (λ x. held_after (if x && inside then Ends g else Stays) held) a ∙ ap (λ x. held_after (if x then Ends g else Stays) held) b
+
+-- each page that the run meets is one of its pages
+page_of_run : (g n page : ℕ) → 1 ≤ n → meets_page g n page ≡ true → in_run (g / 256) (page_count g n) page ≡ true
+page_of_run g n page some meets =
+    let at = met_by g n page meets in let low = at.0 in let high = at.1 in
+    let c = count_some g n some in
+    to_run (g / 256) (page_count g n) page (omega (arith, low)) (omega (arith, c, low, high))
+
+module _ {σ σ1 : Standing} {entry : Entry} {grains : ℕ} {directory : Option Directory} (e : EndsOne entry σ σ1 (Ended grains) directory) where
+  abbrev g : ℕ
+  g = grain_of entry.name
+
+  ended_last : EndsWith entry.name grains (last_step (is_sized entry) entry e.order.guess)
+  ended_last = subst (λ n. EndsWith entry.name n (last_step (is_sized entry) entry e.order.guess)) (sym e.order.comes_to.1) (last e)
+
+  lived : e.order.answer ≡ live_word entry.name.turn grains
+  lived = e.order.comes_to.0 ∙ ap (live_word entry.name.turn) (sym e.order.comes_to.1)
+
+  may_return : (v : View) → MayEnd v → MayReturn g grains (e.steps ++ v)
+  may_return v met = let a = e.order.answer in let live = live_word entry.name.turn grains in record {
+    held = λ x inside. ap (λ s. holds (s ++ v) x) e.order.steps_are ∙ ap (λ m. held_after m (holds (first_steps e ++ v) x)) (ended_last.moves a x) ∙ ended_held (a == live) (in_run g grains x) (holds (first_steps e ++ v) x) g (eq-eqb a live lived) inside;
+    ended = λ page meets. subst (λ s. EndedOn (s ++ v) page) (sym e.order.steps_are) (inl (ended_last.ends a page ∙ and_from (a == live) (meets_page g grains page) (eq-eqb a live lived) meets));
+    examined = λ page meets. unexamined_over ending refl page e.steps v (end_kinds e) (met.examined page);
+    epoch = subst IsEpochKnown (sym (epoch_same ending refl e.steps v (end_kinds e))) met.epoch;
+  }
+
+  -- the tries and the end
+  ends_block : Leads σ.seat.profile AnyView (EndsBlock g grains) e.steps
+  ends_block = subst (Leads σ.seat.profile AnyView (EndsBlock g grains)) (sym e.order.steps_are)
+      (leads_then (EndsBlock g grains) ((idle e).does σ.seat.profile) (ended_last.hits σ.seat.profile e.order.answer lived) (λ v w met d. tt) (λ v w u d x. end_later g grains d x))
+
+  pub ended_call : Calls σ σ1 MayEnd (λ v w. EndsBlock g grains v w × MayReturn g grains w) e.steps
+  ended_call = record { adds = adds_under e.adds (λ v l stood met. met.epoch); leads = record { from = λ v met agreed. (ends_block.from v tt agreed, may_return v met) } }
+
+  -- whoever ended it and put its grains back is as before
+  pub entry_ended : {σ2 : Standing} (run : Option EndedRun) → IsValid σ.seat.profile → ReturnsRun g grains σ1 σ2 → run ≡ large_run entry.name grains directory → EndsEntry entry σ σ2 run
+  entry_ended run valid r is = record {
+    outcome = Ended grains;
+    directory = directory;
+    run_is = ap option_to_list is;
+    range = subst (λ o. AreRanges (option_to_list o)) (sym is) (whole_range σ.seat.profile entry.name grains directory valid e.of_region);
+    steps = r.steps ++ e.steps;
+    calls = call_then (Does nothing) ended_call r.calls (λ v met q. q.1) (λ v met q b. ends_back g grains (in_run (g / 256) (page_count g grains)) q.0 b (λ page. page_of_run g grains page e.of_region.some));
+    kinds = only_both ending r.steps e.steps (only_within putting_back ending r.steps refl r.back.kinds) (end_kinds e);
+    order = record { ends = e.steps; order = e.order; directory = e.tells; after = r.steps; returns = r.order; steps_are = refl };
+    event = λ v. events_same putting_back refl σ.seat.actor v r.steps e.steps r.back.kinds ∙ end_shows e σ.seat.actor v (Event.End σ.seat.actor entry.name (epoch_of v)) (ended_last.event σ.seat.actor (epoch_of v) e.order.answer lived);
+    stamps = λ v.
+        stamps_append v r.steps e.steps ∙ ap (λ s. s ++ stamps_by v e.steps) (r.back.stamps (e.steps ++ v))
+        ∙ ap (λ s. stamps_with (epoch_of (e.steps ++ v)) (pages_met g grains) ++ s) (end_stamps e v) ∙ append-nil (stamps_with (epoch_of (e.steps ++ v)) (pages_met g grains))
+        ∙ ap (λ o. stamps_with (or_zero o) (pages_met g grains)) (epoch_same ending refl e.steps v (end_kinds e));
+  }

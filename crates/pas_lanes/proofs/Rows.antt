@@ -1,13 +1,21 @@
--- Words of a row, and rows of which so many words were read.
-use Rattle.std.proofs.Common.{◌≡◌, ◌≢◌, ℕ, ◌+◌, ◌-◌, ◌*◌, ◌/◌, ◌%◌, ◌^◌, ◌<◌, ◌≤◌, ◌==◌, ◌&&◌, not, Bool, true, false, List, length, slice_index, inl, inr, ap, sym, ◌∙◌, arith, bit_and}
+-- Rows of words: their bits, rows of which so many words were read, groups of words in lanes, and how many bits are set.
+use Rattle.std.proofs.Common.{◌≡◌, ◌≢◌, ℕ, ◌+◌, ◌-◌, ◌*◌, ◌/◌, ◌%◌, ◌^◌, ◌<◌, ◌≤◌, ◌==◌, ◌&&◌, not, Bool, true, false, List, length, slice_index, inl, inr, ap, sym, ◌∙◌, arith, bit_and, zero, suc, [], ◌∷◌, map, bit_or, if◌then◌else◌, take, drop, subst, refl, add-one, add-zero}
 use Rattle.std.specs.Int.{w64, trailing_zeros}
 use Rattle.std.proofs.lemmas.Bool.{cases_lt}
-use Rattle.std.proofs.lemmas.List.{get_or_past}
-use Rattle.std.proofs.lemmas.Nat.{and_le_l}
+use Rattle.std.proofs.lemmas.List.{get_or_past, get_or-map, length-map}
+use Rattle.std.proofs.lemmas.Nat.{and_le_l, le_or_l, le_or_r}
 use Rattle.std.proofs.lemmas.Nat.Bits.{bit_at-trailing_zeros}
 use Rattle.pas_profile.specs.Classes.{has_bit}
 use Rattle.pas_bits.proofs.Words.{none_of_zero, bit_of_and, bit_of_not}
-use Rattle.pas_lanes.specs.Rows.{is_set, IsClearBelow, IsEmpty, HasMember, IsLowestSet, IsWithinBelow, IsWithin, HasMemberOutside}
+use Rattle.pas_lanes.specs.Rows.{is_set, IsClearBelow, HasMember, IsLowestSet, IsWithinBelow, HasMemberOutside, set_count}
+use Rattle.std.specs.Simd.Lanes.{chunk, fold_l, zip2, sum_l}
+use Rattle.std.proofs.lemmas.Simd.{get_or-chunk, get_or-zip2, length-chunk}
+use Rattle.std.specs.Int.RustNames.{count_ones}
+use Rattle.std.proofs.Math.Seq.{drop-cons}
+use Rattle.pas_profile.specs.Runs.{count_below}
+use Rattle.pas_profile.proofs.Counts.{count_same, count_add, count_suc, ones_counted}
+
+-- ==== Words of a row, and rows of which so many words were read.
 
 -- each word of the row fits
 abbrev pub WordsFit : List ℕ → Type 0
@@ -26,7 +34,7 @@ pub none_past : (words : List ℕ) (x : ℕ) → 64 * length words ≤ x → is_
 none_past words x h = ap (λ n. has_bit n (x % 64)) (get_or_past words (x / 64) 0 (omega (arith, h))) ∙ none_of_zero (x % 64)
 
 clear_word : (words : List ℕ) (x : ℕ) → slice_index words (x / 64) ≡ 0 → is_set words x ≡ false
-clear_word words x zero = ap (λ n. has_bit n (x % 64)) zero ∙ none_of_zero (x % 64)
+clear_word words x bare = ap (λ n. has_bit n (x % 64)) bare ∙ none_of_zero (x % 64)
 
 -- ---- the lowest set bit of a word
 record IsLowestBit (n bit : ℕ) : Type 0 where
@@ -45,16 +53,10 @@ lowest_bit n some fits =
 
 -- ---- rows without a set bit so far
 pub clear_more : (words : List ℕ) (start end : ℕ) → ((k : ℕ) → start ≤ k → k < end → slice_index words k ≡ 0) → IsClearBelow words (64 * start) → IsClearBelow words (64 * end)
-clear_more words start end zero clear x h = elim (cases_lt x (64 * start)) [
+clear_more words start end bare clear x h = elim (cases_lt x (64 * start)) [
   | inl lt ↦ clear x lt
-  | inr ge ↦ clear_word words x (zero (x / 64) (omega (arith, ge)) (omega (arith, h)))
+  | inr ge ↦ clear_word words x (bare (x / 64) (omega (arith, ge)) (omega (arith, h)))
 ]
-
-pub clear_one : (words : List ℕ) (word : ℕ) → slice_index words word ≡ 0 → IsClearBelow words (64 * word) → IsClearBelow words (64 * (word + 1))
-clear_one words word zero = clear_more words word (word + 1) (λ k le lt. ap (slice_index words) (omega (arith, le, lt)) ∙ zero)
-
-pub clear_whole : (words : List ℕ) (end : ℕ) → length words ≤ end → IsClearBelow words (64 * end) → IsEmpty words
-clear_whole words end all clear x = elim (cases_lt x (64 * end)) [ inl lt ↦ clear x lt | inr ge ↦ none_past words x (omega (arith, all, ge)) ]
 
 pub lowest_set : (words : List ℕ) (word : ℕ) → WordsFit words → slice_index words word ≢ 0 → IsClearBelow words (64 * word) → IsLowestSet words (64 * word + trailing_zeros w64 (slice_index words word))
 lowest_set words word fits some clear =
@@ -101,12 +103,6 @@ within_more a b start end fits none inside x h is = elim (cases_lt x (64 * start
 pub within_one : (a b : List ℕ) (word : ℕ) → WordsFit b → outside a b word ≡ 0 → IsWithinBelow a b (64 * word) → IsWithinBelow a b (64 * (word + 1))
 within_one a b word fits none = within_more a b word (word + 1) fits (λ k le lt. ap (outside a b) (omega (arith, le, lt)) ∙ none)
 
-pub within_whole : (a b : List ℕ) (end : ℕ) → length a ≤ end → IsWithinBelow a b (64 * end) → IsWithin a b
-within_whole a b end all inside x is = elim (cases_lt x (64 * end)) [
-  | inl lt ↦ inside x lt is
-  | inr ge ↦ let no_bit = none_past a x (omega (arith, all, ge)) in absurd (cc)
-]
-
 pub has_outside : (a b : List ℕ) (word : ℕ) → WordsFit a → WordsFit b → outside a b word ≢ 0 → HasMemberOutside a b
 has_outside a b word fits_a fits_b some =
     let small = and_le_l (slice_index a word) (2 ^ 64 - 1 - slice_index b word) in
@@ -115,3 +111,116 @@ has_outside a b word fits_a fits_b some =
     let low = lowest_bit (outside a b word) some (omega (arith, small, word_fits)) in
     let parts = only_first (has_bit (slice_index a word) bit) (has_bit (slice_index b word) bit) (sym (outside_bit (slice_index a word) (slice_index b word) bit (fits_b word) low.within) ∙ low.set) in
     (64 * word + bit, at_word a word bit low.within ∙ parts.0, at_word b word bit low.within ∙ parts.1)
+
+-- ==== Groups of words in lanes.
+
+-- the union of the lanes
+abbrev pub union : ℕ → List ℕ → ℕ
+union a lanes = fold_l bit_or a lanes
+
+first_below : (a : ℕ) (lanes : List ℕ) → a ≤ union a lanes
+first_below a [] = omega arith
+first_below a (x ∷ lanes) = omega (arith, le_or_l a x, first_below (bit_or a x) lanes)
+
+lane_below : (a : ℕ) (lanes : List ℕ) (k : ℕ) → slice_index lanes k ≤ union a lanes
+lane_below a [] k = omega arith
+lane_below a (x ∷ lanes) zero = omega (arith, le_or_r a x, first_below (bit_or a x) lanes)
+lane_below a (x ∷ lanes) (suc k) = lane_below (bit_or a x) lanes k
+
+lane_zero : (lanes : List ℕ) (k : ℕ) → union 0 lanes ≡ 0 → slice_index lanes k ≡ 0
+lane_zero lanes k none = let below = lane_below 0 lanes k in omega (arith, below, none)
+
+-- where a group's lanes have no bit, none of its words has one
+pub group_zero : (words : List ℕ) (start n : ℕ) → union 0 (chunk start n words) ≡ 0 → (k : ℕ) → start ≤ k → k < start + n → slice_index words k ≡ 0
+group_zero words start n none k le lt =
+    let at : start + (k - start) ≡ k = omega (arith, le) in
+    ap (slice_index words) (sym at) ∙ sym (get_or-chunk start n words (k - start) 0 (omega (arith, le, lt))) ∙ lane_zero (chunk start n words) (k - start) none
+
+-- the same of the bits that are set in the first row's group and clear in the second's
+abbrev pub outside_lanes : List ℕ → List ℕ → List ℕ
+outside_lanes xs ys = zip2 bit_and xs (map (λ y. 2 ^ 64 - 1 - y) ys)
+
+pub group_within : (a b : List ℕ) (start n : ℕ) → start + n ≤ length a → start + n ≤ length b → union 0 (outside_lanes (chunk start n a) (chunk start n b)) ≡ 0 → (k : ℕ) → start ≤ k → k < start + n → outside a b k ≡ 0
+group_within a b start n room_a room_b none k le lt =
+    let at : start + (k - start) ≡ k = omega (arith, le) in
+    let lane : k - start < n = omega (arith, le, lt) in
+    let xs = chunk start n a in
+    let ys = chunk start n b in
+    let long_a = length-chunk start n a room_a in
+    let long_b = length-chunk start n b room_b in
+    let not_ys = map (λ y. 2 ^ 64 - 1 - y) ys in
+    let long_not = length-map ys (λ (y : ℕ). 2 ^ 64 - 1 - y) in
+    let here = get_or-zip2 bit_and xs not_ys (k - start) 0 0 0 (omega (arith, lane, long_a)) (omega (arith, lane, long_b, long_not)) in
+    let other = get_or-map (λ (y : ℕ). 2 ^ 64 - 1 - y) ys (k - start) 0 0 (omega (arith, lane, long_b)) in
+    let first = get_or-chunk start n a (k - start) 0 lane ∙ ap (slice_index a) at in
+    let second = get_or-chunk start n b (k - start) 0 lane ∙ ap (slice_index b) at in
+    let whole : slice_index (outside_lanes xs ys) (k - start) ≡ outside a b k =
+    here ∙ ap (λ m. bit_and (slice_index xs (k - start)) m) other ∙ ap (λ m. bit_and m (2 ^ 64 - 1 - slice_index ys (k - start))) first ∙ ap (λ m. bit_and (slice_index a k) (2 ^ 64 - 1 - m)) second in
+    sym whole ∙ lane_zero (outside_lanes xs ys) (k - start) none
+
+-- ==== How many bits of so many words are set.
+
+-- how many bits of the first words are set
+unfoldable pub count_before : List ℕ → ℕ → ℕ
+count_before words word = count_below (64 * word) (is_set words)
+
+pub none_before : (words : List ℕ) → count_before words 0 ≡ 0
+unfolding count_before
+none_before words = refl
+
+pub whole_before : (words : List ℕ) → count_before words (length words) ≡ set_count words
+unfolding count_before set_count
+whole_before words = refl
+
+choice_most : (b : Bool) → (if b then 1 else 0) ≤ 1
+choice_most true = omega arith
+choice_most false = omega arith
+
+count_most : (n : ℕ) (p : ℕ → Bool) → count_below n p ≤ n
+count_most zero p = omega arith
+count_most (suc n) p = omega (arith, count_suc n p (p n) refl, choice_most (p n), count_most n p)
+
+pub before_most : (words : List ℕ) (word : ℕ) → count_before words word ≤ 64 * word
+unfolding count_before
+before_most words word = count_most (64 * word) (is_set words)
+
+pub set_most : (words : List ℕ) → set_count words ≤ 64 * length words
+unfolding set_count
+set_most words = count_most (64 * length words) (is_set words)
+
+-- ---- one more word
+next_word : (words : List ℕ) (word k : ℕ) → k ≡ 64 → WordsFit words → count_below (k * (word + 1)) (is_set words) ≡ count_below (k * word) (is_set words) + count_ones (slice_index words word)
+next_word words word k width fits =
+    let split : k * (word + 1) ≡ k * word + k = omega arith in
+    let two = count_add (k * word) k (is_set words) in
+    let here : count_below k (λ b. is_set words (k * word + b)) ≡ count_below k (has_bit (slice_index words word)) =
+    count_same k _ _ (λ b h. ap (λ n. is_set words (n * word + b)) width ∙ at_word words word b (omega (arith, width, h))) in
+    let ones = ones_counted k (slice_index words word) (subst (λ n. slice_index words word < 2 ^ n) (sym width) (fits word)) in
+    ap (λ n. count_below n (is_set words)) split ∙ omega (arith, two, here, ones)
+
+pub word_more : (words : List ℕ) (word : ℕ) → WordsFit words → count_before words (word + 1) ≡ count_before words word + count_ones (slice_index words word)
+unfolding count_before
+word_more words word = next_word words word 64 refl
+
+-- ---- one more group
+-- the counts of a group's lanes, each as a lane again
+abbrev pub lane_counts : List ℕ → List ℕ
+lane_counts lanes = map (λ (n : ℕ). n) (map count_ones lanes)
+
+group_next : (words : List ℕ) (start n : ℕ) → start < length words → chunk start (suc n) words ≡ slice_index words start ∷ chunk (start + 1) n words
+group_next words start n h =
+    ap (take (suc n)) (drop-cons words start 0 h) ∙ ap (λ (i : ℕ). slice_index words start ∷ take n (drop i words)) (sym (add-one start))
+
+pub group_more : (words : List ℕ) (start n : ℕ) → start + n ≤ length words → WordsFit words → count_before words (start + n) ≡ count_before words start + sum_l (lane_counts (chunk start n words))
+group_more words start zero room fits = ap (count_before words) (add-zero start) ∙ omega arith
+group_more words start (suc n) room fits =
+    let first = group_next words start n (omega (arith, room)) in
+    let rest = group_more words (start + 1) n (omega (arith, room)) fits in
+    let word = word_more words start fits in
+    let sums : sum_l (lane_counts (chunk start (suc n) words)) ≡ count_ones (slice_index words start) + sum_l (lane_counts (chunk (start + 1) n words)) = ap (λ xs. sum_l (lane_counts xs)) first in
+    let at : start + suc n ≡ start + 1 + n = omega arith in
+    ap (count_before words) at ∙ omega (arith, rest, word, sums)
+
+pub length_counts : (words : List ℕ) (start n : ℕ) → start + n ≤ length words → length (lane_counts (chunk start n words)) ≡ n
+length_counts words start n room =
+    length-map (map count_ones (chunk start n words)) (λ (x : ℕ). x) ∙ length-map (chunk start n words) count_ones ∙ length-chunk start n words room

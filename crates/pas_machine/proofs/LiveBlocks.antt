@@ -133,33 +133,28 @@ borne_if f es es' true a k block old b e new before h x r =
     subst (λ (l : Block). Bears f es' l.heap (x / 256)) is (new x here)
 borne_if f es es' false a k block old b e new before h x r = before b h x r
 
+-- a page goes on bearing where its deed and its backing are as they were
+still_bears : (f : Profile) (es es' : List Event) (heap page : ℕ) (old : Bears f es heap page) → deed_in es' page ≡ Some old.directory → backed_in es' page ≡ true → Bears f es' heap page
+still_bears f es es' heap page old deed backed = record { exists = old.exists; directory = old.directory; deed = deed; of_heap = old.of_heap; backed = backed }
+
 pub all_borne : (f : Profile) (es : List Event) → Run f es → AreBorne f es
 all_borne f [] run a b h x r = absurd (none-some _ h)
 all_borne f (Event.Deed k p d ∷ es) run a b h x r =
     let old : Bears f es b.block.heap (x / 256) = all_borne f es run.1 a b h x r in
-    record { exists = old.exists; directory = old.directory; deed = same_deed (p == x / 256) d old.directory (deed_in es (x / 256)) (λ t. ap (deed_in es) (sym (eqb-true p (x / 256) t)) ∙ run.0.2) old.deed; of_heap = old.of_heap; backed = old.backed }
+    still_bears f es (Event.Deed k p d ∷ es) b.block.heap (x / 256) old (same_deed (p == x / 256) d old.directory (deed_in es (x / 256)) (λ t. ap (deed_in es) (sym (eqb-true p (x / 256) t)) ∙ run.0.2) old.deed) old.backed
 all_borne f (Event.Back k p ∷ es) run a b h x r =
     let old : Bears f es b.block.heap (x / 256) = all_borne f es run.1 a b h x r in
-    record { exists = old.exists; directory = old.directory; deed = old.deed; of_heap = old.of_heap; backed = stays_backed (p == x / 256) (backed_in es (x / 256)) old.backed }
+    still_bears f es (Event.Back k p ∷ es) b.block.heap (x / 256) old old.deed (stays_backed (p == x / 256) (backed_in es (x / 256)) old.backed)
 all_borne f (Event.Unback k p e ∷ es) run a b h x r =
     let old : Bears f es b.block.heap (x / 256) = all_borne f es run.1 a b h x r in
     let there : touches (live_in es a) (x / 256) ≡ true = ap (λ o. touches o (x / 256)) h ∙ ap (λ n. meets_page (n / 16) (length_of b.block) (x / 256)) (lives_where f es run.1 a b h) ∙ run_meets (a / 16) (length_of b.block) x r in
-    record {
-      exists = old.exists;
-      directory = old.directory;
-      deed = old.deed;
-      of_heap = old.of_heap;
-      backed = not_unbacked (p == x / 256) (backed_in es (x / 256)) (λ t. false≢true (sym (run.0.2 a) ∙ ap (touches (live_in es a)) (eqb-true p (x / 256) t) ∙ there)) old.backed;
-    }
+    still_bears f es (Event.Unback k p e ∷ es) b.block.heap (x / 256) old old.deed
+    (not_unbacked (p == x / 256) (backed_in es (x / 256)) (λ t. false≢true (sym (run.0.2 a) ∙ ap (touches (live_in es a)) (eqb-true p (x / 256) t) ∙ there)) old.backed)
 all_borne f (Event.Give k block ∷ es) run a b h x r = borne_if f es (Event.Give k block ∷ es) (address_of block.name == a) a k block (live_in es a) b refl
-    (λ y q. give_bears f es (Event.Give k block) k block block.heap (y / 256) (run.0.bears y q))
-    (λ l o y q. give_bears f es (Event.Give k block) k block l.block.heap (y / 256) (all_borne f es run.1 a l o y q)) h x r
-  where
-    give_bears : (f : Profile) (es : List Event) (e : Event) (k : ℕ) (block : Block) (heap page : ℕ) → Bears f es heap page → Bears f (Event.Give k block ∷ es) heap page
-    give_bears f es e k block heap page old = record { exists = old.exists; directory = old.directory; deed = old.deed; of_heap = old.of_heap; backed = old.backed }
+    (λ y q. let old = run.0.bears y q in still_bears f es (Event.Give k block ∷ es) block.heap (y / 256) old old.deed old.backed)
+    (λ l o y q. let old = all_borne f es run.1 a l o y q in still_bears f es (Event.Give k block ∷ es) l.block.heap (y / 256) old old.deed old.backed) h x r
 all_borne f (Event.End k name e ∷ es) run a b h x r =
     let old : Bears f es b.block.heap (x / 256) = ended_if (λ (l : Live). in_run (a / 16) (length_of l.block) x ≡ true → Bears f es l.block.heap (x / 256)) (address_of name == a) (live_in es a) b (λ l o q. all_borne f es run.1 a l o x q) h r in
-    record { exists = old.exists; directory = old.directory; deed = old.deed; of_heap = old.of_heap; backed = old.backed }
+    still_bears f es (Event.End k name e ∷ es) b.block.heap (x / 256) old old.deed old.backed
 all_borne f (Event.Reject k name why ∷ es) run a b h x r =
-    let old : Bears f es b.block.heap (x / 256) = all_borne f es run.1 a b h x r in
-    record { exists = old.exists; directory = old.directory; deed = old.deed; of_heap = old.of_heap; backed = old.backed }
+    let old : Bears f es b.block.heap (x / 256) = all_borne f es run.1 a b h x r in still_bears f es (Event.Reject k name why ∷ es) b.block.heap (x / 256) old old.deed old.backed

@@ -13,7 +13,7 @@ use Rattle.pas_profile.specs.Runs.{in_run, address_of, grain_of, length_of, meet
 use Rattle.pas_profile.proofs.Runs.{first_of_run, run_of, to_run, run_meets, met, to_meet, at_place, IsMet}
 use Rattle.pas_machine.specs.State.{Live, deed_in, backed_in, live_in, gives_in, ends_in, epoch_in, touches}
 use Rattle.pas_machine.specs.Machine.{Run, Admits, MayGive, Bears, IsLive, HasOtherRoom, IsReason, IsPlace}
-use Rattle.pas_machine.specs.Reasons.{reason_number, Applies, IsFirst, IsOutside, IsNoPlace, IsNoRun, IsGrainOf, HasDeedOf, Covers}
+use Rattle.pas_machine.specs.Reasons.{reason_number, Applies, IsFirst, IsVerdict, IsOutside, IsNoPlace, IsNoRun, IsGrainOf, HasDeedOf, Covers}
 use Rattle.pas_machine.specs.declared.fault.Illegal.{Illegal}
 use Rattle.std.proofs.lemmas.Option.{none-some, same_Some}
 use Rattle.std.specs.Prelude.{nat_lt, MatchBool}
@@ -21,7 +21,7 @@ use Rattle.std.proofs.Math.Logic.{∥∥₁_elim, ∥∥₁_map}
 use Rattle.std.specs.Coded.{le_prop}
 use Rattle.std.proofs.lemmas.List.{get_or_default, get_or-replicate}
 use Rattle.pas_machine.specs.Laws.{IsCounted}
-use Rattle.pas_machine.specs.Places.{Shows, IsLiveBlock, IsCovered, IsSome, IsEach, IsOfHeap, IsWhole, IsWithin, IsInside, blank_page, blank_place, block_of, page_in, place_in, grains_of, ended_at}
+use Rattle.pas_machine.specs.Places.{Shows, IsLiveBlock, IsCovered, IsSome, IsEach, IsWhole, IsWithin, IsInside, blank_page, blank_place, block_of, page_in, place_in, grains_of, ended_at}
 use Rattle.pas_machine.specs.declared.places.Page.{Page}
 use Rattle.pas_machine.specs.declared.places.Place.{Place}
 use Rattle.pas_machine.proofs.LiveBlocks.{lives_where, live_long, all_counted, all_borne, live_apart, no_block}
@@ -68,20 +68,14 @@ deed_heaps f (Event.Deed k p d' ∷ es) run page d h = new (p == page) (deed_in 
     new false old before is = before d is
 deed_heaps f (e ∷ es) run page d h = deed_heaps f es run.1 page d h
 
-deed_or_not : (es : List Event) (heap page : ℕ) → HasDeedOf es heap page ⊎ (HasDeedOf es heap page → ⊥)
-deed_or_not es heap page = by (deed_in es page) refl
-  where
-    by : (o : Option Directory) → deed_in es page ≡ o → HasDeedOf es heap page ⊎ (HasDeedOf es heap page → ⊥)
-    by None is = inr (λ h. none-some _ (sym is ∙ h.1))
-    by (Some d) is = elim (eqb_tells d.heap heap) [ inl h ↦ inl (d, is, h.1) | inr h ↦ inr (λ has. h.1 (ap (λ (d : Directory). d.heap) (same_Some _ _ (sym is ∙ has.1)) ∙ has.2)) ]
+-- what is there has this number, or nothing that has it is there
+found_or_not : {A : Type 0} (o : Option A) (number : A → ℕ) (n : ℕ) → ((a : A) × (o ≡ Some a) × (number a ≡ n)) ⊎ (((a : A) × (o ≡ Some a) × (number a ≡ n)) → ⊥)
+found_or_not None number n = inr (λ has. none-some _ has.1)
+found_or_not (Some a) number n = elim (eqb_tells (number a) n) [ inl h ↦ inl (a, refl, h.1) | inr h ↦ inr (λ has. h.1 (ap number (same_Some _ _ has.1) ∙ has.2)) ]
 
 -- ---- live names
 live_or_not : (es : List Event) (name : Name) → IsLive es name ⊎ (IsLive es name → ⊥)
-live_or_not es name = by (live_in es (address_of name)) refl
-  where
-    by : (o : Option Live) → live_in es (address_of name) ≡ o → IsLive es name ⊎ (IsLive es name → ⊥)
-    by None is = inr (λ h. none-some _ (sym is ∙ h.1))
-    by (Some b) is = elim (eqb_tells b.block.name.turn name.turn) [ inl h ↦ inl (b, is, h.1) | inr h ↦ inr (λ has. h.1 (ap (λ (l : Live). l.block.name.turn) (same_Some _ _ (sym is ∙ has.1)) ∙ has.2)) ]
+live_or_not es name = found_or_not (live_in es (address_of name)) (λ (b : Live). b.block.name.turn) name.turn
 
 live_of : (es : List Event) (name : Name) → ((IsLive es name → ⊥) → ⊥) → IsLive es name
 live_of es name never = elim (live_or_not es name) [ inl h ↦ h | inr h ↦ absurd (never h) ]
@@ -106,7 +100,7 @@ reason_of es name (Why.SizeDiffers room) never = (
 -- ---- where no reason applies, the event may come next
 give_bears : (f : Profile) (es : List Event) (heap page : ℕ) → (IsOutside f page → ⊥) → ((HasDeedOf es heap page → ⊥) → ⊥) → (backed_in es page ≡ false → ⊥) → Bears f es heap page
 give_bears f es heap page outside deed backed =
-    let has : HasDeedOf es heap page = elim (deed_or_not es heap page) [ inl h ↦ h | inr h ↦ absurd (deed h) ] in
+    let has : HasDeedOf es heap page = elim (found_or_not (deed_in es page) (λ (d : Directory). d.heap) heap) [ inl h ↦ h | inr h ↦ absurd (deed h) ] in
     record { exists = page_of f page outside; directory = has.0; deed = has.1; of_heap = has.2; backed = true_from_ne_false (backed_in es page) backed }
 
 pub admits_of : (f : Profile) (es : List Event) (e : Event) → ((reason : Illegal) → Applies f es e reason → ⊥) → Admits f es e
@@ -130,25 +124,6 @@ admits_of f es (Event.End k name epoch) never = (place_of f (address_of name) (n
 admits_of f es (Event.Reject k name why) never = (place_of f (address_of name) (never Illegal.BadPage), reason_of es name why (never Illegal.WrongReason))
 
 -- ---- and where it may come next, none applies
-deed_never : (f : Profile) (es : List Event) (k page : ℕ) (d : Directory) → Admits f es (Event.Deed k page d) → (reason : Illegal) → Applies f es (Event.Deed k page d) reason → ⊥
-deed_never f es k page d may Illegal.BadPage h = not_outside f page may.0 h
-deed_never f es k page d may Illegal.BadHeap h = let heap : d.heap < f.heaps = may.1 in let other : f.heaps ≤ d.heap = h in omega arith
-deed_never f es k page d may Illegal.DeedTwice h = h may.2
-deed_never f es k page d may _ h = h
-
-back_never : (f : Profile) (es : List Event) (k page : ℕ) → Admits f es (Event.Back k page) → (reason : Illegal) → Applies f es (Event.Back k page) reason → ⊥
-back_never f es k page may Illegal.BadPage h = not_outside f page may.0 h
-back_never f es k page may Illegal.NoDeed h = may.1 h
-back_never f es k page may Illegal.BackedTwice h = false≢true (sym may.2 ∙ h)
-back_never f es k page may _ h = h
-
-unback_never : (f : Profile) (es : List Event) (k page epoch : ℕ) → Admits f es (Event.Unback k page epoch) → (reason : Illegal) → Applies f es (Event.Unback k page epoch) reason → ⊥
-unback_never f es k page epoch may Illegal.BadPage h = not_outside f page may.0 h
-unback_never f es k page epoch may Illegal.NotBacked h = false≢true (sym h ∙ may.1)
-unback_never f es k page epoch may Illegal.LivesThere h = false≢true (sym (may.2 h.0) ∙ h.1)
-unback_never f es k page epoch may Illegal.TooYoung h = let old : epoch_in es page + f.age ≤ epoch = may.3 in let young : epoch < epoch_in es page + f.age = h in omega arith
-unback_never f es k page epoch may _ h = h
-
 not_no_run : (f : Profile) (es : List Event) (block : Block) → MayGive f es block → IsNoRun f block → ⊥
 not_no_run f es block may (inl (inl h)) = h may.aligned
 not_no_run f es block may (inl (inr (inl h))) = let some : 0 < block.room = may.some in let none : block.room ≡ 0 = h in omega arith
@@ -161,35 +136,31 @@ first_grain f es block may =
     let whole : block.room % 16 ≡ 0 = may.whole in
     first_of_run (grain_of block.name) (length_of block) (omega (arith, some, whole))
 
-give_never : (f : Profile) (es : List Event) → Run f es → (k : ℕ) (block : Block) → Admits f es (Event.Give k block) → (reason : Illegal) → Applies f es (Event.Give k block) reason → ⊥
-give_never f es run k block may Illegal.BadPage h = not_no_run f es block may h
-give_never f es run k block may Illegal.BadHeap h =
+pub never_of : (f : Profile) (es : List Event) → Run f es → (e : Event) → Admits f es e → (reason : Illegal) → Applies f es e reason → ⊥
+never_of f es run (Event.Deed k page d) may Illegal.BadPage h = not_outside f page may.0 h
+never_of f es run (Event.Deed k page d) may Illegal.BadHeap h = let heap : d.heap < f.heaps = may.1 in let other : f.heaps ≤ d.heap = h in omega arith
+never_of f es run (Event.Deed k page d) may Illegal.DeedTwice h = h may.2
+never_of f es run (Event.Back k page) may Illegal.BadPage h = not_outside f page may.0 h
+never_of f es run (Event.Back k page) may Illegal.NoDeed h = may.1 h
+never_of f es run (Event.Back k page) may Illegal.BackedTwice h = false≢true (sym may.2 ∙ h)
+never_of f es run (Event.Unback k page epoch) may Illegal.BadPage h = not_outside f page may.0 h
+never_of f es run (Event.Unback k page epoch) may Illegal.NotBacked h = false≢true (sym h ∙ may.1)
+never_of f es run (Event.Unback k page epoch) may Illegal.LivesThere h = false≢true (sym (may.2 h.0) ∙ h.1)
+never_of f es run (Event.Unback k page epoch) may Illegal.TooYoung h = let old : epoch_in es page + f.age ≤ epoch = may.3 in let young : epoch < epoch_in es page + f.age = h in omega arith
+never_of f es run (Event.Give k block) may Illegal.BadPage h = not_no_run f es block may h
+never_of f es run (Event.Give k block) may Illegal.BadHeap h =
     let bears = may.bears (grain_of block.name) (first_grain f es block may) in
     let heap : block.heap < f.heaps = subst (λ n. n < f.heaps) bears.of_heap (deed_heaps f es run (grain_of block.name / 256) bears.directory bears.deed) in
     let other : f.heaps ≤ block.heap = h in omega arith
-give_never f es run k block may Illegal.NoDeed h = let bears = may.bears h.0 h.1 in h.2 (bears.directory, bears.deed, bears.of_heap)
-give_never f es run k block may Illegal.NotBacked h = false≢true (sym h.2 ∙ (may.bears h.0 h.1).backed)
-give_never f es run k block may Illegal.LivesThere h = false≢true (sym (may.clear h.2.address h.2.live h.2.lives h.0 h.2.has) ∙ h.1)
-give_never f es run k block may Illegal.WrongTurn h = h may.turn
-give_never f es run k block may _ h = h
-
-end_never : (f : Profile) (es : List Event) (k : ℕ) (name : Name) (epoch : ℕ) → Admits f es (Event.End k name epoch) → (reason : Illegal) → Applies f es (Event.End k name epoch) reason → ⊥
-end_never f es k name epoch may Illegal.BadPage h = not_no_place f (address_of name) may.0 h
-end_never f es k name epoch may Illegal.NotLive h = h may.1
-end_never f es k name epoch may _ h = h
-
-reject_never : (f : Profile) (es : List Event) (k : ℕ) (name : Name) (why : Why) → Admits f es (Event.Reject k name why) → (reason : Illegal) → Applies f es (Event.Reject k name why) reason → ⊥
-reject_never f es k name why may Illegal.BadPage h = not_no_place f (address_of name) may.0 h
-reject_never f es k name why may Illegal.WrongReason h = h may.1
-reject_never f es k name why may _ h = h
-
-pub never_of : (f : Profile) (es : List Event) → Run f es → (e : Event) → Admits f es e → (reason : Illegal) → Applies f es e reason → ⊥
-never_of f es run (Event.Deed k page d) may = deed_never f es k page d may
-never_of f es run (Event.Back k page) may = back_never f es k page may
-never_of f es run (Event.Unback k page epoch) may = unback_never f es k page epoch may
-never_of f es run (Event.Give k block) may = give_never f es run k block may
-never_of f es run (Event.End k name epoch) may = end_never f es k name epoch may
-never_of f es run (Event.Reject k name why) may = reject_never f es k name why may
+never_of f es run (Event.Give k block) may Illegal.NoDeed h = let bears = may.bears h.0 h.1 in h.2 (bears.directory, bears.deed, bears.of_heap)
+never_of f es run (Event.Give k block) may Illegal.NotBacked h = false≢true (sym h.2 ∙ (may.bears h.0 h.1).backed)
+never_of f es run (Event.Give k block) may Illegal.LivesThere h = false≢true (sym (may.clear h.2.address h.2.live h.2.lives h.0 h.2.has) ∙ h.1)
+never_of f es run (Event.Give k block) may Illegal.WrongTurn h = h may.turn
+never_of f es run (Event.End k name epoch) may Illegal.BadPage h = not_no_place f (address_of name) may.0 h
+never_of f es run (Event.End k name epoch) may Illegal.NotLive h = h may.1
+never_of f es run (Event.Reject k name why) may Illegal.BadPage h = not_no_place f (address_of name) may.0 h
+never_of f es run (Event.Reject k name why) may Illegal.WrongReason h = h may.1
+never_of f es run e may reason h = h
 
 -- ---- one reason is the first
 abbrev numbered : ℕ → Illegal
@@ -216,11 +187,6 @@ one_first f es e reason other first first' = sym (numbers_tell reason) ∙ (ap n
 -- a block of whole grains has its first and its last grain
 long_of : (block : Block) → IsWhole block → 0 < length_of block
 long_of block is = let some : 0 < block.room = is.some in let whole : block.room % 16 ≡ 0 = is.whole in omega (arith, some, whole)
-
-starts_outside : (f : Profile) (block : Block) → IsWhole block → grain_of block.name < 256 → IsNoRun f block
-starts_outside f block is low =
-    let long : 0 < length_of block = long_of block is in
-    inr (grain_of block.name, to_run (grain_of block.name) (length_of block) (grain_of block.name) (omega arith) (omega (arith, long)), inl (omega (arith, low)))
 
 ends_outside : (f : Profile) (block : Block) → IsWhole block → grains_of f < grain_of block.name + length_of block → IsNoRun f block
 ends_outside f block is high =
@@ -268,17 +234,13 @@ ends_by : (o : Option Live) (gives ends : ℕ) → IsCounted o gives ends → ((
 ends_by None gives ends counted = ((λ b h. absurd (none-some _ h)), (λ h. counted))
 ends_by (Some b) gives ends counted = ((λ b' h. let more : gives ≡ ends + 1 = counted.0 in omega arith), (λ h. absurd (none-some _ (sym h))))
 
-pub ends_some : (f : Profile) (es : List Event) → Run f es → (a : ℕ) → a % 16 ≡ 0 → (p : Place) → p ≡ place_in es (a / 16) → (b : Block) → p.block ≡ Some b → p.gives - 1 ≡ ends_in es a
-ends_some f es run a aligned p is b some =
-    let e = at_place a aligned in
-    let at : p ≡ record { block = block_of (live_in es a); gives = gives_in es a } = is ∙ ap (λ n. record { block = block_of (live_in es n); gives = gives_in es n }) e in
-    ap (λ (q : Place). q.gives - 1) at ∙ (ends_by (live_in es a) (gives_in es a) (ends_in es a) (all_counted f es run a)).0 b (ap (λ (q : Place). q.block) (sym at) ∙ some)
-
-pub ends_none : (f : Profile) (es : List Event) → Run f es → (a : ℕ) → a % 16 ≡ 0 → (p : Place) → p ≡ place_in es (a / 16) → p.block ≡ None → p.gives ≡ ends_in es a
-ends_none f es run a aligned p is none =
-    let e = at_place a aligned in
-    let at : p ≡ record { block = block_of (live_in es a); gives = gives_in es a } = is ∙ ap (λ n. record { block = block_of (live_in es n); gives = gives_in es n }) e in
-    ap (λ (q : Place). q.gives) at ∙ (ends_by (live_in es a) (gives_in es a) (ends_in es a) (all_counted f es run a)).1 (ap (λ (q : Place). q.block) (sym at) ∙ none)
+pub ends_are : (f : Profile) (pages : List Page) (places : List Place) (covered : List Bool) (len a : ℕ) (p : Place) → len ≡ length places → len ≡ grains_of f → IsPlace f a → p ≡ get_or places (a / 16) p
+    → (es : List Event) → Shows f pages places covered es → ((b : Block) → p.block ≡ Some b → p.gives - 1 ≡ ends_in es a) × (p.block ≡ None → p.gives ≡ ends_in es a)
+ends_are f pages places covered len a p same sized place read es shows =
+    let high : a / 4096 ≤ f.pages = place.0.1 in
+    let is : p ≡ place_in es (a / 16) = place_is f pages places covered es shows (a / 16) (omega (arith, high)) len same sized p read in
+    let at : p ≡ record { block = block_of (live_in es a); gives = gives_in es a } = is ∙ ap (λ n. record { block = block_of (live_in es n); gives = gives_in es n }) (at_place a place.1) in
+    subst (λ (q : Place). ((b : Block) → q.block ≡ Some b → q.gives - 1 ≡ ends_in es a) × (q.block ≡ None → q.gives ≡ ends_in es a)) (sym at) (ends_by (live_in es a) (gives_in es a) (ends_in es a) (all_counted f es shows.run a))
 
 -- ---- unbacks
 -- a live block that has a grain of the page touches it, and the other way round
@@ -377,41 +339,27 @@ page_within f block within x has =
     let at = run_of (grain_of block.name) (length_of block) x has in
     let until = at.1 in let high = within.1 in (omega (arith, until, high), omega (arith, until, high))
 
-pub lacks_deed : (f : Profile) (pages : List Page) (places : List Place) (covered : List Bool) (es : List Event) → Shows f pages places covered es → (k : ℕ) (block : Block) → IsInside f block
-    → IsSome (first_page block) (until_page block) (λ page. IsOfHeap block.heap (get_or pages page blank_page).directory → ⊥) → Applies f es (Event.Give k block) Illegal.NoDeed
-lacks_deed f pages places covered es shows k block is some =
-    let x = grain_on (grain_of block.name) (length_of block) some.0 (long_of block is.whole) some.1 some.2 in
-    (x.grain, x.of_run, (λ has. some.3 (subst (λ (p : Page). IsOfHeap block.heap p.directory) (ap (page_in es) x.of_page ∙ sym (shows.pages_are some.0 (subst (λ n. n ≤ f.pages) x.of_page (page_within f block is.within x.grain x.of_run).0))) has)))
+-- what the machine was asked of each page and each grain of the run
+module _ {f : Profile} {pages : List Page} {places : List Place} {covered : List Bool} {es : List Event} (shows : Shows f pages places covered es) (block : Block) (is : IsInside f block) where
+  pub some_page : (P : Page → Type 0) → IsSome (first_page block) (until_page block) (λ page. P (get_or pages page blank_page)) → (x : ℕ) × IsGrainOf block x × P (page_in es (x / 256))
+  some_page P some =
+      let x = grain_on (grain_of block.name) (length_of block) some.0 (long_of block is.whole) some.1 some.2 in
+      let within : some.0 ≤ f.pages = subst (λ n. n ≤ f.pages) x.of_page (page_within f block is.within x.grain x.of_run).0 in
+      (x.grain, x.of_run, subst P (shows.pages_are some.0 within ∙ ap (page_in es) (sym x.of_page)) some.3)
 
-pub has_deeds : (f : Profile) (pages : List Page) (places : List Place) (covered : List Bool) (es : List Event) → Shows f pages places covered es → (k : ℕ) (block : Block) → IsInside f block
-    → IsEach (first_page block) (until_page block) (λ page. IsOfHeap block.heap (get_or pages page blank_page).directory) → Applies f es (Event.Give k block) Illegal.NoDeed → ⊥
-has_deeds f pages places covered es shows k block is each h =
-    let on = page_on (grain_of block.name) (length_of block) h.0 h.1 in
-    h.2 (subst (λ (p : Page). IsOfHeap block.heap p.directory) (shows.pages_are (h.0 / 256) (page_within f block is.within h.0 h.1).0) (each (h.0 / 256) on.0 on.1))
+  pub each_page : (P : Page → Type 0) → IsEach (first_page block) (until_page block) (λ page. P (get_or pages page blank_page)) → (x : ℕ) → IsGrainOf block x → P (page_in es (x / 256))
+  each_page P each x has =
+      let on = page_on (grain_of block.name) (length_of block) x has in subst P (shows.pages_are (x / 256) (page_within f block is.within x has).0) (each (x / 256) on.0 on.1)
 
-pub lacks_backing : (f : Profile) (pages : List Page) (places : List Place) (covered : List Bool) (es : List Event) → Shows f pages places covered es → (k : ℕ) (block : Block) → IsInside f block
-    → IsSome (first_page block) (until_page block) (λ page. (get_or pages page blank_page).backed ≡ false) → Applies f es (Event.Give k block) Illegal.NotBacked
-lacks_backing f pages places covered es shows k block is some =
-    let x = grain_on (grain_of block.name) (length_of block) some.0 (long_of block is.whole) some.1 some.2 in
-    (x.grain, x.of_run, subst (λ (p : Page). p.backed ≡ false) (shows.pages_are some.0 (subst (λ n. n ≤ f.pages) x.of_page (page_within f block is.within x.grain x.of_run).0) ∙ ap (page_in es) (sym x.of_page)) some.3)
+  pub some_lives : IsSome (grain_of block.name) (grain_of block.name + length_of block) (λ x. get_or covered x false ≡ true) → (x : ℕ) × IsGrainOf block x × Covers es x
+  some_lives some =
+      let has = to_run (grain_of block.name) (length_of block) some.0 some.1 some.2 in
+      (some.0, has, covered_at es some.0 (get_or covered some.0 false) (shows.covered_are some.0 (page_within f block is.within some.0 has).1) some.3)
 
-pub has_backing : (f : Profile) (pages : List Page) (places : List Place) (covered : List Bool) (es : List Event) → Shows f pages places covered es → (k : ℕ) (block : Block) → IsInside f block
-    → IsEach (first_page block) (until_page block) (λ page. (get_or pages page blank_page).backed ≡ true) → Applies f es (Event.Give k block) Illegal.NotBacked → ⊥
-has_backing f pages places covered es shows k block is each h =
-    let on = page_on (grain_of block.name) (length_of block) h.0 h.1 in
-    false≢true (sym h.2 ∙ subst (λ (p : Page). p.backed ≡ true) (shows.pages_are (h.0 / 256) (page_within f block is.within h.0 h.1).0) (each (h.0 / 256) on.0 on.1))
-
-pub lives_there : (f : Profile) (pages : List Page) (places : List Place) (covered : List Bool) (es : List Event) → Shows f pages places covered es → (k : ℕ) (block : Block) → IsInside f block
-    → IsSome (grain_of block.name) (grain_of block.name + length_of block) (λ x. get_or covered x false ≡ true) → Applies f es (Event.Give k block) Illegal.LivesThere
-lives_there f pages places covered es shows k block is some =
-    let has = to_run (grain_of block.name) (length_of block) some.0 some.1 some.2 in
-    (some.0, has, covered_at es some.0 (get_or covered some.0 false) (shows.covered_are some.0 (page_within f block is.within some.0 has).1) some.3)
-
-pub is_clear : (f : Profile) (pages : List Page) (places : List Place) (covered : List Bool) (es : List Event) → Shows f pages places covered es → (k : ℕ) (block : Block) → IsInside f block
-    → IsEach (grain_of block.name) (grain_of block.name + length_of block) (λ x. get_or covered x false ≡ false) → Applies f es (Event.Give k block) Illegal.LivesThere → ⊥
-is_clear f pages places covered es shows k block is each h =
-    let at = run_of (grain_of block.name) (length_of block) h.0 h.1 in
-    uncovered_at es h.0 (get_or covered h.0 false) (shows.covered_are h.0 (page_within f block is.within h.0 h.1).1) (each h.0 at.0 at.1) h.2
+  pub none_lives : IsEach (grain_of block.name) (grain_of block.name + length_of block) (λ x. get_or covered x false ≡ false) → (x : ℕ) → IsGrainOf block x → Covers es x → ⊥
+  none_lives each x has =
+      let at = run_of (grain_of block.name) (length_of block) x has in
+      uncovered_at es x (get_or covered x false) (shows.covered_are x (page_within f block is.within x has).1) (each x at.0 at.1)
 
 pub gives_are : (es : List Event) (a : ℕ) → a % 16 ≡ 0 → (p : Place) → p ≡ place_in es (a / 16) → p.gives ≡ gives_in es a
 gives_are es a aligned p is = ap (λ (q : Place). q.gives) is ∙ ap (gives_in es) (at_place a aligned)
@@ -468,38 +416,39 @@ same_covered es es' x true same is = same_cover es es' x same is
 same_covered es es' x false same is = λ c. is (same_cover es' es x (λ a. sym (same a)) c)
 
 -- ---- deeds, backs and unbacks
-pub deed_shows : (f : Profile) (pages : List Page) (places : List Place) (covered : List Bool) (es : List Event) → Shows f pages places covered es → (k page : ℕ) (d : Directory) → Admits f es (Event.Deed k page d)
-    → (p : Page) → p ≡ page_in es page → page < length pages → Shows f (set pages page (record p { directory = Some d })) places covered (Event.Deed k page d ∷ es)
-deed_shows f pages places covered es shows k page d may p is low = record {
-  run = (may, shows.run);
-  pages_are = λ q h. written pages blank_page page (f.pages + 1) (record p { directory = Some d }) (page_in es) (page_in (Event.Deed k page d ∷ es)) low (λ j l. shows.pages_are j (omega (arith, l)))
-      (ap (λ (r : Page). record r { directory = Some d }) is ∙ ap (λ t. record { directory = if t then Some d else deed_in es page; backed = backed_in es page; epoch = epoch_in es page }) (sym (eq-eqb page page refl)))
-      (λ j ne. ap (λ t. record { directory = if t then Some d else deed_in es j; backed = backed_in es j; epoch = epoch_in es j }) (sym (ne_eqb page j ne))) q (omega (arith, h));
-  places_are = shows.places_are;
-  covered_are = λ x h. same_covered es (Event.Deed k page d ∷ es) x (get_or covered x false) (λ a. refl) (shows.covered_are x h);
-}
+-- an event that changes what is kept of one page alone; `after q t` is what is kept of page q after it, where t says that q is that page
+module _ (f : Profile) (pages : List Page) (places : List Place) (covered : List Bool) (len page : ℕ) (p : Page) (same : len ≡ length pages) (sized : len ≡ f.pages + 1) (within : IsPage f page) (read : p ≡ get_or pages page p) where
+  page_made : (es : List Event) → Shows f pages places covered es → (e : Event) → ((reason : Illegal) → Applies f es e reason → ⊥) → (new : Page → Page) (after : ℕ → Bool → Page)
+      → ((q : ℕ) → new (page_in es q) ≡ after q true) → ((q : ℕ) → page_in es q ≡ after q false) → ((q : ℕ) → after q (page == q) ≡ page_in (e ∷ es) q)
+      → ((g : ℕ) → place_in es g ≡ place_in (e ∷ es) g) → ((a : ℕ) → live_in (e ∷ es) a ≡ live_in es a) → Admits f es e × Shows f (set pages page (new p)) places covered (e ∷ es)
+  page_made es shows e none new after changed kept now places_same live_same =
+      let may : Admits f es e = admits_of f es e none in
+      let high : page ≤ f.pages = within.1 in
+      let here : new p ≡ page_in (e ∷ es) page = ap new (page_is f pages places covered es shows page high len same sized p read) ∙ changed page ∙ ap (after page) (sym (eq-eqb page page refl)) ∙ now page in
+      let others : (q : ℕ) → page ≢ q → page_in es q ≡ page_in (e ∷ es) q = λ q ne. kept q ∙ ap (after q) (sym (ne_eqb page q ne)) ∙ now q in (
+        may,
+        record {
+          run = (may, shows.run);
+          pages_are = λ q h. written pages blank_page page (f.pages + 1) (new p) (page_in es) (page_in (e ∷ es)) (omega (arith, high, same, sized)) (λ j l. shows.pages_are j (omega (arith, l))) here others q (omega (arith, h));
+          places_are = λ g h. shows.places_are g h ∙ places_same g;
+          covered_are = λ x h. same_covered es (e ∷ es) x (get_or covered x false) live_same (shows.covered_are x h);
+        },
+      )
 
-pub back_shows : (f : Profile) (pages : List Page) (places : List Place) (covered : List Bool) (es : List Event) → Shows f pages places covered es → (k page : ℕ) → Admits f es (Event.Back k page)
-    → (p : Page) → p ≡ page_in es page → page < length pages → Shows f (set pages page (record p { backed = true })) places covered (Event.Back k page ∷ es)
-back_shows f pages places covered es shows k page may p is low = record {
-  run = (may, shows.run);
-  pages_are = λ q h. written pages blank_page page (f.pages + 1) (record p { backed = true }) (page_in es) (page_in (Event.Back k page ∷ es)) low (λ j l. shows.pages_are j (omega (arith, l)))
-      (ap (λ (r : Page). record r { backed = true }) is ∙ ap (λ t. record { directory = deed_in es page; backed = if t then true else backed_in es page; epoch = epoch_in es page }) (sym (eq-eqb page page refl)))
-      (λ j ne. ap (λ t. record { directory = deed_in es j; backed = if t then true else backed_in es j; epoch = epoch_in es j }) (sym (ne_eqb page j ne))) q (omega (arith, h));
-  places_are = shows.places_are;
-  covered_are = λ x h. same_covered es (Event.Back k page ∷ es) x (get_or covered x false) (λ a. refl) (shows.covered_are x h);
-}
+  pub deed_made : (d : Directory) → ((k : ℕ) (es : List Event) → Shows f pages places covered es → IsVerdict f es (Event.Deed k page d) None) → (k : ℕ) (es : List Event) → Shows f pages places covered es
+      → Admits f es (Event.Deed k page d) × Shows f (set pages page (record p { directory = Some d })) places covered (Event.Deed k page d ∷ es)
+  deed_made d none k es shows = page_made es shows (Event.Deed k page d) (none k es shows) (λ q. record q { directory = Some d })
+      (λ q t. record { directory = if t then Some d else deed_in es q; backed = backed_in es q; epoch = epoch_in es q }) (λ q. refl) (λ q. refl) (λ q. refl) (λ g. refl) (λ a. refl)
 
-pub unback_shows : (f : Profile) (pages : List Page) (places : List Place) (covered : List Bool) (es : List Event) → Shows f pages places covered es → (k page epoch : ℕ) → Admits f es (Event.Unback k page epoch)
-    → (p : Page) → p ≡ page_in es page → page < length pages → Shows f (set pages page (record p { backed = false })) places covered (Event.Unback k page epoch ∷ es)
-unback_shows f pages places covered es shows k page epoch may p is low = record {
-  run = (may, shows.run);
-  pages_are = λ q h. written pages blank_page page (f.pages + 1) (record p { backed = false }) (page_in es) (page_in (Event.Unback k page epoch ∷ es)) low (λ j l. shows.pages_are j (omega (arith, l)))
-      (ap (λ (r : Page). record r { backed = false }) is ∙ ap (λ t. record { directory = deed_in es page; backed = if t then false else backed_in es page; epoch = epoch_in es page }) (sym (eq-eqb page page refl)))
-      (λ j ne. ap (λ t. record { directory = deed_in es j; backed = if t then false else backed_in es j; epoch = epoch_in es j }) (sym (ne_eqb page j ne))) q (omega (arith, h));
-  places_are = shows.places_are;
-  covered_are = λ x h. same_covered es (Event.Unback k page epoch ∷ es) x (get_or covered x false) (λ a. refl) (shows.covered_are x h);
-}
+  pub back_made : ((k : ℕ) (es : List Event) → Shows f pages places covered es → IsVerdict f es (Event.Back k page) None) → (k : ℕ) (es : List Event) → Shows f pages places covered es
+      → Admits f es (Event.Back k page) × Shows f (set pages page (record p { backed = true })) places covered (Event.Back k page ∷ es)
+  back_made none k es shows = page_made es shows (Event.Back k page) (none k es shows) (λ q. record q { backed = true })
+      (λ q t. record { directory = deed_in es q; backed = if t then true else backed_in es q; epoch = epoch_in es q }) (λ q. refl) (λ q. refl) (λ q. refl) (λ g. refl) (λ a. refl)
+
+  pub unback_made : (epoch : ℕ) → ((k : ℕ) (es : List Event) → Shows f pages places covered es → IsVerdict f es (Event.Unback k page epoch) None) → (k : ℕ) (es : List Event) → Shows f pages places covered es
+      → Admits f es (Event.Unback k page epoch) × Shows f (set pages page (record p { backed = false })) places covered (Event.Unback k page epoch ∷ es)
+  unback_made epoch none k es shows = page_made es shows (Event.Unback k page epoch) (none k es shows) (λ q. record q { backed = false })
+      (λ q t. record { directory = deed_in es q; backed = if t then false else backed_in es q; epoch = epoch_in es q }) (λ q. refl) (λ q. refl) (λ q. refl) (λ g. refl) (λ a. refl)
 
 pub reject_shows : (f : Profile) (pages : List Page) (places : List Place) (covered : List Bool) (es : List Event) → Shows f pages places covered es → (k : ℕ) (name : Name) (why : Why) → Admits f es (Event.Reject k name why)
     → Shows f pages places covered (Event.Reject k name why ∷ es)
@@ -513,6 +462,13 @@ reject_shows f pages places covered es shows k name why may = record {
 -- ---- gives
 off_place : (a g : ℕ) → a % 16 ≡ 0 → a / 16 ≢ g → a ≢ 16 * g
 off_place a g h ne e = ne (omega (arith, h, e))
+
+-- the place of an address is written; `after g t` is what is kept of grain g after the event, where t says that the address is the grain's
+place_set : (f : Profile) (places : List Place) (es : List Event) (e : Event) (a : ℕ) (v : Place) (after : ℕ → Bool → Place) → a % 16 ≡ 0 → a / 16 < length places → ((g : ℕ) → g < grains_of f → get_or places g blank_place ≡ place_in es g)
+    → v ≡ after (a / 16) true → ((g : ℕ) → place_in es g ≡ after g false) → ((g : ℕ) → after g (a == 16 * g) ≡ place_in (e ∷ es) g) → (g : ℕ) → g < grains_of f → get_or (set places (a / 16) v) g blank_place ≡ place_in (e ∷ es) g
+place_set f places es e a v after aligned low are new kept now = written places blank_place (a / 16) (grains_of f) v (place_in es) (place_in (e ∷ es)) low are
+    (new ∙ ap (after (a / 16)) (sym (eq-eqb a (16 * (a / 16)) (sym (at_place a aligned)))) ∙ now (a / 16))
+    (λ g ne. kept g ∙ ap (after g) (sym (ne_eqb a (16 * g) (off_place a g aligned ne))) ∙ now g)
 
 -- the range of a block
 in_range : (g n x : ℕ) → (in_run g n x ≡ true → ⊥) → x < g + n → x < g
@@ -553,7 +509,7 @@ uncovered_by : (es : List Event) (x : ℕ) (t : Bool) → t ≡ false → (Cover
 uncovered_by es x true e never = absurd (false≢true (sym e))
 uncovered_by es x false e never = never
 
-pub give_shows : (f : Profile) (pages : List Page) (places : List Place) (covered covered' : List Bool) (es : List Event) → Shows f pages places covered es → (k : ℕ) (block : Block) → Admits f es (Event.Give k block)
+give_shows : (f : Profile) (pages : List Page) (places : List Place) (covered covered' : List Bool) (es : List Event) → Shows f pages places covered es → (k : ℕ) (block : Block) → Admits f es (Event.Give k block)
     → (gives : ℕ) → gives ≡ gives_in es (address_of block.name) → grain_of block.name < length places
     → IsEach (grain_of block.name) (grain_of block.name + length_of block) (λ x. get_or covered' x false ≡ true)
     → ((y : ℕ) → y < grain_of block.name → get_or covered' y false ≡ get_or covered y false) → ((y : ℕ) → grain_of block.name + length_of block ≤ y → get_or covered' y false ≡ get_or covered y false)
@@ -561,22 +517,12 @@ pub give_shows : (f : Profile) (pages : List Page) (places : List Place) (covere
 give_shows f pages places covered covered' es shows k block may gives is low set' below above = record {
   run = (may, shows.run);
   pages_are = shows.pages_are;
-  places_are = written places blank_place (grain_of block.name) (grains_of f) (record { block = Some block; gives = gives + 1 }) (place_in es) (place_in (Event.Give k block ∷ es)) low shows.places_are here others;
+  places_are = place_set f places es (Event.Give k block) (address_of block.name) (record { block = Some block; gives = gives + 1 })
+      (λ g t. record { block = block_of (if t then Some record { actor = k; block = block } else live_in es (16 * g)); gives = if t then gives_in es (16 * g) + 1 else gives_in es (16 * g) }) may.aligned low shows.places_are
+      (ap (λ n. record { block = Some block; gives = n + 1 }) (is ∙ ap (gives_in es) (sym (at_place (address_of block.name) may.aligned)))) (λ g. refl) (λ g. refl);
   covered_are = λ x h. by x h (in_run (grain_of block.name) (length_of block) x) refl;
 }
   where
-    here : record { block = Some block; gives = gives + 1 } ≡ place_in (Event.Give k block ∷ es) (grain_of block.name)
-    here =
-        let e : 16 * grain_of block.name ≡ address_of block.name = at_place (address_of block.name) may.aligned in
-        let t : (address_of block.name == 16 * grain_of block.name) ≡ true = eq-eqb (address_of block.name) (16 * grain_of block.name) (sym e) in
-        ap (λ n. record { block = Some block; gives = n + 1 }) (is ∙ ap (gives_in es) (sym e))
-        ∙ ap (λ t. record { block = block_of (if t then Some record { actor = k; block = block } else live_in es (16 * grain_of block.name)); gives = if t then gives_in es (16 * grain_of block.name) + 1 else gives_in es (16 * grain_of block.name) }) (sym t)
-
-    others : (g : ℕ) → grain_of block.name ≢ g → place_in es g ≡ place_in (Event.Give k block ∷ es) g
-    others g ne =
-        let t : (address_of block.name == 16 * g) ≡ false = ne_eqb (address_of block.name) (16 * g) (off_place (address_of block.name) g may.aligned ne) in
-        ap (λ t. record { block = block_of (if t then Some record { actor = k; block = block } else live_in es (16 * g)); gives = if t then gives_in es (16 * g) + 1 else gives_in es (16 * g) }) (sym t)
-
     by : (x : ℕ) → x < grains_of f → (t : Bool) → in_run (grain_of block.name) (length_of block) x ≡ t → IsCovered (Event.Give k block ∷ es) x (get_or covered' x false)
     by x h true e =
         let on = run_of (grain_of block.name) (length_of block) x e in
@@ -585,6 +531,22 @@ give_shows f pages places covered covered' es shows k block may gives is low set
         let out : in_run (grain_of block.name) (length_of block) x ≡ true → ⊥ = λ i. false≢true (sym e ∙ i) in
         subst (IsCovered (Event.Give k block ∷ es) x) (sym (unmarked covered covered' (grain_of block.name) (length_of block) x below above out))
         (give_covered f es shows.run k block may x (get_or covered x false) out (shows.covered_are x h))
+
+-- by what was read at the block's first grain, and marked from there on
+pub give_made : (f : Profile) (pages : List Page) (places : List Place) (covered covered' : List Bool) (len first n : ℕ) (block : Block) (p : Place) → first ≡ grain_of block.name → n ≡ length_of block → IsInside f block
+    → len ≡ length places → len ≡ grains_of f → p ≡ get_or places first p → IsEach first (first + n) (λ x. get_or covered' x false ≡ true)
+    → ((y : ℕ) → y < first → get_or covered' y false ≡ get_or covered y false) → ((y : ℕ) → first + n ≤ y → get_or covered' y false ≡ get_or covered y false)
+    → ((k : ℕ) (es : List Event) → Shows f pages places covered es → IsVerdict f es (Event.Give k block) None) → (k : ℕ) (es : List Event) → Shows f pages places covered es
+    → Admits f es (Event.Give k block) × Shows f pages (set places first (record { block = Some block; gives = p.gives + 1 })) covered' (Event.Give k block ∷ es)
+give_made f pages places covered covered' len first n block p e e' inside same sized read marked below above none k es shows =
+    let may : Admits f es (Event.Give k block) = admits_of f es (Event.Give k block) (none k es shows) in
+    let at = place_at f pages places covered es shows block inside len same sized p (rw e at read) in
+    let high = inside.within.1 in
+    let long : 0 < length_of block = long_of block inside.whole in (
+      may,
+      rw e (give_shows f pages places covered covered' es shows k block may p.gives (gives_are es (address_of block.name) inside.whole.aligned p at) (omega (arith, high, long, same, sized))
+          (rw (e, e') at marked) (rw e at below) (rw (e, e') at above)),
+    )
 
 -- ---- ends
 -- a page is met by the run exactly where it is in the range of its pages
@@ -628,7 +590,7 @@ end_covered : (f : Profile) (es : List Event) → Run f es → (k : ℕ) (name :
 end_covered f es run k name epoch block live x true out c = still_covers es k name epoch block live x out c
 end_covered f es run k name epoch block live x false out never = λ c. never (apart_from f es run k name epoch block live x c).1
 
-pub end_shows : (f : Profile) (pages pages' : List Page) (places : List Place) (covered covered' : List Bool) (es : List Event) → Shows f pages places covered es → (k : ℕ) (name : Name) (epoch : ℕ) → IsPlace f (address_of name)
+end_shows : (f : Profile) (pages pages' : List Page) (places : List Place) (covered covered' : List Bool) (es : List Event) → Shows f pages places covered es → (k : ℕ) (name : Name) (epoch : ℕ) → IsPlace f (address_of name)
     → (block : Block) → IsLiveBlock es name block → (p : Place) → p ≡ place_in es (grain_of name) → grain_of name < length places
     → IsEach (grain_of name) (grain_of name + length_of block) (λ x. get_or covered' x false ≡ false)
     → ((y : ℕ) → y < grain_of name → get_or covered' y false ≡ get_or covered y false) → ((y : ℕ) → grain_of name + length_of block ≤ y → get_or covered' y false ≡ get_or covered y false)
@@ -640,7 +602,8 @@ end_shows f pages pages' places covered covered' es shows k name epoch place blo
   record {
     run = (may, shows.run);
     pages_are = page;
-    places_are = written places blank_place (grain_of name) (grains_of f) (record p { block = None }) (place_in es) (place_in (Event.End k name epoch ∷ es)) low shows.places_are here others;
+    places_are = place_set f places es (Event.End k name epoch) (address_of name) (record p { block = None }) (λ g t. record { block = block_of (if t then None else live_in es (16 * g)); gives = gives_in es (16 * g) })
+        place.1 low shows.places_are (ap (λ (q : Place). record q { block = None }) is) (λ g. refl) (λ g. refl);
     covered_are = λ x h. by x h (in_run (grain_of name) (length_of block) x) refl;
   },
 )
@@ -657,17 +620,6 @@ end_shows f pages pages' places covered covered' es shows k name epoch place blo
       | inr l ↦ ended_page es k name epoch q false (get_or pages' q blank_page) (touches_of f es shows.run name block live q ∙ under_of (grain_of name) (length_of block) q l.1) (pbelow q l.1 ∙ shows.pages_are q within)
     ]
 
-    here : record p { block = None } ≡ place_in (Event.End k name epoch ∷ es) (grain_of name)
-    here =
-        let e : 16 * grain_of name ≡ address_of name = at_place (address_of name) place.1 in
-        let t : (address_of name == 16 * grain_of name) ≡ true = eq-eqb (address_of name) (16 * grain_of name) (sym e) in
-        ap (λ (q : Place). record q { block = None }) is ∙ ap (λ t. record { block = block_of (if t then None else live_in es (16 * grain_of name)); gives = gives_in es (16 * grain_of name) }) (sym t)
-
-    others : (g : ℕ) → grain_of name ≢ g → place_in es g ≡ place_in (Event.End k name epoch ∷ es) g
-    others g ne =
-        let t : (address_of name == 16 * g) ≡ false = ne_eqb (address_of name) (16 * g) (off_place (address_of name) g place.1 ne) in
-        ap (λ t. record { block = block_of (if t then None else live_in es (16 * g)); gives = gives_in es (16 * g) }) (sym t)
-
     by : (x : ℕ) → x < grains_of f → (t : Bool) → in_run (grain_of name) (length_of block) x ≡ t → IsCovered (Event.End k name epoch ∷ es) x (get_or covered' x false)
     by x h true e =
         let on = run_of (grain_of name) (length_of block) x e in
@@ -677,7 +629,20 @@ end_shows f pages pages' places covered covered' es shows k name epoch place blo
         subst (IsCovered (Event.End k name epoch ∷ es) x) (sym (unmarked covered covered' (grain_of name) (length_of block) x cbelow cabove out))
         (end_covered f es shows.run k name epoch block live x (get_or covered x false) out (shows.covered_are x h))
 
+pub end_made : (f : Profile) (pages pages' : List Page) (places : List Place) (covered covered' : List Bool) (len first n : ℕ) (name : Name) (epoch : ℕ) (block : Block) (p : Place) → first ≡ grain_of name → n ≡ length_of block → IsPlace f (address_of name)
+    → len ≡ length places → len ≡ grains_of f → p ≡ get_or places first p → IsEach first (first + n) (λ x. get_or covered' x false ≡ false)
+    → ((y : ℕ) → y < first → get_or covered' y false ≡ get_or covered y false) → ((y : ℕ) → first + n ≤ y → get_or covered' y false ≡ get_or covered y false)
+    → IsEach (first / 256) ((first + n + 255) / 256) (λ q. get_or pages' q blank_page ≡ ended_at epoch (get_or pages q blank_page))
+    → ((q : ℕ) → q < first / 256 → get_or pages' q blank_page ≡ get_or pages q blank_page) → ((q : ℕ) → (first + n + 255) / 256 ≤ q → get_or pages' q blank_page ≡ get_or pages q blank_page)
+    → ((es : List Event) → Shows f pages places covered es → IsLiveBlock es name block) → (k : ℕ) (es : List Event) → Shows f pages places covered es
+    → Admits f es (Event.End k name epoch) × Shows f pages' (set places first (record p { block = None })) covered' (Event.End k name epoch ∷ es)
+end_made f pages pages' places covered covered' len first n name epoch block p e e' place same sized read marked below above noted before after live k es shows =
+    let on : address_of name / 4096 ≤ f.pages = place.0.1 in
+    let at = place_is f pages places covered es shows (grain_of name) (omega (arith, on)) len same sized p (rw e at read) in
+    rw e (end_shows f pages pages' places covered covered' es shows k name epoch place block (live es shows) p at (omega (arith, on, same, sized))
+    (rw (e, e') at marked) (rw e at below) (rw (e, e') at above) (rw (e, e') at noted) (rw e at before) (rw (e, e') at after))
+
 -- ---- a machine stands for some run, also after the event
-pub shown_after : (f : Profile) (pages pages' : List Page) (places places' : List Place) (covered covered' : List Bool) (e : List Event → Event) → ((es : List Event) → Shows f pages places covered es → Shows f pages' places' covered' (e es ∷ es))
+pub shown_after : (f : Profile) (pages pages' : List Page) (places places' : List Place) (covered covered' : List Bool) (e : Event) → ((es : List Event) → Shows f pages places covered es → Admits f es e × Shows f pages' places' covered' (e ∷ es))
     → ∥ ((es : List Event) × Shows f pages places covered es) ∥₁ → ∥ ((es : List Event) × Shows f pages' places' covered' es) ∥₁
-shown_after f pages pages' places places' covered covered' e after some = ∥∥₁_map some (λ s. (e s.0 ∷ s.0, after s.0 s.1))
+shown_after f pages pages' places places' covered covered' e after some = ∥∥₁_map some (λ s. (e ∷ s.0, (after s.0 s.1).1))

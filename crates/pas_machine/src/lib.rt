@@ -4,6 +4,7 @@
 //! crates above cite, as laws over every run (`laws`), and as a program that takes events one by one (`Machine`).
 #![tactic(auto)]
 
+mod asking;
 pub mod fault;
 pub mod laws;
 mod looking;

@@ -1,13 +1,14 @@
 -- Desks at a plain region, and their passes.
-use Rattle.std.proofs.Common.{◌≡◌, ◌≢◌, ℕ, zero, suc, ◌+◌, ◌-◌, ◌^◌, ◌≤◌, min, All, List, [], ◌∷◌, ◌++◌, length, reverse, refl, ap, sym, ◌∙◌, arith, true, subst, Option, None, Some}
+use Rattle.std.proofs.Common.{◌≡◌, ◌≢◌, ℕ, zero, suc, ◌+◌, ◌-◌, ◌^◌, ◌≤◌, min, All, List, [], ◌∷◌, ◌++◌, length, reverse, refl, ap, sym, ◌∙◌, arith, true, subst}
 use Rattle.pas_profile.specs.Rooms.{shown, EventRoom}
 use Rattle.pas_profile.specs.declared.profile.Profile.{Profile}
-use Rattle.pas_steps.specs.Events.{events_of, with_event, event_of}
+use Rattle.pas_steps.specs.Events.{events_of, event_of}
 use Rattle.pas_steps.specs.Views.{known_epoch, View, epoch_of, or_zero}
 use Rattle.pas_steps.specs.Lists.{Whole, part, Legal}
-use Rattle.pas_steps.specs.Desks.{triples, Seat, Standing, made, triple, CanCall, CanMake, Makes}
+use Rattle.pas_steps.specs.Desks.{triples, Seat, Standing, made, triple, CanMake, Makes}
 use Rattle.pas_steps.specs.declared.step.Made.{Made}
 use Rattle.pas_steps.proofs.Parts.{part_of_others, part_of_own}
+use Rattle.pas_steps.proofs.Frames.{with_few}
 use Rattle.pas_plain.specs.Plain.{actor_of, PassStands, pass_for, passes_from, profile_of, room_of_pass, events_shown, RegionStands, epoch_known, IsExchanged}
 use Rattle.pas_plain.specs.declared.pass.PlainPass.{PlainPass}
 use Rattle.pas_steps.specs.Allowed.{Allowed, IsStepOf}
@@ -19,11 +20,10 @@ use Rattle.pas_steps.specs.declared.step.Step.{Step}
 use Rattle.pas_steps.proofs.Called.{call_none, call_step, call_as}
 use Rattle.pas_steps.proofs.Calls.{still_clear, does_idly}
 use Rattle.pas_plain.specs.Seats.{region_of, pass_of, DeskStands, standing_of, IsChanged}
-use Rattle.pas_plain.specs.Storms.{Acts, StormStands, MayStorm, seat_for, storm_of, own_stands}
+use Rattle.pas_plain.specs.Storms.{Acts, StormStands, seat_for, storm_of, own_stands}
 use Rattle.pas_plain.specs.declared.region.PlainRegion.{PlainRegion}
 use Rattle.pas_plain.specs.declared.desk.PlainDesk.{PlainDesk}
 use Rattle.std.proofs.lemmas.List.{length-reverse}
-use Rattle.pas_profile.specs.declared.event.Event.{Event}
 use Rattle.std.specs.Prelude.{slice_index}
 use Rattle.pas_profile.specs.Layouts.{index_of}
 use Rattle.pas_profile.specs.Profiles.{IsWordOf}
@@ -88,17 +88,6 @@ acted old new own acts v l stood =
     )
 
 -- ---- the two passes were exchanged, the foreign actor acted, and they were exchanged again
-pub may_act : (old seated : PlainDesk) (foreign : PlainPass) → region_of seated ≡ region_of old → pass_of seated ≡ foreign → MayStorm (region_of old) (pass_of old) foreign → CanCall (standing_of seated) HasNothing
-may_act old seated foreign region pass may =
-    let stood : StormStands (region_of seated) (pass_of old) (pass_of seated) may.view may.whole =
-    subst (λ (r : PlainRegion). StormStands r (pass_of old) (pass_of seated) may.view may.whole) (sym region) (subst (λ (p : PlainPass). StormStands (region_of old) (pass_of old) p may.view may.whole) (sym pass) may.stands) in
-    record {
-      view = part (actor_of (pass_of seated)) may.whole;
-      whole = may.whole;
-      stood = foreign_stands seated (pass_of old) may.view may.whole stood;
-      met = stood.nothing;
-    }
-
 pub disturbed : (old seated acts_done new : PlainDesk) (foreign foreign' waiting : PlainPass) → region_of seated ≡ region_of old → pass_of seated ≡ foreign → waiting ≡ pass_of old → Acts (standing_of seated) (standing_of acts_done)
     → region_of new ≡ region_of acts_done → pass_of new ≡ waiting → foreign' ≡ pass_of acts_done
     → (v : View) (l : Whole) → StormStands (region_of old) (pass_of old) foreign v l → (w : Whole) × StormStands (region_of new) (pass_of new) foreign' v w
@@ -220,10 +209,6 @@ can {f} {room} {k} {d} {v} s at of allowed = record {
 -- each answer is the value of its word
 pub told : {f : Profile} {room k : ℕ} {d : PlainDesk} {v : View} → At f room k d v → Legal (profile_of d.region) (triples k v)
 told at = at.stood.region.legal
-
-with_few : (o : Option Event) (es : List Event) → length (with_event o es) ≤ length es + 1
-with_few None es = omega arith
-with_few (Some e) es = omega arith
 
 events_few : (k : ℕ) (v : View) → length (events_of k v) ≤ length v
 events_few k [] = omega arith

@@ -1,5 +1,5 @@
 -- Two actors at one plain region, of whom one acts between the steps of the other.
-use Rattle.std.specs.Prelude.{◌+◌, ◌-◌, ◌^◌, ◌≤◌, ◌≡◌, ◌≢◌, List, length, min, reverse}
+use Rattle.std.specs.Prelude.{◌+◌, ◌-◌, ◌^◌, ◌≡◌, ◌≢◌, List, length, min, reverse}
 use Rattle.std.proofs.Common.{ap, sym, ◌∙◌}
 use Rattle.std.proofs.Math.Nat.{sub-add_cancel}
 use Rattle.std.proofs.lemmas.List.{length-reverse}

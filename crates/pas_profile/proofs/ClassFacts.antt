@@ -9,8 +9,7 @@ use Rattle.std.proofs.lemmas.Bool.{leb-true, eqb-true, le-leb, eq-eqb, and_parts
 use Rattle.pas_profile.specs.Classes.{IsClass, class_size, sizes_of, class_grains, usable_grains, IsSlotStart}
 use Rattle.pas_profile.specs.Routes.{first_class, route_of, route_with, route_without_class, Suits, IsSmallest, NoneSuits, IsRouteOf}
 use Rattle.pas_profile.specs.declared.directory.Route.TheVariants.{Class, Bitfit, Large}
-use Rattle.pas_profile.proofs.Searches.{suits}
-use Rattle.pas_profile.proofs.Sizes.{class_passes, class_from_size, sizes_le, size_at}
+use Rattle.pas_profile.proofs.Sizes.{suits, class_passes, class_from_size, sizes_le, size_at}
 
 -- Sizes are whole grains, of which a block has 1 to 64, and the slots cover 224 to 256 grains of a page.
 
@@ -153,10 +152,6 @@ class_known classes size align class is = let room = is.suits.room in class_from
 -- a route to a bit-fit page
 pub bitfit_suits : (classes size align : ℕ) → route_of classes size align ≡ Bitfit → (size ≤ 2048) × NoneSuits classes size align
 bitfit_suits classes size align e = subst (IsRouteOf classes size align) e (route_is classes size align)
-
--- a route to whole pages
-pub large_suits : (classes size align : ℕ) → route_of classes size align ≡ Large → (2048 < size) × NoneSuits classes size align
-large_suits classes size align e = subst (IsRouteOf classes size align) e (route_is classes size align)
 
 -- a slot of the class to which a request goes begins at a multiple of the alignment
 pub routed_slot_aligned : (classes size align class grain page : ℕ) → 4096 % align ≡ 0 → route_of classes size align ≡ Class class → IsSlotStart class grain → (page * 4096 + grain * 16) % align ≡ 0

@@ -1,6 +1,4 @@
-pub mod Tables
 pub mod Sizes
-pub mod Searches
 pub mod Places
 pub mod Codecs
 pub mod ClassFacts

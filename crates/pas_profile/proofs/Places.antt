@@ -13,10 +13,6 @@ both x y k i j =
     and_from (word_kind x == word_kind y && word_minor x == word_minor y) (word_major x == word_major y)
     (and_from (word_kind x == word_kind y) (word_minor x == word_minor y) (eq-eqb _ _ k) (eq-eqb _ _ i)) (eq-eqb _ _ j)
 
--- a word is the same as itself
-same_word_self : (w : Word) → same_word w w ≡ true
-same_word_self w = both w w refl refl refl
-
 -- the word of these three numbers
 abbrev word_from : ℕ → ℕ → ℕ → Word
 word_from kind i j =

@@ -14,6 +14,7 @@ use crate::profile::Profile;
 use crate::word::{Layout, Word};
 
 /// Distinct words of a region have distinct places.
+#[tactic(auto, using(crate::proofs::Places::word_from_place))]
 pub fn distinct_words_have_distinct_places(layout: &Layout, one: Word, other: Word)
     requires first { IsWordIn layout.now.pages layout.now.heaps one }
     requires second { IsWordIn layout.now.pages layout.now.heaps other }
@@ -36,6 +37,7 @@ pub fn deed_words_are_read(directory: Directory)
 {}
 
 /// A word is read as a directory only where it is that directory's deed word, and as none where it is no deed word.
+#[tactic(auto, using(crate::proofs::Codecs::read_is, crate::proofs::Codecs::read_none))]
 pub fn only_deed_words_are_read(word: u64)
     ensures read { (d : Directory) → directory_read word ≡ Some d → IsDirectory d × (word ≡ deed_word_of d) }
     ensures other { ((d : Directory) → IsDirectory d → word ≢ deed_word_of d) → directory_read word ≡ None }
@@ -61,18 +63,21 @@ pub fn turns_are_read(turn: u64)
 
 /// The route is the smallest class of the region that is large enough and a multiple of the alignment. Where there is none it is a
 /// bit-fit page up to 2,048 bytes, and whole pages above.
+#[tactic(auto, using(crate::proofs::ClassFacts::route_is))]
 pub fn routes_are_smallest(classes: u8, size: u32, align: u32)
     requires { IsAlignment align }
     ensures { IsRouteOf classes size align (route_of classes size align) }
 {}
 
 /// The room of a request is large enough for it, and of whole grains.
+#[tactic(auto, using(crate::proofs::Requests::room_is))]
 pub fn rooms_are_large_enough(classes: u8, size: u32, align: u32)
     requires { IsAlignment align }
     ensures { IsRoomFor size (room_of classes size align) }
 {}
 
 /// The directory of an admitted request is one of the profile.
+#[tactic(auto, using(crate::proofs::Requests::directory_is))]
 pub fn requests_have_directories(profile: Profile, size: u32, align: u32, heap: u8)
     requires { IsAdmitted profile size align heap }
     ensures { IsDirectoryOf profile (directory_for profile heap size align) }

@@ -57,6 +57,7 @@ impl Profile {
     }
 
     /// The route of a request of the region, by its classes. At most 20 steps.
+    #[tactic(auto, using(crate::proofs::Sizes::count_of))]
     pub fn route(&self, size: u32, align: u32) -> Route
         requires valid { IsValid self.now }
         requires align { IsAlignment align }
@@ -66,6 +67,7 @@ impl Profile {
     }
 
     /// The room of the block for such a request.
+    #[tactic(auto, using(crate::proofs::Sizes::count_of))]
     pub fn room_for(&self, size: u32, align: u32) -> u32
         requires valid { IsValid self.now }
         requires size { size ≤ self.now.pages * 4096 }

@@ -1,15 +1,15 @@
 -- Notes after one more step.
-use Rattle.std.proofs.Common.{◌≡◌, ℕ, ◌+◌, ◌-◌, ◌^◌, min, List, [], ◌∷◌, ◌++◌, length, reverse, Option, None, Some, refl, ap, ◌∙◌, sym, arith, append-nil}
+use Rattle.std.proofs.Common.{◌≡◌, ℕ, ◌+◌, ◌-◌, ◌^◌, min, List, [], ◌∷◌, ◌++◌, length, reverse, Option, None, Some, ap, ◌∙◌, sym, arith, append-nil}
 use Rattle.std.specs.Option.{option_to_list}
 use Rattle.std.proofs.lemmas.List.{reverse-append}
 use Rattle.pas_profile.specs.declared.event.Event.{Event}
-use Rattle.pas_profile.specs.Rooms.{shown, EventRoom}
+use Rattle.pas_profile.specs.Rooms.{shown}
 use Rattle.pas_steps.specs.Events.{event_of, events_of, with_event}
 use Rattle.pas_steps.specs.Views.{View, epoch_after, epoch_of, or_zero}
 use Rattle.pas_steps.specs.Desks.{made}
 use Rattle.pas_steps.specs.declared.step.Step.{Step}
 use Rattle.pas_region.specs.declared.notes.Notes.{Notes}
-use Rattle.pas_region.specs.Noted.{events_noted, count_of_notes, notes_for, AreNotesOf, IsNoted}
+use Rattle.pas_region.specs.Noted.{events_noted, count_of_notes, AreNotesOf, IsNoted}
 
 shown_next : (o : Option Event) (shown es : List Event) → shown ≡ reverse es → shown ++ option_to_list o ≡ reverse (with_event o es)
 shown_next None shown es h = append-nil shown ∙ h
@@ -24,6 +24,3 @@ notes_next old new k s a v are noted = record {
   count = count_next (count_of_notes old) (count_of_notes new) (length v) (length (made s a ∷ v)) (omega arith) noted.count are.count;
   epoch = noted.epoch ∙ ap (epoch_after s a) are.epoch;
 }
-
-pub no_notes : (k : ℕ) (room : EventRoom) → shown room ≡ [] → AreNotesOf k [] (notes_for room)
-no_notes k room empty = record { shown = empty; count = refl; epoch = refl }

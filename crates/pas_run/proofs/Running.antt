@@ -14,8 +14,7 @@ use Rattle.pas_steps.specs.Ranges.{IsRanged}
 use Rattle.pas_steps.specs.States.{profile_of, word_in}
 use Rattle.pas_steps.specs.declared.state.State.{State}
 use Rattle.pas_steps.specs.declared.step.Step.{Step}
-use Rattle.pas_steps.proofs.Ranged.{is_ranged}
-use Rattle.pas_steps.proofs.Targets.{target_of_region}
+use Rattle.pas_steps.proofs.Targets.{is_ranged, target_of_region}
 use Rattle.pas_run.specs.Runs.{in_order, CanRun, IsOpening, IsAfter, IsStepped}
 
 -- ---- lists in order

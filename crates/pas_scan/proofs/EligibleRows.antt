@@ -2,7 +2,7 @@
 use Rattle.std.proofs.Common.{◌≡◌, ℕ, ◌/◌, ◌%◌, ◌<◌, ◌==◌, false, ◌||◌, List, length, ap, sym, ◌∙◌, inl, inr, ◌≢◌, ◌+◌, ◌-◌, ◌*◌, ◌≤◌, ◌&&◌, Bool, true, if◌then◌else◌, [], ◌∷◌, ◌++◌, slice_index, slice_set, replicate, refl, subst, arith, true≢false, length-append, get_or-set_same, get_or-set_other, ◌^◌, nat_lt, not, bit_and}
 use Rattle.std.proofs.Math.ListN.{set, get_or}
 use Rattle.std.proofs.lemmas.List.{get_or-replicate, get_or_past}
-use Rattle.std.proofs.lemmas.Bool.{cases_lt, cases_eq, ne_eqb, cases_Bool, eq-eqb, lt-ltb, le-ltb, ltb-true, ltb-false, and_parts, not-true}
+use Rattle.std.proofs.lemmas.Bool.{cases_lt, cases_eq, ne_eqb, cases_Bool, false_from_ne_true, eq-eqb, lt-ltb, le-ltb, ltb-true, ltb-false, and_parts, not-true}
 use Rattle.pas_profile.specs.Classes.{has_bit}
 use Rattle.pas_bits.specs.PageVectors.{is_in_word}
 use Rattle.pas_bits.proofs.Words.{none_of_zero, is_zero, is_one, bit_cleared}
@@ -24,8 +24,7 @@ use Rattle.pas_steps.specs.Evidence.{ReadsEligible, ZeroHere, IsSingle}
 use Rattle.pas_steps.proofs.Past.{once_later, once_earlier}
 use Rattle.pas_scan.specs.Rows.{eligible_looks, WordReadHere, shows_page, IsLowestShown, ShowsNone}
 use Rattle.pas_scan.specs.Scan.{IsFirstOffered}
-use Rattle.pas_scan.proofs.Reading.{right_scans, scans_lack}
-use Rattle.pas_scan.proofs.Singles.{Below, below_more, single_more}
+use Rattle.pas_scan.proofs.Reading.{right_scans, scans_lack, looks_count, looks_scan, looks_single}
 use Rattle.std.proofs.Math.Pow.{pow-lt}
 use Rattle.std.proofs.lemmas.Nat.{pow_pos}
 use Rattle.std.proofs.lemmas.Nat.Bits.{bit_at_ones, bit_at_above}
@@ -57,18 +56,6 @@ marked_none p = ap (λ n. has_bit n (p % 64)) (zeros (p / 64)) ∙ none_of_zero 
 -- ==== Rows of eligible words: their looks in order, what each shows, and the lowest page that they show.
 
 -- ---- looks in order
-eligible_scans : (number from : ℕ) (answers : List ℕ) → OnlyScans (eligible_looks number from answers)
-eligible_scans number from [] = tt
-eligible_scans number from (a ∷ more) = (IsScan.LooksEligible number (from + length more), eligible_scans number from more)
-
-eligible_below : (number from : ℕ) (answers : List ℕ) → Below (from + length answers) (eligible_looks number from answers)
-eligible_below number from [] = tt
-eligible_below number from (a ∷ more) = (omega arith, below_more (from + length more) (from + length (a ∷ more)) (eligible_looks number from more) (omega arith) (eligible_below number from more))
-
-eligible_single : (number from : ℕ) (answers : List ℕ) → IsSingle (eligible_looks number from answers)
-eligible_single number from [] = tt
-eligible_single number from (a ∷ more) = single_more (from + length more) (made (Look (Word.Eligible number (from + length more))) a) (eligible_looks number from more) (eligible_below number from more) (omega arith) (eligible_single number from more)
-
 eligible_append : (number from : ℕ) (later earlier : List ℕ) → eligible_looks number (from + length earlier) later ++ eligible_looks number from earlier ≡ eligible_looks number from (later ++ earlier)
 eligible_append number from [] earlier = refl
 eligible_append number from (a ∷ more) earlier =
@@ -81,11 +68,14 @@ pub row_after : (number from block : ℕ) (ys xs : List Made) (later earlier : L
 row_after number from block ys xs later earlier at order_y order_x =
     ap (λ s. s ++ xs) order_y ∙ ap (λ s. eligible_looks number block later ++ s) order_x ∙ ap (λ j. eligible_looks number j later ++ eligible_looks number from earlier) (sym at) ∙ eligible_append number from later earlier
 
+pub count_of : (number from n : ℕ) (steps : List Made) (answers : List ℕ) → steps ≡ eligible_looks number from answers → length answers ≡ n → length steps ≡ n
+count_of number from n steps answers order is = looks_count (λ j. Word.Eligible number j) from n steps answers order is
+
 pub scans_of : (number from : ℕ) (answers : List ℕ) (steps : List Made) → steps ≡ eligible_looks number from answers → OnlyScans steps
-scans_of number from answers steps order = subst OnlyScans (sym order) (eligible_scans number from answers)
+scans_of number from answers steps order = looks_scan (λ j. Word.Eligible number j) from (λ j. IsScan.LooksEligible number j) steps answers order
 
 pub single_of : (number from : ℕ) (answers : List ℕ) (steps : List Made) → steps ≡ eligible_looks number from answers → IsSingle steps
-single_of number from answers steps order = subst IsSingle (sym order) (eligible_single number from answers)
+single_of number from answers steps order = looks_single (λ j. Word.Eligible number j) from (λ i j e. cc) steps answers order
 
 -- ---- one word more of a row
 pub zero_row : (word : ℕ) → slice_index (replicate 8 0) word ≡ 0
@@ -110,26 +100,19 @@ shown_as bit d p a [] scans h is = absurd h
 shown_as bit d p a (m ∷ before) scans (inl h) is = inl (subst (λ s. ReadsEligible d p s) (sym h.0) (ReadsEligible.Looks (number_of d) (p / 64) refl refl), ap (λ n. has_bit n (p % 64)) h.1 ∙ is, scans_lack before p scans.1)
 shown_as bit d p a (m ∷ before) scans (inr h) is = inr (shown_as bit d p a before scans.1 h is)
 
--- the answer to a look that was made so
-agreed_word : (f : Profile) (v : View) (number block a : ℕ) (m : Made) → WordReadHere number block a m [] → Agrees f v m.step m.answer → AgreesEligible f v number block a
-agreed_word f v number block a m h agrees = subst (λ n. Agrees f v (Look (Word.Eligible number block)) n) h.1 (subst (λ s. Agrees f v s m.answer) h.0 agrees)
+-- the answer agrees with the view before it
+word_agrees : (f : Profile) (v : View) (number block a : ℕ) (steps : List Made) → OnlyScans steps → Agreed f v steps → Once (WordReadHere number block a) steps → (before : List Made) × OnlyScans before × AgreesEligible f (before ++ v) number block a
+word_agrees f v number block a [] scans agreed h = absurd h
+word_agrees f v number block a (m ∷ before) scans agreed (inl h) = (before, scans.1, subst (λ n. Agrees f (before ++ v) (Look (Word.Eligible number block)) n) h.1 (subst (λ s. Agrees f (before ++ v) s m.answer) h.0 agreed.0))
+word_agrees f v number block a (m ∷ before) scans agreed (inr h) = word_agrees f v number block a before scans.1 agreed.1 h
 
-one_page : (f : Profile) (v : View) (number page a : ℕ) (steps : List Made) → Agreed f v steps → Once (WordReadHere number (page / 64) a) steps → has_bit a (page % 64) ≡ true → IsPage f page
-one_page f v number page a [] agreed h bit = absurd h
-one_page f v number page a (m ∷ before) agreed (inl h) bit =
-    let whole : 64 * (page / 64) + page % 64 ≡ page = omega arith in
-    subst (IsPage f) whole ((agreed_word f (before ++ v) number (page / 64) a m h agreed.0).page (page % 64) (omega arith) bit)
-one_page f v number page a (m ∷ before) agreed (inr h) bit = one_page f v number page a before agreed.1 h bit
-
-one_lacks : (f : Profile) (v : View) (number page a : ℕ) (steps : List Made) → OnlyScans steps → Agreed f v steps → Once (WordReadHere number (page / 64) a) steps → has_bit a (page % 64) ≡ true → has_right v page ≡ false
-one_lacks f v number page a [] scans agreed h bit = absurd h
-one_lacks f v number page a (m ∷ before) scans agreed (inl h) bit = sym (right_scans before v page scans.1) ∙ elim (cases_Bool (has_right (before ++ v) page)) [
-  | inl has ↦
-      let whole : 64 * (page / 64) + page % 64 ≡ page = omega arith in
-      absurd (true≢false (sym bit ∙ (agreed_word f (before ++ v) number (page / 64) a m h agreed.0).right (page % 64) (omega arith) (ap (has_right (before ++ v)) whole ∙ has)))
-  | inr lacks ↦ lacks
-]
-one_lacks f v number page a (m ∷ before) scans agreed (inr h) bit = one_lacks f v number page a before scans.1 agreed.1 h bit
+-- so a page that it shows is one of the region, of which the actor has no right
+one_page : (f : Profile) (v : View) (number page a : ℕ) (steps : List Made) → OnlyScans steps → Agreed f v steps → Once (WordReadHere number (page / 64) a) steps → has_bit a (page % 64) ≡ true → IsPage f page × (has_right v page ≡ false)
+one_page f v number page a steps scans agreed h bit =
+    let w = word_agrees f v number (page / 64) a steps scans agreed h in let whole : 64 * (page / 64) + page % 64 ≡ page = omega arith in (
+      subst (IsPage f) whole (w.2.page (page % 64) (omega arith) bit),
+      false_from_ne_true (has_right v page) (λ has. true≢false (sym bit ∙ w.2.right (page % 64) (omega arith) (ap (has_right (w.0 ++ v)) whole ∙ right_scans w.0 v page w.1 ∙ has))),
+    )
 
 -- a deed that is known stays so over a look at a word of its directory
 stays_so : (t : Bool) (deed known : ℕ) → known ≡ deed → (if t then deed else known) ≡ deed
@@ -178,11 +161,11 @@ row_one f d next from block end page row answers steps v is agreed order before 
     let bit : has_bit a (page % 64) ≡ true = sym (shown_bit row block page low) ∙ lowest.shown in
     record {
       from_next = lowest.from_next;
-      of_region = one_page f v (number_of d) page a steps agreed read bit;
+      of_region = (one_page f v (number_of d) page a steps scans agreed read bit).0;
       one = shown_as true d page a steps scans read bit;
       lower = row_zeros d next block end page row steps scans before words lowest.lower (omega (arith, within));
       deed = λ w. ap (λ s. known_deed (s ++ w) page) order ∙ one_deed (number_of d) page a from answers w (subst (λ s. Once (WordReadHere (number_of d) (page / 64) a) s) order read) bit ∙ numbered d is;
-      lacks = λ w agreed'. one_lacks f w (number_of d) page a steps scans agreed' read bit;
+      lacks = λ w agreed'. (one_page f w (number_of d) page a steps scans agreed' read bit).1;
     }
 
 -- the readings of a row, with the steps before it

@@ -22,8 +22,7 @@ use Rattle.pas_steps.specs.Kinds.{kind_of, is_in, Only}
 use Rattle.pas_steps.proofs.Apart.{only_both}
 use Rattle.pas_scan.specs.Scan.{IsMember, AllParked, InBlock, judging}
 use Rattle.pas_bits.proofs.Words.{bit_cleared}
-use Rattle.pas_scan.proofs.Singles.{Below, From, below_more, below_append, single_append, single_more, place_of}
-use Rattle.pas_scan.proofs.Reading.{scans_lack}
+use Rattle.pas_scan.proofs.Reading.{scans_lack, Below, From, below_more, below_append, single_append, single_more, place_of}
 
 -- ---- looks at the deed words of a block
 pub block_scans : (block : ℕ) (steps : List Made) → InBlock block steps → OnlyScans steps

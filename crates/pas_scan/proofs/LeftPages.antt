@@ -55,16 +55,14 @@ since_earlier P Q R S [] xs first later h = absurd h
 since_earlier P Q R S (m ∷ ys) xs first later (inl h) = inl (first m ys h)
 since_earlier P Q R S (m ∷ ys) xs first later (inr h) = inr (later m ys h.0, since_earlier P Q R S ys xs first later h.1)
 
-of_page : (page word b : ℕ) → word < 4 → b < 64 → (page * 256 + (64 * word + b)) / 256 ≡ page
-of_page page word b w lt = omega (arith, w, lt)
+own_grain : (page word b : ℕ) (ys xs : List Made) → LeftAlone page xs → word < 4 → b < 64 → holds (ys ++ xs) (page * 256 + (64 * word + b)) ≡ holds ys (page * 256 + (64 * word + b))
+own_grain page word b ys xs alone w lt = holds_own (page * 256 + (64 * word + b)) ys xs (alone.none (page * 256 + (64 * word + b)) (omega (arith, w, lt)))
 
 free_before : (page word a : ℕ) (ys xs : List Made) → LeftAlone page xs → word < 4 → IsAllFree page word a ys → IsAllFree page word a (ys ++ xs)
-free_before page word a ys xs alone w free b lt =
-    ap (λ t. has_bit a b || t) (holds_own (page * 256 + (64 * word + b)) ys xs (alone.none (page * 256 + (64 * word + b)) (of_page page word b w lt))) ∙ free b lt
+free_before page word a ys xs alone w free b lt = ap (λ t. has_bit a b || t) (own_grain page word b ys xs alone w lt) ∙ free b lt
 
 free_after : (page word a : ℕ) (ys xs : List Made) → LeftAlone page xs → word < 4 → IsAllFree page word a (ys ++ xs) → IsAllFree page word a ys
-free_after page word a ys xs alone w free b lt =
-    ap (λ t. has_bit a b || t) (sym (holds_own (page * 256 + (64 * word + b)) ys xs (alone.none (page * 256 + (64 * word + b)) (of_page page word b w lt)))) ∙ free b lt
+free_after page word a ys xs alone w free b lt = ap (λ t. has_bit a b || t) (sym (own_grain page word b ys xs alone w lt)) ∙ free b lt
 
 one_before : (d : Directory) (p : ℕ) (xs : List Made) → LeftAlone p xs → (m : Made) (before : List Made) → OneHere d p m before → OneHere d p m (before ++ xs)
 one_before d p xs alone m before h = (h.0, h.1, right_own p before xs alone.right ∙ h.2)
@@ -232,21 +230,18 @@ not_offered d page a e is bit = inl (inr (inl (((ReadsEligible.Looks (number_of 
 all_looks : (d : Directory) (page a e : ℕ) (ys : List Made) → Only page_looks ys → Only page_looks (ys ++ two_looks d page a e)
 all_looks d page a e ys only = only_both page_looks ys (two_looks d page a e) only (refl, (refl, tt))
 
-used_word : (d : Directory) (page a e : ℕ) (ys : List Made) → Only page_looks ys → Once (UsedLookHere page) ys → Once (UnusableHere d page) (ys ++ two_looks d page a e)
-used_word d page a e ys are h =
-    once_map (UsedHere page) (UnusableHere d page) (ys ++ two_looks d page a e) (λ m before u. inr (inr u)) (used_once page (ys ++ two_looks d page a e) (all_looks d page a e ys are) (once_earlier (UsedLookHere page) (UsedLookHere page) ys (two_looks d page a e) (λ m before h. h) h))
-
-offered_whole : (d : Directory) (page a e : ℕ) (ys : List Made) → a ≡ deed_word_of d → has_bit e (page % 64) ≡ true → ((w : ℕ) → w < 4 → Once (FreeLookHere page w) ys) → ReadUsable d page (ys ++ two_looks d page a e)
-offered_whole d page a e ys is bit free =
+-- what the looks at the free words show after these
+offered_free : (d : Directory) (page a e : ℕ) (free : Bool) (ys : List Made) → Only page_looks ys → a ≡ deed_word_of d → has_bit e (page % 64) ≡ true → MatchBool free ((w : ℕ) → w < 4 → Once (FreeLookHere page w) ys) (Once (UsedLookHere page) ys)
+    → MatchBool free (ReadUsable d page (ys ++ two_looks d page a e)) (Once (UnusableHere d page) (ys ++ two_looks d page a e))
+offered_free d page a e false ys are is bit used =
+    once_map (UsedHere page) (UnusableHere d page) (ys ++ two_looks d page a e) (λ m before u. inr (inr u)) (used_once page (ys ++ two_looks d page a e) (all_looks d page a e ys are) (once_earlier (UsedLookHere page) (UsedLookHere page) ys (two_looks d page a e) (λ m before h. h) used))
+offered_free d page a e true ys are is bit free =
     let base = two_looks d page a e in
     inr record {
       of = once_later (OfHere d page) ys base (inr (of_deed d page a is));
       offered = once_later (OneHere d page) ys base (inl (ReadsEligible.Looks (number_of d) (page / 64) refl refl, bit, refl));
       free = λ w lt. once_map (FreeLookHere page w) (WholeHere page w) (ys ++ base) (free_here page w) (once_earlier (FreeLookHere page w) (FreeLookHere page w) ys base (λ m before h. h) (free w lt));
     }
-
-deed_was_read : (d : Directory) (page a e : ℕ) (ys : List Made) → Once (DeedReadHere page) (ys ++ two_looks d page a e)
-deed_was_read d page a e ys = once_later (DeedReadHere page) ys (two_looks d page a e) (inr (deed_read page a))
 
 -- ---- the looks at free words, one more
 pub free_more : (page word a : ℕ) (ys : List Made) → a ≡ all_ones → ((w : ℕ) → w < word → Once (FreeLookHere page w) ys) → (w : ℕ) → w < word + 1 → Once (FreeLookHere page w) (made (Look (Word.Free page word)) a ∷ ys)
@@ -257,19 +252,11 @@ free_more page word a ys e before w lt = elim (cases_lt w word) [
 
 -- ---- all looks at a page that is of the directory and offered
 pub reads_by : {σ σ1 σ2 : Standing} (d : Directory) (page a e : ℕ) (free : Bool) → Adds σ σ1 AnyView (two_looks d page a e) → a ≡ deed_word_of d → has_bit e (page % 64) ≡ true → LooksFree page σ1 σ2 free → ReadsUsable d page σ σ2 free
-reads_by d page a e true adds is bit h = record {
+reads_by d page a e free adds is bit h = record {
   steps = h.steps ++ two_looks d page a e;
   adds = adds_call adds h.adds (λ v l stood met. tt);
   kinds = all_looks d page a e h.steps h.kinds;
   few = (let n = length-append h.steps (two_looks d page a e) in let four = h.few in omega (arith, n, four));
-  deed = deed_was_read d page a e h.steps;
-  outcome = offered_whole d page a e h.steps is bit h.outcome;
-}
-reads_by d page a e false adds is bit h = record {
-  steps = h.steps ++ two_looks d page a e;
-  adds = adds_call adds h.adds (λ v l stood met. tt);
-  kinds = all_looks d page a e h.steps h.kinds;
-  few = (let n = length-append h.steps (two_looks d page a e) in let four = h.few in omega (arith, n, four));
-  deed = deed_was_read d page a e h.steps;
-  outcome = used_word d page a e h.steps h.kinds h.outcome;
+  deed = once_later (DeedReadHere page) h.steps (two_looks d page a e) (inr (deed_read page a));
+  outcome = offered_free d page a e free h.steps h.kinds is bit h.outcome;
 }

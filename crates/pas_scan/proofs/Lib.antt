@@ -1,5 +1,4 @@
 mod EligibleRows
-pub mod Singles
 pub mod Reading
 pub mod Judging
 pub mod LeftPages

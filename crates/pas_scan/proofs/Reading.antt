@@ -1,18 +1,20 @@
--- One reading more.
-use Rattle.std.proofs.Common.{◌≡◌, ◌≢◌, ℕ, suc, length, ◌+◌, ◌<◌, ◌≤◌, Bool, false, List, [], ◌∷◌, ◌++◌, refl, ap, sym, ◌∙◌, subst, arith, inl, inr}
+-- Looks at words in order: they give no right, and no word is looked at twice.
+use Rattle.std.proofs.Common.{◌≡◌, ◌≢◌, ℕ, suc, length, ◌+◌, ◌*◌, ◌/◌, ◌<◌, ◌≤◌, Bool, false, List, [], ◌∷◌, ◌++◌, ◌⊎◌, inl, inr, refl, ap, sym, ◌∙◌, subst, arith}
 use Rattle.std.proofs.lemmas.Bool.{cases_lt}
 use Rattle.pas_profile.specs.declared.profile.Profile.{Profile}
+use Rattle.pas_profile.specs.declared.word.Word.{Word as TheWord}
 use Rattle.pas_profile.specs.declared.word.Word.TheVariants as Word
 use Rattle.pas_steps.specs.Views.{View, has_right, right_after}
-use Rattle.pas_steps.specs.Past.{Once}
+use Rattle.pas_steps.specs.Past.{Once, Always}
 use Rattle.pas_steps.specs.Frames.{IsScan, OnlyScans}
 use Rattle.pas_steps.specs.Desks.{made}
 use Rattle.pas_steps.specs.declared.step.Step.{Step}
 use Rattle.pas_steps.specs.declared.step.Made.{Made}
 use Rattle.pas_steps.specs.declared.step.Step.TheVariants.{Look}
-use Rattle.pas_steps.specs.Evidence.{ReadsDeed, DeedHere}
-use Rattle.pas_scan.specs.Rows.{eligible_looks}
-use Rattle.pas_scan.specs.Scan.{deed_looks, IsFirstBare}
+use Rattle.pas_steps.specs.Evidence.{ReadsDeed, DeedHere, IsSingle}
+use Rattle.pas_steps.proofs.Past.{always_map, always_both}
+use Rattle.pas_scan.specs.Rows.{looks_from}
+use Rattle.pas_scan.specs.Scan.{IsFirstBare}
 
 -- ---- these looks give no right
 scan_right : (s : Step) (a p : ℕ) (had : Bool) → IsScan s → right_after s a p had ≡ had
@@ -27,26 +29,78 @@ pub scans_lack : (steps : List Made) (p : ℕ) → OnlyScans steps → has_right
 scans_lack [] p h = refl
 scans_lack (m ∷ more) p h = scan_right m.step m.answer p (has_right more p) h.0 ∙ scans_lack more p h.1
 
--- ---- one look more, in order
-pub eligible_more : (number from block a : ℕ) (steps : List Made) (answers : List ℕ) → from + length answers ≡ block → steps ≡ eligible_looks number from answers → made (Look (Word.Eligible number block)) a ∷ steps ≡ eligible_looks number from (a ∷ answers)
-eligible_more number from block a steps answers at order = ap (λ j. made (Look (Word.Eligible number j)) a ∷ steps) (sym at) ∙ ap (λ s. made (Look (Word.Eligible number (from + length answers))) a ∷ s) order
+-- ---- no word is looked at twice: each step stands behind all earlier ones, in an order of the words
+-- the deed words of a block of pages stand before its parked word, and behind all words of lower blocks
+abbrev pub place_of : Step → ℕ
+place_of (Look (Word.Eligible d j)) = j
+place_of (Look (Word.Deed page)) = page + page / 64
+place_of (Look (Word.Parked j)) = 65 * j + 64
+place_of other = 0
 
-eligible_counted : (number from : ℕ) (answers : List ℕ) → length (eligible_looks number from answers) ≡ length answers
-eligible_counted number from [] = refl
-eligible_counted number from (a ∷ more) = ap (λ k. suc k) (eligible_counted number from more)
+abbrev pub Below : ℕ → List Made → Type 0
+Below n = Always (λ m before. place_of m.step < n)
 
-pub eligible_count : (number from n : ℕ) (steps : List Made) (answers : List ℕ) → steps ≡ eligible_looks number from answers → length answers ≡ n → length steps ≡ n
-eligible_count number from n steps answers order is = ap length order ∙ eligible_counted number from answers ∙ is
+abbrev pub From : ℕ → List Made → Type 0
+From n = Always (λ m before. n ≤ place_of m.step)
 
-pub deeds_more : (from page a : ℕ) (steps : List Made) (answers : List ℕ) → from + length answers ≡ page → steps ≡ deed_looks from answers → made (Look (Word.Deed page)) a ∷ steps ≡ deed_looks from (a ∷ answers)
-deeds_more from page a steps answers at order = ap (λ p. made (Look (Word.Deed p)) a ∷ steps) (sym at) ∙ ap (λ s. made (Look (Word.Deed (from + length answers))) a ∷ s) order
+pub below_more : (n k : ℕ) (steps : List Made) → n ≤ k → Below n steps → Below k steps
+below_more n k steps le = always_map (λ m before. place_of m.step < n) (λ m before. place_of m.step < k) steps (λ m before lt. omega (arith, lt, le))
 
-deeds_counted : (from : ℕ) (answers : List ℕ) → length (deed_looks from answers) ≡ length answers
-deeds_counted from [] = refl
-deeds_counted from (a ∷ more) = ap (λ k. suc k) (deeds_counted from more)
+pub below_append : (n : ℕ) (ys xs : List Made) → Below n ys → Below n xs → Below n (ys ++ xs)
+below_append n ys xs = always_both (λ m before. place_of m.step < n) (λ m before. place_of m.step < n) ys xs (λ m before lt. lt)
 
-pub deeds_count : (from n : ℕ) (steps : List Made) (answers : List ℕ) → steps ≡ deed_looks from answers → length answers ≡ n → length steps ≡ n
-deeds_count from n steps answers order is = ap length order ∙ deeds_counted from answers ∙ is
+not_below : (n : ℕ) (s : Step) (steps : List Made) → Below n steps → n ≤ place_of s → Once (λ m before. m.step ≡ s) steps → ⊥
+not_below n s [] below le once = once
+not_below n s (m ∷ steps) below le (inl e) = let same : place_of m.step ≡ place_of s = ap place_of e in let lt = below.0 in absurd (omega (arith, lt, le, same))
+not_below n s (m ∷ steps) below le (inr once) = not_below n s steps below.1 le once
+
+-- one step more
+pub single_more : (n : ℕ) (m : Made) (steps : List Made) → Below n steps → n ≤ place_of m.step → IsSingle steps → IsSingle (m ∷ steps)
+single_more n m steps below le single = (not_below n m.step steps below le, single)
+
+split : (s : Step) (ys xs : List Made) → Once (λ m before. m.step ≡ s) (ys ++ xs) → Once (λ m before. m.step ≡ s) ys ⊎ Once (λ m before. m.step ≡ s) xs
+split s [] xs h = inr h
+split s (y ∷ ys) xs (inl h) = inl (inl h)
+split s (y ∷ ys) xs (inr h) = elim (split s ys xs h) [ inl here ↦ inl (inr here) | inr before ↦ inr before ]
+
+-- the steps of a call more
+pub single_append : (n : ℕ) (ys xs : List Made) → Below n xs → From n ys → IsSingle ys → IsSingle xs → IsSingle (ys ++ xs)
+single_append n [] xs below later single before = before
+single_append n (y ∷ ys) xs below later single before =
+    (λ once. elim (split y.step ys xs once) [ inl here ↦ single.0 here | inr there ↦ not_below n y.step xs below later.0 there ], single_append n ys xs below later.1 single.1 before)
+
+-- ---- looks at words from a place on
+module _ (word : ℕ → TheWord) (from : ℕ) where
+  -- one look more
+  pub looks_more : (n a : ℕ) (steps : List Made) (answers : List ℕ) → from + length answers ≡ n → steps ≡ looks_from word from answers → made (Look (word n)) a ∷ steps ≡ looks_from word from (a ∷ answers)
+  looks_more n a steps answers at order = ap (λ j. made (Look (word j)) a ∷ steps) (sym at) ∙ ap (λ s. made (Look (word (from + length answers))) a ∷ s) order
+
+  counted : (answers : List ℕ) → length (looks_from word from answers) ≡ length answers
+  counted [] = refl
+  counted (a ∷ more) = ap (λ k. suc k) (counted more)
+
+  pub looks_count : (n : ℕ) (steps : List Made) (answers : List ℕ) → steps ≡ looks_from word from answers → length answers ≡ n → length steps ≡ n
+  looks_count n steps answers order is = ap length order ∙ counted answers ∙ is
+
+  scans : ((j : ℕ) → IsScan (Look (word j))) → (answers : List ℕ) → OnlyScans (looks_from word from answers)
+  scans are [] = tt
+  scans are (a ∷ more) = (are (from + length more), scans are more)
+
+  pub looks_scan : ((j : ℕ) → IsScan (Look (word j))) → (steps : List Made) (answers : List ℕ) → steps ≡ looks_from word from answers → OnlyScans steps
+  looks_scan are steps answers order = subst OnlyScans (sym order) (scans are answers)
+
+  later_word : ((i j : ℕ) → Look (word i) ≡ Look (word j) → i ≡ j) → (n : ℕ) (answers : List ℕ) → from + length answers ≤ n → Once (λ m before. m.step ≡ Look (word n)) (looks_from word from answers) → ⊥
+  later_word other n [] le once = once
+  later_word other n (a ∷ more) le (inl e) = let same = other (from + length more) n e in absurd (omega (arith, same, le))
+  later_word other n (a ∷ more) le (inr once) = later_word other n more (omega (arith, le)) once
+
+  singles : ((i j : ℕ) → Look (word i) ≡ Look (word j) → i ≡ j) → (answers : List ℕ) → IsSingle (looks_from word from answers)
+  singles other [] = tt
+  singles other (a ∷ more) = (later_word other (from + length more) more (omega arith), singles other more)
+
+  -- where each place has a word of its own
+  pub looks_single : ((i j : ℕ) → Look (word i) ≡ Look (word j) → i ≡ j) → (steps : List Made) (answers : List ℕ) → steps ≡ looks_from word from answers → IsSingle steps
+  looks_single other steps answers order = subst IsSingle (sym order) (singles other answers)
 
 -- ---- deeds
 pub deed_more : (from page : ℕ) (steps : List Made) (a : ℕ) → ((p : ℕ) → from ≤ p → p < page → Once (DeedHere p) steps) → a ≢ 0 → (p : ℕ) → from ≤ p → p < page + 1 → Once (DeedHere p) (made (Look (Word.Deed page)) a ∷ steps)

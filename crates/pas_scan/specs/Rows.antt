@@ -5,6 +5,7 @@ use Rattle.pas_lanes.specs.Rows.{is_set}
 use Rattle.pas_profile.specs.Directories.{number_of}
 use Rattle.pas_profile.specs.declared.directory.Directory.{Directory}
 use Rattle.pas_profile.specs.declared.profile.Profile.{Profile}
+use Rattle.pas_profile.specs.declared.word.Word.{Word as TheWord}
 use Rattle.pas_profile.specs.declared.word.Word.TheVariants as Word
 use Rattle.pas_steps.specs.Desks.{Standing, AnyView, Adds, made}
 use Rattle.pas_steps.specs.Past.{Once}
@@ -28,10 +29,14 @@ pub record IsLowestShown (row : List ℕ) (block next page : ℕ) : Type 0 where
   pub lower : (p : ℕ) → next ≤ p → 64 * block ≤ p → p < page → shows_page row block p ≡ false
 
 -- ---- how it is read
--- looks at the eligible words of the directory of this number from this block on, in order, with these answers, the newest first
+-- looks at words in order, from this place on, with these answers, the newest first
+abbrev pub looks_from : (ℕ → TheWord) → ℕ → List ℕ → List Made
+looks_from word from [] = []
+looks_from word from (a ∷ more) = made (Look (word (from + length more))) a ∷ looks_from word from more
+
+-- those at the eligible words of the directory of this number from this block on
 abbrev pub eligible_looks : ℕ → ℕ → List ℕ → List Made
-eligible_looks number block [] = []
-eligible_looks number block (a ∷ more) = made (Look (Word.Eligible number (block + length more))) a ∷ eligible_looks number block more
+eligible_looks number block answers = looks_from (λ j. Word.Eligible number j) block answers
 
 -- this eligible word was read so
 abbrev pub WordReadHere : ℕ → ℕ → ℕ → Made → List Made → Type 0

@@ -9,7 +9,7 @@ use Rattle.pas_profile.specs.declared.event.NoRoom.{NoRoom}
 use Rattle.pas_profile.specs.declared.event.NoRoom.TheVariants.{NoSpace, Held}
 use Rattle.pas_steps.specs.Views.{View, has_right, KnowsDeed}
 use Rattle.pas_steps.specs.Agreement.{Agreed}
-use Rattle.pas_steps.specs.Desks.{Standing, AnyView, Adds, made}
+use Rattle.pas_steps.specs.Desks.{Standing, AnyView, Adds}
 use Rattle.pas_steps.specs.Past.{Once, Always}
 use Rattle.pas_steps.specs.Frames.{OnlyScans}
 use Rattle.pas_steps.specs.Kinds.{Kinds, LookDeed, LookParked, Only}
@@ -17,7 +17,7 @@ use Rattle.pas_steps.specs.declared.step.Made.{Made}
 use Rattle.pas_steps.specs.declared.step.Step.TheVariants.{Look}
 use Rattle.pas_profile.specs.declared.word.Word.TheVariants as Word
 use Rattle.pas_scan.specs.Marks.{is_marked}
-use Rattle.pas_scan.specs.Rows.{eligible_looks, words_to}
+use Rattle.pas_scan.specs.Rows.{looks_from, eligible_looks, words_to}
 use Rattle.pas_steps.specs.Evidence.{ZeroHere, OneHere, DeedHere, NoDeedHere, ParkedHere, IsSingle}
 
 -- ---- the search of offered pages from page `next` on
@@ -57,8 +57,7 @@ pub record IsFirstBare (f : Profile) (from : ℕ) (steps : List Made) (page : �
 
 -- looks at the deed words of the pages from this one on, in order, with these answers, the newest first
 abbrev pub deed_looks : ℕ → List ℕ → List Made
-deed_looks from [] = []
-deed_looks from (a ∷ more) = made (Look (Word.Deed (from + length more))) a ∷ deed_looks from more
+deed_looks from answers = looks_from (λ page. Word.Deed page) from answers
 
 -- The deed words from that of page `from` on were read, each once and the lowest first, up to that of the page that was found, or all of them;
 -- and nothing else.

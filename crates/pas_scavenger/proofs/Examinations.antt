@@ -1,5 +1,5 @@
 -- What the scavenger does on one page whose empty bit was cleared.
-use Rattle.std.proofs.Common.{◌≡◌, ℕ, ◌*◌, ◌/◌, ◌%◌, ◌<◌, ◌==◌, nat_lt, Bool, true, false, ◌&&◌, ◌||◌, length, slice_index, slice_set, refl, ap, sym, ◌∙◌, arith, inl, inr, get_or-set_same, get_or-set_other, true≢false, ◌+◌, not, if◌then◌else◌, List, [], ◌∷◌, ◌++◌, Option, None, Some, subst, bit_and, ◌≢◌, ◌≤◌, append_assoc, length-append}
+use Rattle.std.proofs.Common.{◌≡◌, ℕ, ◌*◌, ◌/◌, ◌%◌, ◌<◌, ◌==◌, nat_lt, Bool, true, false, ◌&&◌, ◌||◌, length, slice_index, slice_set, refl, ap, sym, ◌∙◌, arith, inl, inr, get_or-set_same, get_or-set_other, ◌+◌, not, if◌then◌else◌, List, [], ◌∷◌, ◌++◌, Option, None, Some, subst, bit_and, ◌≢◌, ◌≤◌, append_assoc, length-append}
 use Rattle.std.proofs.Math.Bool.{or-false}
 use Rattle.std.proofs.lemmas.Bool.{cases_eq, cases_lt, eq-eqb, ne_eqb, lt-ltb, le-ltb, ltb-true, eqb-true, cases_Bool, and_from, and_right}
 use Rattle.pas_profile.specs.Classes.{has_bit}
@@ -32,7 +32,7 @@ use Rattle.pas_profile.specs.declared.word.Word.TheVariants as Word
 use Rattle.pas_steps.specs.Agreement.{Agreed}
 use Rattle.pas_steps.specs.Allowed.{IsEpochKnown, MayUnback}
 use Rattle.pas_steps.proofs.Adding.{adds_none, adds_step, adds_under}
-use Rattle.pas_steps.proofs.Backed.{any_from}
+use Rattle.pas_steps.proofs.Kept.{any_from}
 use Rattle.pas_steps.proofs.Bits.{all_below-from}
 use Rattle.pas_scavenger.specs.Judgements.{MayJudge, used_at, Judged, JudgesPage}
 use Rattle.pas_profile.specs.declared.event.Event.{Event}
@@ -68,9 +68,6 @@ run_below word g = same_truth (in_run 0 (word * 64) g) (nat_lt (g / 64) word)
     (λ h. let at = run_of 0 (word * 64) g h in let high = at.1 in lt-ltb (g / 64) word (omega (arith, high)))
     (λ h. let lt = ltb-true (g / 64) word h in to_run 0 (word * 64) g (omega arith) (omega (arith, lt)))
 
-or_last : (x y : Bool) → x ≡ false → (x || y) ≡ y
-or_last x y h = grind arith
-
 -- a run of all grains of the words below this one, and the word
 pub grains_before : (run : Mask4) (word value : ℕ) → length run.0 ≡ 4 → word < 4 → ((g : ℕ) → is_set run g ≡ in_run 0 (word * 64) g)
     → (g : ℕ) → has_bit (slice_index (slice_set run.0 word value) (g / 64)) (g % 64) ≡ (nat_lt (g / 64) word || ((word == g / 64) && has_bit value (g % 64)))
@@ -80,7 +77,7 @@ grains_before run word value four lt before g =
       | inl e ↦
           let at : word < length run.0 = omega (arith, four, lt) in
           ap (λ n. has_bit (slice_index (slice_set run.0 word value) n) (g % 64)) (sym e) ∙ ap (λ n. has_bit n (g % 64)) (rw get_or-set_same refl)
-          ∙ sym (or_last (nat_lt (g / 64) word) ((word == g / 64) && bit) (le-ltb (g / 64) word (omega (arith, e))) ∙ ap (λ t. t && bit) (eq-eqb word (g / 64) e))
+          ∙ sym (ap (λ t. t || ((word == g / 64) && bit)) (le-ltb (g / 64) word (omega (arith, e))) ∙ ap (λ t. t && bit) (eq-eqb word (g / 64) e))
       | inr ne ↦
           let other : (g / 64 ≡ word → ⊥) = λ e. ne (sym e) in
           ap (λ n. has_bit n (g % 64)) (rw get_or-set_other refl) ∙ before g ∙ run_below word g
@@ -105,21 +102,10 @@ below page n g =
     ap (λ b. nat_lt (g / 64 % 4) n && (p && (b && b))) (full_bit (g % 64) (omega arith)) ∙ both_order (nat_lt (g / 64 % 4) n) p ∙ ap (λ w. p && nat_lt w n) word
 
 one_take : (s p u b r : Bool) → u ≡ true → held_after (if ((s && p) && u) && b then Gets else Stays) (p && r) ≡ (p && (r || (s && b)))
-one_take s p false b r e = absurd (true≢false (sym e))
-one_take true true true true true e = refl
-one_take true true true true false e = refl
-one_take true true true false true e = refl
-one_take true true true false false e = refl
-one_take true false true b r e = refl
-one_take false true true b true e = refl
-one_take false true true b false e = refl
-one_take false false true b r e = refl
-
-or_none : (x y : Bool) → y ≡ false → (x || y) ≡ x
-or_none x y h = grind arith
+one_take s p u b r e = grind arith
 
 pub takes_hold : (page n g : ℕ) (v : View) → holds v g ≡ false → holds (takes page ones ones n ++ v) g ≡ ((page == g / 256) && nat_lt (g % 256 / 64) n)
-takes_hold page n g v none = grains_held page ones ones n g v ∙ or_none (got_below page ones ones n g) (holds v g) none ∙ below page n g
+takes_hold page n g v none = grains_held page ones ones n g v ∙ ap (λ t. got_below page ones ones n g || t) none ∙ or-false (got_below page ones ones n g) ∙ below page n g
 
 pub until_holds : (page : ℕ) (used : Option Used) (g : ℕ) (v : View) → holds v g ≡ false → holds (takes_until page used ++ v) g ≡ ((page == g / 256) && was_free used (g % 256))
 until_holds page None g v none = takes_hold page 4 g v none
@@ -137,12 +123,12 @@ ends_it a = elim (cases_Bool (a == all_ones)) [
   | inr e ↦ ap (λ t. not t || not (bit_and a all_ones == 0)) e
 ]
 
-ends_at : (page a : ℕ) (was : Bool) → (if (page == page) && (not (a == all_ones) || not (bit_and a all_ones == 0)) then false else was) ≡ false
-ends_at page a was = ap (λ t. if t && (not (a == all_ones) || not (bit_and a all_ones == 0)) then false else was) (same_page page) ∙ ap (λ t. if t then false else was) (ends_it a)
+pub ended_by : (page : ℕ) (t was : Bool) → t ≡ true → (if (page == page) && t then false else was) ≡ false
+ended_by page t was is = ap (λ u. if u && t then false else was) (same_page page) ∙ ap (λ u. if u then false else was) is
 
 pub takes_examined : (page : ℕ) (used : Option Used) (v : View) → examines (takes_until page used ++ v) page ≡ false
-takes_examined page None v = ends_at page all_ones (examines (takes page ones ones 3 ++ v) page)
-takes_examined page (Some used) v = ends_at page used.value (examines (takes page ones ones used.word ++ v) page)
+takes_examined page None v = ended_by page _ (examines (takes page ones ones 3 ++ v) page) (ends_it all_ones)
+takes_examined page (Some used) v = ended_by page _ (examines (takes page ones ones used.word ++ v) page) (ends_it used.value)
 
 -- ---- from one state to the next
 at_over : {page : ℕ} {grains grains' : ℕ → Bool} {right right' : Bool} (ks : Kinds) → apart ks unstamping ≡ true → apart ks opening ≡ true → apart ks (Unhinting ∷ []) ≡ true → (steps : List Made) (v : View) → Only ks steps
@@ -163,10 +149,7 @@ pub at_idle : {page : ℕ} {grains : ℕ → Bool} {right : Bool} (steps : List 
 at_idle steps v only at = at_over idle refl refl refl steps v only at (λ g. holds_same idle refl g steps v only ∙ at.held g) (λ q. rights_same idle refl q steps v only ∙ at.rights q)
 
 got_right : (got here : Bool) → now (if here then (if got then Gained else Kept) else Kept) false ≡ (got && here)
-got_right true true = refl
-got_right true false = refl
-got_right false true = refl
-got_right false false = refl
+got_right got here = grind arith
 
 pub at_claim : (page : ℕ) (d : Directory) (a : ℕ) (got : Bool) (v : View) → Does (on_page page (if got then Gained else Kept) Kept) v (made (TakeRight page d) a ∷ v) → IsAt page none false v → IsAt page none got (made (TakeRight page d) a ∷ v)
 at_claim page d a got v does at = at_over (Claiming ∷ []) refl refl refl (made (TakeRight page d) a ∷ []) v (refl, tt) at (λ g. does.held g ∙ at.held g)
@@ -271,8 +254,7 @@ without_sized : (page : ℕ) (outcome : Outcome) (steps : List Made) → EndsWit
 without_sized page Bare steps h = sized_at h (sized quiet 8 (refl, tt) (omega arith))
 without_sized page (InUse w v) steps h = let first = first_sized page h.0 (Some (used_at w v)) h.2 in let few = first.few in sized_at h.3 (sized quiet 8 first.only (omega (arith, few)))
 without_sized page NotOffered steps h = let asked = asks_sized page h.0 false h.2 h.3 in let few = asked.few in sized_at h.4 (sized quiet 8 (refl, asked.only) (omega (arith, few)))
-without_sized page (Young s) steps h = absurd h
-without_sized page Unbacked steps h = absurd h
+without_sized page other steps h = absurd h
 
 back_sized : (page : ℕ) (d : Directory) (grains : Mask4) (steps : List Made) → BackSteps page d grains steps → Sized quiet 23 steps
 back_sized page d grains steps h = sized_at h.steps_are
@@ -315,10 +297,8 @@ judged_event k age epoch page used NotOffered steps rest v h only known = absurd
 
 without_none : (k epoch page : ℕ) (outcome : Outcome) (steps : List Made) → EndsWithout page outcome steps → unback_of k epoch page outcome ≡ []
 without_none k epoch page Unbacked steps h = absurd h
-without_none k epoch page Bare steps h = refl
 without_none k epoch page (Young s) steps h = absurd h
-without_none k epoch page (InUse w v) steps h = refl
-without_none k epoch page NotOffered steps h = refl
+without_none k epoch page other steps h = refl
 
 -- the steps of an examination with the right, in order
 pub taken_on : (age epoch page : ℕ) (outcome : Outcome) (steps : List Made) (h : EndsWith age epoch page outcome steps) → steps ≡ h.takes.back ++ (h.takes.after ++ (takes_until page h.takes.used ++ h.asked))
@@ -337,8 +317,7 @@ examine_event k age epoch page outcome steps v (inr h) known =
 -- ==== All grains are put back, and their page is left.
 
 lost : (t : Bool) → now (if t then Lost else Kept) t ≡ false
-lost true = refl
-lost false = refl
+lost t = grind arith
 
 may_put : (page : ℕ) (d : Directory) (grains : Mask4) (v : View) → MayPutBack page d grains v → MayPutAndReturn page d grains v
 may_put page d grains v met = record { deed = met.deed; puts = record { held = λ g here. met.at.held g ∙ here; stamped = met.at.stamped page } }
@@ -372,6 +351,10 @@ module _ {σ σ1 : Standing} (page : ℕ) (d : Directory) (grains : Mask4) (puts
 -- ==== One page whose empty bit was cleared, up to its outcome, and what the steps show of it.
 
 -- ---- the calls
+-- steps that were added, with what they lead to
+pub call_by : {σ σ1 : Standing} {B C : View → Type 0} {R : View → View → Type 0} {xs : List Made} → Adds σ σ1 C xs → ((v : View) → B v → C v) → ((v : View) → B v → Agreed σ.seat.profile v xs → R v (xs ++ v)) → Calls σ σ1 B R xs
+call_by adds under from = record { adds = adds_under adds (λ v l stood met. under v met); leads = record { from = from } }
+
 -- these grains were taken, and the page is no longer examined
 pub record IsTaken (page epoch : ℕ) (grains : Mask4) (v : View) : Type 0 where
   pub at : IsAt page (masked page grains) true v
@@ -387,7 +370,7 @@ module _ {σ σ1 : Standing} (page : ℕ) (d : Directory) (epoch : ℕ) (used : 
   }
 
   pub took : Calls σ σ1 (MayTake page d epoch) (λ v w. IsTaken page epoch grains w) (takes_until page used)
-  took = record { adds = adds_under t.adds (λ v l stood met. met.at.rights page ∙ same_page page); leads = record { from = λ v met agreed. is_taken v met } }
+  took = call_by t.adds (λ v met. met.at.rights page ∙ same_page page) (λ v met agreed. is_taken v met)
 
   may_judge : (v : View) → IsTaken page epoch grains v → MayJudge page epoch used v
   may_judge v is = record {
@@ -405,10 +388,8 @@ module _ {σ σ1 : Standing} (page : ℕ) (d : Directory) (epoch : ℕ) (used : 
 
     judged_call : Calls σ σ2 (MayTake page d epoch) (λ v w. MayPutBack page d grains w) (j.steps ++ takes_until page used)
     judged_call =
-        let c : Calls σ1 σ2 (IsTaken page epoch grains) (λ v w. IsAt page (masked page grains) true w × (examines w page ≡ false)) j.steps = record {
-          adds = adds_under j.adds (λ v l stood is. may_judge v is);
-          leads = record { from = λ v is agreed. (at_idle j.steps v only_idle is.at, unexamined_over idle refl page j.steps v only_idle is.ended) };
-        } in
+        let c : Calls σ1 σ2 (IsTaken page epoch grains) (λ v w. IsAt page (masked page grains) true w × (examines w page ≡ false)) j.steps
+        = call_by j.adds may_judge (λ v is agreed. (at_idle j.steps v only_idle is.at, unexamined_over idle refl page j.steps v only_idle is.ended)) in
         let both = call_then (λ v w. IsAt page (masked page grains) true w × (examines w page ≡ false)) took c (λ v met is. is) (λ v met is after. after) in
         call_as (λ v w. MayPutBack page d grains w) (call_knows page d both (λ v met. met.deed)) (λ v met. met) (λ v w met h. record { at = h.0.0; ended = h.0.1; deed = h.1 })
 
@@ -449,17 +430,12 @@ looks_idle : (page : ℕ) (used : Option Used) → Only idle (looks_until page u
 looks_idle page used = only_within (LookFree ∷ []) idle (looks_until page used) refl (until_only page used)
 
 -- ---- the examination ends at a backed word that is 0, and at a free word that isn't all ones
-bare_ends : (page b : ℕ) (was : Bool) → b ≡ 0 → (if (page == page) && (b == 0) then false else was) ≡ false
-bare_ends page b was zero = ap (λ t. if t && (b == 0) then false else was) (same_page page) ∙ ap (λ t. if t then false else was) (eq-eqb b 0 zero)
-
 used_ends : (page : ℕ) (used : Used) (v : View) → IsUsed used → examines (looks_until page (Some used) ++ v) page ≡ false
-used_ends page used v is =
-    let a = used.value in let was = examines (looks page ones used.word ++ v) page in
-    ap (λ t. if t && not (a == all_ones) then false else was) (same_page page) ∙ ap (λ t. if not t then false else was) (ne_eqb a all_ones is.some)
+used_ends page used v is = ended_by page (not (used.value == all_ones)) (examines (looks page ones used.word ++ v) page) (ap not (ne_eqb used.value all_ones is.some))
 
 pub bare_page : {σ σ1 : Standing} (page epoch b : ℕ) → Makes σ σ1 (Look (Word.Backed page)) b → b ≡ 0 → ExaminesPage page epoch σ σ1 Bare
 bare_page page epoch b makes zero = examined page epoch Bare (made (Look (Word.Backed page)) b ∷ [])
-    (call_step (λ v w. HasNothing w) (call_none {R = λ v w. MayExamine page epoch w} (λ v met. met)) makes (λ v met is. tt) (λ v met is agrees. rests (at_idle (made (Look (Word.Backed page)) b ∷ []) v (refl, tt) met.at) (bare_ends page b (examines v page) zero)))
+    (call_step (λ v w. HasNothing w) (call_none {R = λ v w. MayExamine page epoch w} (λ v met. met)) makes (λ v met is. tt) (λ v met is agrees. rests (at_idle (made (Look (Word.Backed page)) b ∷ []) v (refl, tt) met.at) (ended_by page (b == 0) (examines v page) (eq-eqb b 0 zero))))
     (inl (ap (λ n. made (Look (Word.Backed page)) n ∷ []) zero))
 
 -- ---- the page is backed
@@ -473,20 +449,16 @@ module _ {σ σ1 : Standing} (page epoch b : ℕ) (some : b ≢ 0) (first : Make
 
   pub used_page : {σ2 : Standing} (used : Used) → ReadsUntilUsed page σ1 σ2 (Some used) → ExaminesPage page epoch σ σ2 (InUse used.word used.value)
   used_page {σ2} used l =
-      let c : Calls σ1 σ2 (IsSeen page epoch) (λ v w. HasNothing w) (looks_until page (Some used)) = record {
-        adds = adds_under l.adds (λ v l stood met. tt);
-        leads = record { from = λ v is agreed. rests (at_idle (looks_until page (Some used)) v (looks_idle page (Some used)) is.0.at) (used_ends page used v l.are) };
-      } in
+      let c : Calls σ1 σ2 (IsSeen page epoch) (λ v w. HasNothing w) (looks_until page (Some used))
+      = call_by l.adds (λ v met. tt) (λ v is agreed. rests (at_idle (looks_until page (Some used)) v (looks_idle page (Some used)) is.0.at) (used_ends page used v l.are)) in
       examined page epoch (InUse used.word used.value) (first_looks page b (Some used)) (call_then (λ v w. HasNothing w) backed c (λ v met is. is) (λ v met is r. r)) (inl (b, some, l.are, refl))
 
   -- each free word is all ones
   module _ {σ2 : Standing} (l : ReadsUntilUsed page σ1 σ2 None) where
     seen : Calls σ σ2 (MayExamine page epoch) (λ v w. IsSeen page epoch w) (first_looks page b None)
     seen =
-        let c : Calls σ1 σ2 (IsSeen page epoch) (λ v w. IsSeen page epoch w) (looks_until page None) = record {
-          adds = adds_under l.adds (λ v l stood met. tt);
-          leads = record { from = λ v is agreed. (still page epoch (looks_until page None) v (looks_idle page None) is.0, once_later _ (looks_until page None) v is.1) };
-        } in
+        let c : Calls σ1 σ2 (IsSeen page epoch) (λ v w. IsSeen page epoch w) (looks_until page None)
+        = call_by l.adds (λ v met. tt) (λ v is agreed. (still page epoch (looks_until page None) v (looks_idle page None) is.0, once_later _ (looks_until page None) v is.1)) in
         call_then (λ v w. IsSeen page epoch w) backed c (λ v met is. is) (λ v met is r. r)
 
     pub can_read : CanCall σ (MayExamine page epoch) → CanCall σ2 (λ v. ReadBacked v page)
@@ -496,10 +468,8 @@ module _ {σ σ1 : Standing} (page epoch b : ℕ) (some : b ≢ 0) (first : Make
       known : Calls σ σ3 (MayExamine page epoch) (λ v w. MayExamine page epoch w × KnowsDeed page d w) (made (Look (Word.Deed page)) (deed_word_of d) ∷ first_looks page b None)
       known =
           let look = made (Look (Word.Deed page)) (deed_word_of d) ∷ [] in
-          let c : Calls σ2 σ3 (IsSeen page epoch) (λ v w. MayExamine page epoch w × KnowsDeed page d w) look = record {
-            adds = adds_under r.adds (λ v l stood met. tt);
-            leads = record { from = λ v is agreed. (still page epoch look v (refl, tt) is.0, ap (λ t. if t then deed_word_of d else known_deed v page) (same_page page)) };
-          } in
+          let c : Calls σ2 σ3 (IsSeen page epoch) (λ v w. MayExamine page epoch w × KnowsDeed page d w) look
+          = call_by r.adds (λ v met. tt) (λ v is agreed. (still page epoch look v (refl, tt) is.0, ap (λ t. if t then deed_word_of d else known_deed v page) (same_page page))) in
           call_then (λ v w. MayExamine page epoch w × KnowsDeed page d w) seen c (λ v met is. is) (λ v met is r. r)
 
       pub can_claim : CanCall σ (MayExamine page epoch) → CanCall σ3 (KnowsDeed page d)

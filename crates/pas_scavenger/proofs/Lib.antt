@@ -1,2 +1,2 @@
-pub mod Examinations
+mod Examinations
 pub mod Trying

@@ -13,7 +13,7 @@ use Rattle.std.proofs.lemmas.List.{reverse-append, length-reverse, append-nil}
 use Rattle.std.proofs.lemmas.Bool.{cases_eq}
 use Rattle.pas_profile.specs.Classes.{has_bit}
 use Rattle.pas_profile.specs.declared.event.Outcome.{Outcome}
-use Rattle.pas_profile.specs.declared.event.Outcome.TheVariants.{Unbacked, Bare, Young, InUse, NotOffered}
+use Rattle.pas_profile.specs.declared.event.Outcome.TheVariants.{Unbacked}
 use Rattle.pas_profile.specs.Profiles.{IsPage, vector_words}
 use Rattle.pas_profile.specs.declared.profile.Profile.{Profile}
 use Rattle.pas_steps.specs.Agreement.{AgreesEmpty}
@@ -28,7 +28,7 @@ use Rattle.pas_steps.proofs.Frames.{events_append}
 use Rattle.pas_utility.specs.Outcomes.{pair}
 use Rattle.pas_scavenger.specs.Pages.{ExamineSteps, unback_of, examining, MayExamine, ExaminesPage}
 use Rattle.pas_scavenger.specs.Passes.{Tried, with_outcome, outcomes_in, pages_set, trying, unbacks_in, IsReady, Tries, TriesPage, WordRead, WordSteps, all_tried, passing, Passes}
-use Rattle.pas_scavenger.proofs.Examinations.{at_unhint, rests}
+use Rattle.pas_scavenger.proofs.Examinations.{at_unhint, rests, call_by}
 use Rattle.pas_steps.specs.InTurn.{InTurn, numbers_below}
 use Rattle.pas_profile.specs.declared.word.Word.TheVariants as Word
 
@@ -51,10 +51,7 @@ unbacks_append k epoch (x ∷ xs) ys = ap (λ es. unback_of k epoch x.0 x.1 ++ e
 
 one_unback : (k epoch page : ℕ) (o : Outcome) → length (unback_of k epoch page o) ≤ 1
 one_unback k epoch page Unbacked = omega arith
-one_unback k epoch page Bare = omega arith
-one_unback k epoch page (Young s) = omega arith
-one_unback k epoch page (InUse w v) = omega arith
-one_unback k epoch page NotOffered = omega arith
+one_unback k epoch page other = omega arith
 
 few_unbacks : (k epoch page : ℕ) (o : Option Outcome) → length (unbacks_in k epoch (with_outcome page o [])) ≤ 1
 few_unbacks k epoch page None = omega arith
@@ -132,10 +129,8 @@ module _ {σ σ1 : Standing} (page epoch a : ℕ) (makes : Makes σ σ1 (Unhint 
   pub tries_some : {σ2 : Standing} {outcome : Outcome} (before after : List (ℕ × Outcome)) → has_bit a (page % 64) ≡ true → ExaminesPage page epoch σ1 σ2 outcome → after ≡ before ++ pair page outcome ∷ [] → TriesPage page epoch σ σ2 before after
   tries_some {σ2} {outcome} before after set x added =
       let unhint = made (Unhint page) a ∷ [] in
-      let c : Calls σ1 σ2 (MayExamine page epoch) (λ v w. IsReady epoch w) x.steps = record {
-        adds = x.calls.adds;
-        leads = record { from = λ v may agreed. record { nothing = x.calls.leads.from v may agreed; epoch_is = epoch_same examining refl x.steps v x.kinds ∙ may.epoch_is } };
-      } in
+      let c : Calls σ1 σ2 (MayExamine page epoch) (λ v w. IsReady epoch w) x.steps
+      = call_by x.calls.adds (λ v may. may) (λ v may agreed. record { nothing = x.calls.leads.from v may agreed; epoch_is = epoch_same examining refl x.steps v x.kinds ∙ may.epoch_is }) in
       record {
         outcome = Some outcome;
         steps = x.steps ++ unhint;

@@ -60,8 +60,5 @@ fresh_are_of id f k (room ∷ rooms) (pass ∷ passes) h zero d lt = h.0.of_tabl
 fresh_are_of id f k (room ∷ rooms) (pass ∷ passes) h (suc j) d lt = fresh_are_of id f (k + 1) rooms passes h.1 j d (omega (arith, lt))
 
 -- ---- the rooms that are left
-pub all_after_first : {A : Type 0} (P : A → Type 0) (xs : List A) (x : A) (rest : List A) → xs ≡ x ∷ rest → All P xs → All P rest
-all_after_first {A = A} P xs x rest is all k d lt = subst (λ (ys : List A). All P ys) is all (suc k) d (omega (arith, lt))
-
 pub one_done : {A : Type 0} (done xs : List A) (x : A) (rest whole : List A) → xs ≡ x ∷ rest → done ++ xs ≡ whole → (done ++ x ∷ []) ++ rest ≡ whole
 one_done {A = A} done xs x rest whole is all = append_assoc done (x ∷ []) rest ∙ (ap (λ (ys : List A). done ++ ys) (sym is) ∙ all)

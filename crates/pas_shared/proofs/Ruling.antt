@@ -7,13 +7,11 @@ use Rattle.pas_machine.specs.Machine.{Run}
 use Rattle.pas_profile.specs.declared.word.Word.TheVariants as Word
 use Rattle.pas_steps.specs.Views.{known_deed, View, epoch_of}
 use Rattle.pas_steps.specs.Lists.{Whole, Legal, part, visible, word_after}
-use Rattle.pas_core.proofs.MachineRuns.{runs, agrees}
-use Rattle.pas_core.proofs.Placed.{in_one_place, lists_borne}
+use Rattle.pas_core.proofs.MachineRuns.{runs, agrees, in_one_place, lists_borne}
 use Rattle.pas_core.proofs.Offers.{parked_is_owed, empty_is_minded}
-use Rattle.pas_core.proofs.Rights.{right_in_one_place, free_without_deed, free_known}
+use Rattle.pas_core.proofs.Rights.{right_in_one_place, free_without_deed, free_known, deeds_known, backed_known}
 use Rattle.pas_core.proofs.Stamps.{ends_stamped, unstamped_is_held, stamp_known, epoch_known}
-use Rattle.pas_core.proofs.DeedWords.{known_is}
-use Rattle.pas_core.proofs.Knowledge.{deeds_known, backed_known}
+use Rattle.pas_core.proofs.Deeds.{known_is}
 use Rattle.pas_core.proofs.Lives.{life_is_known}
 use Rattle.pas_shared.specs.Kept.{IsGood, NoneIsEarly}
 use Rattle.std.proofs.lemmas.Bool.{cases_eq}
@@ -311,10 +309,6 @@ ends f key id u words slots passes known (s, h, words_are, homes, there) named =
   parts = All-weaker (IsNamed u) (λ (p : SharedPass). part (seat_of p).actor h.0.whole ≡ view_of p) (λ p has. h.0.one_order p.place.actor ∙ (h.0.named id u p.place.actor (view_of p) h.1 (names_shown u _ _ has)).1) passes named;
   words = λ w hw. ap (λ (ws : List ℕ). slice_index ws (index_of key.pages w)) (sym words_are) ∙ h.0.words_are.values w hw;
 }
-
-pub longer : (xs : List SharedPass) (p : SharedPass) (rest : List SharedPass) → (xs ++ p ∷ []) ++ rest ≡ xs ++ p ∷ rest
-longer [] p rest = refl
-longer (x ∷ xs) p rest = ap (λ (ys : List SharedPass). x ∷ ys) (longer xs p rest)
 
 pub read_at : (xs : List ℕ) (i a d : ℕ) → get_elem? xs i ≡ some a → get_or xs i d ≡ a
 read_at [] i a d e = absurd (some-ne-none a (sym e))

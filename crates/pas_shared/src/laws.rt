@@ -24,6 +24,7 @@ pub fn closed_words()
 
 /// No page is unbacked before all ends on it are old enough, however late the threads that made the ends write their stamps: neither
 /// between two steps, nor in what a closed region did.
+#[tactic(auto, using(crate::proofs::Ruling::none_is_early))]
 pub fn no_early_unback()
     ensures between { (f : Profile) (words : List ℕ) (rosters : List Roster) → IsValid f → (h : AreAfterOneList f words rosters) → NoneIsEarly f (visible h.whole) }
     ensures closed { (f : Profile) (passes : List SharedPass) (state : State) → IsValid f → (h : EndsWith f passes state) → NoneIsEarly f (visible h.after.whole) }

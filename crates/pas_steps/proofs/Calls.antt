@@ -19,11 +19,10 @@ use Rattle.pas_steps.specs.declared.step.Step.TheVariants.{Look, Back, Take, Put
 use Rattle.pas_steps.proofs.Adding.{agreed_first, agreed_later}
 use Rattle.pas_steps.proofs.Apart.{in_apart, holds_over, grain_same, holds_same}
 use Rattle.pas_steps.proofs.Flags.{ends_none, ap_if}
-use Rattle.pas_steps.proofs.Kept.{look_check, look_hint, right_on, returns_on}
+use Rattle.pas_steps.proofs.Kept.{look_check, look_hint, right_on, returns_on, backed_with}
 use Rattle.pas_steps.proofs.Past.{always_map}
 use Rattle.pas_steps.specs.Frames.{IsReturn, OnlyOn, OnlyReturns, unbacks, IsOnPage}
 use Rattle.pas_steps.specs.Kinds.{Kinds, kind_of, look_kind, place_of, is_in, apart, Only, Unhinting, moving, unbacking, changing, returning, Putting, Ending, Parking}
-use Rattle.pas_steps.proofs.Backed.{backed_with}
 
 -- ---- two calls: the one place where their lists are put together
 pub leads_none : {f : Profile} {B : View → Type 0} {R : View → View → Type 0} → ((v : View) → B v → R v v) → Leads f B R []

@@ -1,6 +1,6 @@
--- What the framed steps leave as it was: rights, grains, knowledge, debts and events.
-use Rattle.std.proofs.Common.{◌≡◌, ◌≢◌, ℕ, ◌+◌, ◌*◌, ◌/◌, ◌%◌, ◌==◌, Bool, true, false, not, ◌&&◌, ◌||◌, if◌then◌else◌, List, [], ◌∷◌, ◌++◌, refl, ap, sym, ◌∙◌, subst, arith, bit_and}
-use Rattle.std.proofs.lemmas.Bool.{ne_eqb, eqb-true, and_parts, and_right, cond-false}
+-- What the framed steps leave as it was: rights, grains, knowledge, debts and events, and which pages are known as backed.
+use Rattle.std.proofs.Common.{◌≡◌, ◌≢◌, ℕ, ◌+◌, ◌*◌, ◌/◌, ◌%◌, ◌==◌, Bool, true, false, not, ◌&&◌, ◌||◌, if◌then◌else◌, List, [], ◌∷◌, ◌++◌, refl, ap, sym, ◌∙◌, subst, arith, bit_and, ◌<◌, true≢false}
+use Rattle.std.proofs.lemmas.Bool.{ne_eqb, eqb-true, and_parts, and_right, cond-false, and_from}
 use Rattle.pas_profile.specs.Classes.{has_bit}
 use Rattle.pas_profile.specs.Directories.{deed_word_of, deed_word_numbered, number_of}
 use Rattle.pas_profile.specs.declared.directory.Directory.{Directory}
@@ -8,15 +8,19 @@ use Rattle.pas_profile.specs.declared.profile.Profile.{Profile}
 use Rattle.pas_profile.proofs.Codecs.{deed_word_of-positive}
 use Rattle.pas_profile.specs.declared.word.Word.{Word}
 use Rattle.pas_steps.specs.declared.step.Made.{Made}
-use Rattle.pas_steps.proofs.Flags.{ends_none}
+use Rattle.pas_steps.proofs.Flags.{ends_none, stays_set}
 use Rattle.pas_steps.specs.declared.step.Step.{Step}
-use Rattle.pas_steps.specs.declared.step.Step.TheVariants.{Look, Deed, TakeRight, Offer}
+use Rattle.pas_steps.specs.declared.step.Step.TheVariants.{Look, Deed, TakeRight, Offer, Back, Unback}
 use Rattle.pas_steps.specs.Effects.{in_mask}
-use Rattle.pas_steps.specs.Views.{View, Stays, Gets, Puts, grain_move, held_after, holds, Rests, ByDeed, FromOffer, FromParked, ToOffer, ToParked, way, had_after, has_right, deed_after, deed_after_look, known_deed, KnowsDeed, no_usable, check_after, all_ones, hint_after, examined_after, examines}
+use Rattle.pas_steps.specs.Views.{View, Stays, Gets, Puts, grain_move, held_after, holds, Rests, ByDeed, FromOffer, FromParked, ToOffer, ToParked, way, had_after, has_right, deed_after, deed_after_look, known_deed, KnowsDeed, no_usable, check_after, all_ones, hint_after, examined_after, examines, any_below, holds_on, backed_after, backed_after_look, knows_backed}
 use Rattle.pas_steps.specs.Agreement.{Agrees, Agreed}
-use Rattle.pas_steps.specs.Frames.{IsOnPage, IsReturn, IsRead, IsScan, OnlyOn, OnlyReturns, OnlyReads, OnlyScans, IsLook, AreLooks}
+use Rattle.pas_steps.specs.Frames.{IsOnPage, IsReturn, IsRead, IsScan, OnlyOn, OnlyReturns, OnlyReads, OnlyScans, IsLook, AreLooks, unbacks}
 use Rattle.pas_steps.proofs.Past.{always_map}
-use Rattle.std.proofs.lemmas.Bool.Decides.{nat_tests}
+use Rattle.std.proofs.lemmas.Bool.Decides.{nat_tests, Decides-below_or}
+use Rattle.pas_steps.specs.Past.{Always}
+use Rattle.std.specs.Bool.{Decides}
+
+-- ==== Rights, grains, knowledge, debts and events.
 
 -- ---- tests of another page
 other : (p q : ℕ) → q ≢ p → (p == q) ≡ false
@@ -140,3 +144,48 @@ read_way s a q (IsRead.Reads p d b ne) = ap (λ t. if (p == q) && t then ByDeed 
 pub right_reads : (q : ℕ) (steps : List Made) (v : View) → OnlyReads steps → has_right (steps ++ v) q ≡ has_right v q
 right_reads q [] v h = refl
 right_reads q (m ∷ more) v h = ap (λ w. had_after w (has_right (more ++ v) q)) (read_way m.step m.answer q h.0) ∙ right_reads q more v h.1
+
+-- ==== A page that is known as backed stays so while a grain of it that is held isn't moved, whatever the steps.
+
+-- ---- some number below a bound
+any_decides : (n : ℕ) (p : ℕ → Bool) → Decides (any_below n p) ((i : ℕ) × (i < n) × (p i ≡ true))
+unfolding any_below
+any_decides n p = Decides-below_or p (λ i. p i ≡ true) (λ n. any_below n p) (λ i. (λ h. h, λ h. h)) refl (λ n. refl) n
+
+pub any_one : (n : ℕ) (p : ℕ → Bool) → any_below n p ≡ true → (i : ℕ) × (i < n) × (p i ≡ true)
+any_one n p h = (any_decides n p).0 h
+
+pub any_from : (n : ℕ) (p : ℕ → Bool) (i : ℕ) → i < n → p i ≡ true → any_below n p ≡ true
+any_from n p i lt h = (any_decides n p).1 (i, lt, h)
+
+-- ---- one step
+one_read : (a : ℕ) (t known : Bool) → (t ≡ true → a ≡ 1) → known ≡ true → (if t then a == 1 else known) ≡ true
+one_read a t known h e = grind (arith, nat_tests)
+
+look_backed : (f : Profile) (v : View) (w : Word) (a q : ℕ) → Agrees f v (Look w) a → knows_backed v q ≡ true → backed_after_look w a q (knows_backed v q) ≡ true
+look_backed f v (Word.Backed p) a q agrees h = one_read a (p == q) (knows_backed v q) (λ e. agrees.known (subst (λ x. knows_backed v x ≡ true) (sym (eqb-true p q e)) h)) h
+look_backed f v s a q agrees h = h
+
+still_backed : (f : Profile) (v : View) (s : Step) (a q : ℕ) → Agrees f v s a → unbacks s q ≡ false → knows_backed v q ≡ true → backed_after s a q (knows_backed v q) ≡ true
+still_backed f v (Look w) a q agrees keep h = look_backed f v w a q agrees h
+still_backed f v (Back p) a q agrees keep h = stays_set (p == q) (knows_backed v q) h
+still_backed f v (Unback p) a q agrees other h = ap (λ t. if t then false else knows_backed v q) other ∙ h
+still_backed f v s a q agrees keep h = h
+
+-- ---- all steps
+still_held : (x : ℕ) (steps : List Made) (v : View) → Always (λ m before. grain_move m.step m.answer x ≡ Stays) steps → holds v x ≡ true → holds (steps ++ v) x ≡ true
+still_held x [] v stays h = h
+still_held x (m ∷ more) v stays h = ap (λ t. held_after t (holds (more ++ v) x)) stays.0 ∙ still_held x more v stays.1 h
+
+-- grain b of the page is held, and no step moves it
+pub backed_with : (f : Profile) (q b : ℕ) (steps : List Made) (v : View) → b < 256 → Agreed f v steps → Always (λ m before. unbacks m.step q ≡ false) steps → Always (λ m before. grain_move m.step m.answer (q * 256 + b) ≡ Stays) steps → holds v (q * 256 + b) ≡ true → knows_backed v q ≡ true
+    → knows_backed (steps ++ v) q ≡ true
+backed_with f q b [] v lt agreed keep stays held h = h
+backed_with f q b (m ∷ more) v lt agreed keep stays held h =
+    let before : knows_backed (more ++ v) q ≡ true = backed_with f q b more v lt agreed.1 keep.1 stays.1 held h in
+    and_from (backed_after m.step m.answer q (knows_backed (more ++ v) q)) (holds_on (m ∷ more ++ v) q) (still_backed f (more ++ v) m.step m.answer q agreed.0 keep.0 before)
+    (any_from 256 (λ i. holds (m ∷ more ++ v) (q * 256 + i)) b lt (still_held (q * 256 + b) (m ∷ more) v stays held))
+
+pub backed_holds : (v : View) (q : ℕ) → knows_backed v q ≡ true → holds_on v q ≡ true
+backed_holds [] q h = absurd (true≢false (sym h))
+backed_holds (m ∷ v) q h = (and_parts (backed_after m.step m.answer q (knows_backed v q)) (holds_on (m ∷ v) q) h).1

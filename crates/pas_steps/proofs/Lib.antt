@@ -3,12 +3,8 @@ pub mod Flags
 pub mod Frames
 pub mod Parts
 pub mod Past
-pub mod InTurn
-pub mod Ranged
 pub mod Targets
-pub mod Written
 pub mod Kept
-pub mod Backed
 pub mod Bits
 pub mod Apart
 pub mod Calls

@@ -1,14 +1,43 @@
--- The word of a step of a region is one of the region.
-use Rattle.std.proofs.Common.{ℕ, ◌+◌, ◌*◌, ◌/◌, ◌%◌, ◌<◌, ◌≤◌, arith}
-use Rattle.pas_profile.specs.Profiles.{vector_words, IsWordOf}
+-- The words of a region: that the numbers of a step fit them, that the word of a step is one of them, and what they are after one was written.
+use Rattle.std.proofs.Common.{ℕ, ◌+◌, ◌*◌, ◌/◌, ◌^◌, ◌<◌, ◌≤◌, arith, ◌%◌, ◌≡◌, Bool, true, false, if◌then◌else◌, List, length, ap, sym, ◌∙◌, subst}
+use Rattle.pas_profile.specs.Profiles.{IsValid, vector_words, IsWordOf, IsWordIn}
 use Rattle.pas_profile.specs.declared.profile.Profile.{Profile}
-use Rattle.pas_profile.proofs.Codecs.{number_lt}
 use Rattle.pas_profile.specs.Runs.{address_of}
+use Rattle.pas_steps.specs.Allowed.{IsStepOf, Allowed}
+use Rattle.pas_steps.specs.Ranges.{IsRanged}
+use Rattle.pas_steps.specs.declared.step.Step.{Step}
+use Rattle.pas_steps.specs.declared.step.Step.TheVariants.{Deed, Give, End, EndSized, TakeRight, Offer, Take, Put, Park, Unpark, Hint, Tick, Unhint}
+use Rattle.pas_profile.proofs.Codecs.{number_lt}
 use Rattle.pas_steps.specs.Effects.{target}
 use Rattle.pas_steps.specs.Views.{View}
-use Rattle.pas_steps.specs.Allowed.{Allowed, IsStepOf}
-use Rattle.pas_steps.specs.declared.step.Step.{Step}
-use Rattle.pas_steps.specs.declared.step.Step.TheVariants.{Deed, Take, Put, Give, End, EndSized, TakeRight, Offer, Park, Unpark, Hint, Tick, Unhint}
+use Rattle.std.specs.Prelude.{slice_index, slice_set}
+use Rattle.std.proofs.lemmas.List.{get_or-set_same, get_or-set_other}
+use Rattle.pas_profile.specs.Layouts.{index_of, words_of, same_word}
+use Rattle.pas_profile.specs.declared.word.Word.{Word}
+use Rattle.pas_profile.proofs.Places.{same_word-true, index_lt, other_place}
+
+-- ==== The numbers in a step of a region fit the words that they go into.
+
+grains_fit : (first room pages : ℕ) → pages ≤ 16384 → 4096 ≤ first → first + room ≤ 4096 * (pages + 1) → room / 16 < 2 ^ 23
+grains_fit first room pages few low high = omega arith
+
+pub guess_fits : (guess pages : ℕ) → pages ≤ 16384 → guess ≤ 256 * pages → guess < 2 ^ 23
+guess_fits guess pages few high = omega arith
+
+heap_fits : (heap heaps : ℕ) → heaps ≤ 32 → heap < heaps → heap < 32
+heap_fits heap heaps few low = omega arith
+
+-- the numbers of a step of a valid profile fit
+pub is_ranged : (f : Profile) (s : Step) → IsValid f → IsStepOf f s → IsRanged s
+is_ranged f (Deed page directory) valid of = record { heap = heap_fits directory.heap f.heaps valid.heaps of.1.heap; kind = of.1.kind }
+is_ranged f (Give block) valid of = (of.turn, grains_fit (address_of block.name) block.room f.pages valid.pages of.first of.last)
+is_ranged f (End name guess) valid of = (of.2, guess_fits guess f.pages valid.pages of.4)
+is_ranged f (EndSized name room) valid of = (of.0.2, guess_fits (room / 16) f.pages valid.pages of.0.4)
+is_ranged f (TakeRight page directory) valid of = record { heap = heap_fits directory.heap f.heaps valid.heaps of.1.heap; kind = of.1.kind }
+is_ranged f (Offer page directory) valid of = record { heap = heap_fits directory.heap f.heaps valid.heaps of.1.heap; kind = of.1.kind }
+is_ranged f s valid of = tt
+
+-- ==== The word of a step of a region is one of the region.
 
 given_page : (first room pages : ℕ) → 4096 ≤ first → first + room ≤ 4096 * (pages + 1) → 0 < room → (1 ≤ first / 16 / 256) × (first / 16 / 256 ≤ pages) × (first / 16 % 256 < 256)
 given_page first room pages low high some = (omega arith, omega arith, omega arith)
@@ -36,3 +65,14 @@ target_of_region f v (Hint page) of allowed = vector_has page f.pages of.1
 target_of_region f v (Tick raised) of allowed = tt
 target_of_region f v (Unhint page) of allowed = vector_has page f.pages of.1
 target_of_region f v s of allowed = of
+
+-- ==== The words of a state after a write of one.
+
+-- a word's value after the write of another one's
+pub place_written : (pages heaps : ℕ) (words : List ℕ) (x w : Word) (n : ℕ) → length words ≡ words_of pages heaps → IsWordIn pages heaps x → IsWordIn pages heaps w
+    → (same : Bool) → same_word x w ≡ same → slice_index (slice_set words (index_of pages x) n) (index_of pages w) ≡ (if same then n else slice_index words (index_of pages w))
+place_written pages heaps words x w n sized hx hw true e =
+    let room : index_of pages x < length words = subst (λ m. index_of pages x < m) (sym sized) (index_lt pages heaps x hx) in
+    ap (λ y. slice_index (slice_set words (index_of pages x) n) (index_of pages y)) (sym (same_word-true x w e)) ∙ get_or-set_same words (index_of pages x) n 0 room
+place_written pages heaps words x w n sized hx hw false e =
+    get_or-set_other words (index_of pages x) (index_of pages w) n 0 (λ same. other_place pages heaps x w hx hw e (sym same))

@@ -1,5 +1,5 @@
 use Rattle.std.proofs.Common.{◌+◌, ◌-◌, ◌*◌, ◌^◌, ◌≤◌, min, ap, ◌∙◌, refl, arith}
-use Rattle.pas_bits.proofs.Runs.{mask_is, cut_le, ones_le}
+use Rattle.pas_bits.proofs.Masks.{mask_is, cut_le, ones_le}
 use Rattle.pas_bits.proofs.run.run_word.Goals as goal
 
 pub overflow_sub-result : goal.overflow_sub-result

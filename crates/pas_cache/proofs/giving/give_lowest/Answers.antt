@@ -1,7 +1,7 @@
 use Rattle.std.proofs.Common.{◌+◌, ◌*◌, ◌/◌, ◌≤◌, refl, sym, subst}
 use Rattle.pas_steps.specs.Desks.{CanCall}
 use Rattle.pas_rights.specs.Gives.{MayGive, GivesRun}
-use Rattle.pas_cache.proofs.Lowest.{slot_within, region_within, can_give, gives_lowest}
+use Rattle.pas_cache.proofs.Resting.{slot_within, region_within, can_give, gives_lowest}
 use Rattle.pas_cache.proofs.giving.give_lowest.Goals as goal
 
 pub give-block-requires-clause-page : goal.give-block-requires-clause-page

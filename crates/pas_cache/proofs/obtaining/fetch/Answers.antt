@@ -1,7 +1,6 @@
 use Rattle.std.proofs.Common.{Ok, Err}
 use Rattle.pas_cache.specs.Serves.{filling_in}
-use Rattle.pas_cache.proofs.Obtained.{obtain_after, filling_then, obtains_refilled}
-use Rattle.pas_cache.proofs.Refills.{search_call}
+use Rattle.pas_cache.proofs.Obtained.{obtain_after, filling_then, obtains_refilled, search_call}
 use Rattle.pas_cache.proofs.obtaining.fetch.Goals as goal
 
 pub refill-requires-clause-filling : goal.refill-requires-clause-filling

@@ -3,7 +3,7 @@ use Rattle.pas_steps.specs.declared.step.Step.TheVariants.{End}
 use Rattle.pas_steps.specs.Desks.{made}
 use Rattle.pas_free_log.specs.declared.ending.Outcome.TheVariants.{Ended, Refused}
 use Rattle.pas_free_log.specs.Endings.{guess_by}
-use Rattle.pas_free_log.proofs.OneEntry.{known_kind, guess_length, looked, tried, ends_by, ended_run, gone_since, ended_again, again, first_look}
+use Rattle.pas_free_log.proofs.OneEntry.{known_kind, guess_length, looked, tried, ends_named, ended_run, gone_since, ended_again, again, first_look}
 use Rattle.pas_free_log.proofs.ending.end_named.Goals as goal
 
 pub guess-first-requires : goal.guess-first-requires
@@ -16,12 +16,12 @@ pub returns-then-read-life_word-clause-ends : goal.returns-then-read-life_word-c
 returns-then-read-life_word-clause-ends g c =
     let is = (c.guess-first.ensures ∙ ap guess_by c.read_deed-directory.ensures) in let some = (guess_length c.look-deed.result).0 in
     let live = c.if-read-life_word.true ∙ c.life_word.ensures in
-    ends_by c.args.name (Ended c.guess-first.result) c.read_deed-directory.result c.look-deed.result c.guess-first.result c.end-read.result [] c.read_deed-directory.ensures (inl (is, refl)) (looked c.args.name c.look-deed.result c.look-deed.ensures.makes) c.end-read.ensures.makes c.requires.can
+    ends_named c.args.name (Ended c.guess-first.result) c.read_deed-directory.result c.look-deed.result c.guess-first.result c.end-read.result [] c.read_deed-directory.ensures (inl (is, refl)) (looked c.args.name c.look-deed.result c.look-deed.ensures.makes) c.end-read.ensures.makes c.requires.can
     (λ v agrees. ((live, refl), ended_run (g.D.Desk.standing c.args.desk.now).seat.profile (first_look c.args.name c.look-deed.result ++ v) c.args.name c.guess-first.result c.end-read.result (omega (arith, is, some)) live agrees))
 
 pub returns-in_default-clause-ends : goal.returns-in_default-clause-ends
 returns-in_default-clause-ends g c =
-    ends_by c.args.name (Refused c.end-read.result) c.read_deed-directory.result c.look-deed.result c.guess-first.result c.end-read.result [] c.read_deed-directory.ensures (inl ((c.guess-first.ensures ∙ ap guess_by c.read_deed-directory.ensures), refl)) (looked c.args.name c.look-deed.result c.look-deed.ensures.makes) c.end-read.ensures.makes c.requires.can
+    ends_named c.args.name (Refused c.end-read.result) c.read_deed-directory.result c.look-deed.result c.guess-first.result c.end-read.result [] c.read_deed-directory.ensures (inl ((c.guess-first.ensures ∙ ap guess_by c.read_deed-directory.ensures), refl)) (looked c.args.name c.look-deed.result c.look-deed.ensures.makes) c.end-read.ensures.makes c.requires.can
     (λ v agrees. ((c.in_default.ensures, refl), tt))
 
 -- the second try
@@ -30,7 +30,7 @@ returns-then-read-life_word-2-clause-ends g c =
     let name = c.args.name in let first = c.guess-first.result in let read = c.end-read.result in
     let live = c.if-read-life_word-2.true ∙ c.life_word-2.ensures in
     let before = made (End name first) read ∷ [] in
-    ends_by name (Ended c.in-Some.grains) c.read_deed-directory.result c.look-deed.result c.in-Some.grains c.end-read-2.result before c.read_deed-directory.ensures
+    ends_named name (Ended c.in-Some.grains) c.read_deed-directory.result c.look-deed.result c.in-Some.grains c.end-read-2.result before c.read_deed-directory.ensures
     (again name c.look-deed.result first c.in-Some.grains read (c.guess-first.ensures ∙ ap guess_by c.read_deed-directory.ensures) (λ e. c.if-read-life_word.false (e ∙ sym c.life_word.ensures)) c.in-Some.ensures.0 c.in-Some.ensures.1)
     (tried name c.look-deed.result first first read [] (inl (refl, refl)) (looked name c.look-deed.result c.look-deed.ensures.makes) c.end-read.ensures.makes) c.end-read-2.ensures.makes c.requires.can
     (λ v agrees. ((live, refl), ended_again (g.D.Desk.standing c.args.desk.now).seat.profile (first_look name c.look-deed.result ++ v) name first c.in-Some.grains read c.end-read-2.result c.requires.name c.in-Some.ensures.0 c.in-Some.ensures.1 live agrees))
@@ -39,7 +39,7 @@ pub returns-else-read-life_word-2-clause-ends : goal.returns-else-read-life_word
 returns-else-read-life_word-2-clause-ends g c =
     let name = c.args.name in let first = c.guess-first.result in let read = c.end-read.result in
     let before = made (End name first) read ∷ [] in
-    ends_by name (Refused c.end-read-2.result) c.read_deed-directory.result c.look-deed.result c.in-Some.grains c.end-read-2.result before c.read_deed-directory.ensures
+    ends_named name (Refused c.end-read-2.result) c.read_deed-directory.result c.look-deed.result c.in-Some.grains c.end-read-2.result before c.read_deed-directory.ensures
     (again name c.look-deed.result first c.in-Some.grains read (c.guess-first.ensures ∙ ap guess_by c.read_deed-directory.ensures) (λ e. c.if-read-life_word.false (e ∙ sym c.life_word.ensures)) c.in-Some.ensures.0 c.in-Some.ensures.1)
     (tried name c.look-deed.result first first read [] (inl (refl, refl)) (looked name c.look-deed.result c.look-deed.ensures.makes) c.end-read.ensures.makes) c.end-read-2.ensures.makes c.requires.can
     (λ v agrees. ((gone_since (g.D.Desk.standing c.args.desk.now).seat.profile (first_look name c.look-deed.result ++ v) name first c.in-Some.grains read c.end-read-2.result c.in-Some.ensures.0 c.in-Some.ensures.1 agrees.life (λ e. c.if-read-life_word-2.false (e ∙ sym c.life_word-2.ensures)), refl), tt))

@@ -4,7 +4,7 @@ use Rattle.pas_profile.specs.Runs.{grain_of}
 use Rattle.pas_steps.proofs.Called.{next_call}
 use Rattle.pas_free_log.specs.Conditions.{MayEnd, IsRun}
 use Rattle.pas_free_log.specs.declared.ending.Outcome.TheVariants.{Ended, Refused}
-use Rattle.pas_free_log.proofs.OneEntry.{came_to, is_ended, entry_ended, entry_refused}
+use Rattle.pas_free_log.proofs.OneEntry.{came_to, ended_call, entry_ended, entry_refused}
 use Rattle.pas_steps.proofs.SpareRoom.{spare_falls}
 use Rattle.pas_free_log.proofs.flushing.end_entry.Goals as goal
 
@@ -13,8 +13,7 @@ end_logged-outcome-requires-clause-can g c = let can = c.requires.can in record 
 
 pub return_run-requires-clause-can : goal.return_run-requires-clause-can
 return_run-requires-clause-can g c =
-    let e = is_ended c.args.entry c.in-Ended.grains c.end_logged-outcome.result.1 (came_to (Ended c.in-Ended.grains) c.in-Ended.is c.end_logged-outcome.ensures.ends) in
-    next_call e.calls c.requires.can (λ v met q. q.1)
+    next_call (ended_call (came_to (Ended c.in-Ended.grains) c.in-Ended.is c.end_logged-outcome.ensures.ends)) c.requires.can (λ v met q. q.1)
 
 pub return_run-requires-clause-run : goal.return_run-requires-clause-run
 return_run-requires-clause-run g c =
@@ -22,7 +21,7 @@ return_run-requires-clause-run g c =
     subst (λ s. IsRun s.profile (grain_of c.args.entry.name) c.in-Ended.grains) (sym e.adds.seat_is) e.of_region
 
 pub returns-in-Ended-clause-ends : goal.returns-in-Ended-clause-ends
-returns-in-Ended-clause-ends g c = entry_ended c.args.entry c.in-Ended.grains c.end_logged-outcome.result.1 c.large_run.result (g.met.D.Desk.valid c.args.desk.now) (is_ended c.args.entry c.in-Ended.grains c.end_logged-outcome.result.1 (came_to (Ended c.in-Ended.grains) c.in-Ended.is c.end_logged-outcome.ensures.ends)) c.return_run.ensures.returns c.large_run.ensures
+returns-in-Ended-clause-ends g c = entry_ended (came_to (Ended c.in-Ended.grains) c.in-Ended.is c.end_logged-outcome.ensures.ends) c.large_run.result (g.met.D.Desk.valid c.args.desk.now) c.return_run.ensures.returns c.large_run.ensures
 
 pub returns-in-Refused-clause-ends : goal.returns-in-Refused-clause-ends
 returns-in-Refused-clause-ends g c = entry_refused c.args.entry c.in-Refused.read c.end_logged-outcome.result.1 c.requires.entry (came_to (Refused c.in-Refused.read) c.in-Refused.is c.end_logged-outcome.ensures.ends)
@@ -31,7 +30,7 @@ returns-in-Refused-clause-ends g c = entry_refused c.args.entry c.in-Refused.rea
 pub returns-in-Ended-clause-spare : goal.returns-in-Ended-clause-spare
 returns-in-Ended-clause-spare g c =
     let D = g.D.Desk in let can = c.requires.can in
-    let s = entry_ended c.args.entry c.in-Ended.grains c.end_logged-outcome.result.1 c.large_run.result (g.met.D.Desk.valid c.args.desk.now) (is_ended c.args.entry c.in-Ended.grains c.end_logged-outcome.result.1 (came_to (Ended c.in-Ended.grains) c.in-Ended.is c.end_logged-outcome.ensures.ends)) c.return_run.ensures.returns c.large_run.ensures in
+    let s = entry_ended (came_to (Ended c.in-Ended.grains) c.in-Ended.is c.end_logged-outcome.ensures.ends) c.large_run.result (g.met.D.Desk.valid c.args.desk.now) c.return_run.ensures.returns c.large_run.ensures in
     spare_falls {C = MayEnd} (D.spare_of c.args.desk.now) (D.spare_of c.return_run.new.desk) 1 s.calls.adds can (λ v l stood. g.met.D.Desk.spares c.args.desk.now v l stood) (λ v l stood. g.met.D.Desk.spares c.return_run.new.desk v l stood)
     (ap (λ (es : List Event). length es) (s.event can.view))
 

@@ -1,4 +1,4 @@
-use Rattle.std.proofs.Common.{◌≡◌, ◌-◌, [], ◌++◌, refl, sym, ◌∙◌, subst, inl, arith}
+use Rattle.std.proofs.Common.{◌≡◌, ◌-◌, [], ◌++◌, refl, sym, ◌∙◌, subst, arith}
 use Rattle.pas_steps.specs.Calls.{Does, Calls}
 use Rattle.pas_steps.proofs.Called.{call_none, call_then, next_call}
 use Rattle.pas_free_log.specs.Conditions.{IsRunOnPage}
@@ -18,26 +18,26 @@ loop-from-init g c =
       back = subst (λ k. PutsBack c.args.grain k []) none (back_none c.args.grain);
       low = omega arith;
       high = omega arith;
-      border = inl refl;
+      border = λ left. omega arith;
       home = refl;
     }
 
 pub return_page-requires-clause-can : goal.return_page-requires-clause-can
 return_page-requires-clause-can g c =
     let i = c.loop-from.invariant in let from = c.loop-from.from in let next = c.min-next.result in let f = (g.D.Desk.standing c.args.desk.now).seat.profile in
-    next_call i.calls c.requires.can (λ v met d. may_more c.args.grain c.args.grains from next i.steps v i.low (next_is c.args.grain c.args.grains from next c.loop-from-test.true c.min-next.ensures) i.back d met)
+    next_call i.calls c.requires.can (λ v met d. may_more c.args.grain c.args.grains from next i.steps v i.low (next_is c.args.grain c.args.grains from next i.low c.loop-from-test.true c.min-next.ensures) i.back d met)
 
 pub return_page-requires-clause-run : goal.return_page-requires-clause-run
 return_page-requires-clause-run g c =
     let i = c.loop-from.invariant in let from = c.loop-from.from in let next = c.min-next.result in let f = (g.D.Desk.standing c.args.desk.now).seat.profile in
     subst (λ s. IsRunOnPage s.profile from (next - from)) (sym i.calls.adds.seat_is)
-    (on_page f c.args.grain c.args.grains from next c.requires.run i.low c.loop-from-test.true (next_is c.args.grain c.args.grains from next c.loop-from-test.true c.min-next.ensures))
+    (on_page f c.args.grain c.args.grains from next c.requires.run i.low c.loop-from-test.true (next_is c.args.grain c.args.grains from next i.low c.loop-from-test.true c.min-next.ensures))
 
 pub loop-from-preserved : goal.loop-from-preserved
 loop-from-preserved g c =
     let i = c.loop-from.invariant in let from = c.loop-from.from in let next = c.min-next.result in let f = (g.D.Desk.standing c.args.desk.now).seat.profile in
     let grain = c.args.grain in let grains = c.args.grains in let r = c.return_page.ensures.returns in
-    let is = next_is grain grains from next c.loop-from-test.true c.min-next.ensures in
+    let is = next_is grain grains from next i.low c.loop-from-test.true c.min-next.ensures in
     let some = is.some in let within = is.within in let low = i.low in
     record {
       steps = r.steps ++ i.steps;

@@ -1,6 +1,5 @@
 use Rattle.std.proofs.Common.{◌+◌, arith}
-use Rattle.pas_lanes.proofs.Lanes.{group_within}
-use Rattle.pas_lanes.proofs.Rows.{within_more}
+use Rattle.pas_lanes.proofs.Rows.{group_within, within_more}
 use Rattle.pas_lanes.proofs.compare.groups_within.Goals as goal
 
 pub loop-start-preserved : goal.loop-start-preserved

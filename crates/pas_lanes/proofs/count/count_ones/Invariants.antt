@@ -1,6 +1,6 @@
 use Rattle.std.proofs.Common.{◌≡◌, ◌-◌, ◌≤◌, length}
 use Rattle.std.specs.Simd.Lanes.{sum_l}
-use Rattle.pas_lanes.proofs.Counts.{count_before}
+use Rattle.pas_lanes.proofs.Rows.{count_before}
 use Rattle.pas_lanes.proofs.count.count_ones.Given as goal
 
 -- the lanes have the set bits of the groups so far

@@ -1,6 +1,5 @@
 use Rattle.std.proofs.Common.{◌+◌, arith}
-use Rattle.pas_lanes.proofs.Lanes.{group_zero}
-use Rattle.pas_lanes.proofs.Rows.{clear_more}
+use Rattle.pas_lanes.proofs.Rows.{group_zero, clear_more}
 use Rattle.pas_lanes.proofs.search.clear_groups.Goals as goal
 
 pub loop-start-preserved : goal.loop-start-preserved

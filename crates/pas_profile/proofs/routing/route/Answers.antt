@@ -1,8 +1,7 @@
 use Rattle.std.proofs.Common.{◌%◌, max, sym, ◌∙◌, arith, leb, eqb}
 use Rattle.std.proofs.lemmas.Bool.{le-leb, eq-eqb, ne_eqb, and_from, and_right}
 use Rattle.pas_profile.specs.Classes.{class_size}
-use Rattle.pas_profile.proofs.Sizes.{count_le}
-use Rattle.pas_profile.proofs.Searches.{begins_at, found_at, passed_at, none_above, after_all, route_found, bitfit_for, large_for}
+use Rattle.pas_profile.proofs.Sizes.{count_le, begins_at, found_at, passed_at, none_above, after_all, route_found, bitfit_for, large_for}
 use Rattle.pas_profile.proofs.routing.route.Goals as goal
 use Rattle.pas_profile.proofs.routing.route.Goals.{then-grains-lt65+else-loop-class-test, else-grains-lt65}
 

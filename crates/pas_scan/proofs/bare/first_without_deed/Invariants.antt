@@ -1,11 +1,9 @@
-use Rattle.std.proofs.Common.{◌≡◌, ℕ, ◌-◌, length, ◌≤◌, ◌<◌, ◌+◌, ◌/◌, List}
+use Rattle.std.proofs.Common.{◌≡◌, ℕ, ◌-◌, length, ◌≤◌, ◌<◌, ◌+◌, List}
 use Rattle.pas_steps.specs.declared.step.Made.{Made}
 use Rattle.pas_steps.specs.Desks.{AnyView, Adds}
 use Rattle.pas_steps.specs.Past.{Once}
-use Rattle.pas_steps.specs.Frames.{OnlyScans}
-use Rattle.pas_steps.specs.Evidence.{DeedHere, IsSingle}
+use Rattle.pas_steps.specs.Evidence.{DeedHere}
 use Rattle.pas_scan.specs.Scan.{deed_looks}
-use Rattle.pas_scan.proofs.Singles.{Below}
 use Rattle.pas_scan.proofs.bare.first_without_deed.Given as goal
 
 -- the deed word of each page from the first to below this one was read as not 0
@@ -13,9 +11,6 @@ abbrev pub invariant-loop-page : goal.invariant-loop-page
 invariant-loop-page g l = let D = g.D.Desk in record {
   steps : List Made;
   adds : Adds (D.standing l.fn.desk) (D.standing l.desk) AnyView steps;
-  scans : OnlyScans steps;
-  single : IsSingle steps;
-  below : Below (l.page + l.page / 64) steps;
   deeds : (p : ℕ) → l.from ≤ p → p < l.page → Once (DeedHere p) steps;
   answers : List ℕ;
   order : steps ≡ deed_looks l.from answers;

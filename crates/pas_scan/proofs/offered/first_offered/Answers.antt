@@ -4,8 +4,7 @@ use Rattle.pas_profile.specs.declared.profile.Profile.{Profile}
 use Rattle.pas_steps.specs.Desks.{AnyView}
 use Rattle.pas_steps.proofs.Adding.{adds_call}
 use Rattle.pas_scan.specs.Rows.{words_to}
-use Rattle.pas_scan.proofs.Reading.{eligible_count}
-use Rattle.pas_scan.proofs.EligibleRows.{scans_of, single_of, row_after, shown_within, row_zeros, row_one, words_later, zeros_later}
+use Rattle.pas_scan.proofs.EligibleRows.{count_of, scans_of, single_of, row_after, shown_within, row_zeros, row_one, words_later, zeros_later}
 use Rattle.pas_scan.proofs.offered.first_offered.Goals as goal
 
 pub loop-block-preserved : goal.loop-block-preserved
@@ -45,7 +44,7 @@ returns-in-Some-clause-found g c =
       single = single_of (number_of d) (next / 64) (r.answers ++ i.answers) (r.steps ++ i.steps) order;
       answers = r.answers ++ i.answers;
       order = order;
-      count = eligible_count (number_of d) (next / 64) (words_to f next page) (r.steps ++ i.steps) (r.answers ++ i.answers) order (omega (arith, i.at, r.count, length-append r.answers i.answers, pages, ends, row));
+      count = count_of (number_of d) (next / 64) (words_to f next page) (r.steps ++ i.steps) (r.answers ++ i.answers) order (omega (arith, i.at, r.count, length-append r.answers i.answers, pages, ends, row));
       outcome = (
         refl,
         row_one f d next (next / 64) block end page c.read_row-row.result (r.answers ++ i.answers) (r.steps ++ i.steps) can.view c.requires.directory.kind (adds.agreed can.view can.whole can.stood tt) order
@@ -66,6 +65,6 @@ returns-clause-found g c =
       single = single_of (number_of d) (next / 64) i.answers i.steps i.order;
       answers = i.answers;
       order = i.order;
-      count = eligible_count (number_of d) (next / 64) (f.pages / 64 + 1 - next / 64) i.steps i.answers i.order (omega (arith, i.at, i.few, pages, past));
+      count = count_of (number_of d) (next / 64) (f.pages / 64 + 1 - next / 64) i.steps i.answers i.order (omega (arith, i.at, i.few, pages, past));
       outcome = (ap (λ x. x.next) i.looked, λ p low high. i.zeros p low (omega (arith, pages, high, past)));
     }

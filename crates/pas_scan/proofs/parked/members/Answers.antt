@@ -5,7 +5,7 @@ use Rattle.pas_steps.specs.declared.step.Made.{Made}
 use Rattle.pas_steps.specs.declared.step.Step.TheVariants.{Look}
 use Rattle.pas_steps.specs.Desks.{made}
 use Rattle.pas_steps.proofs.Adding.{adds_step}
-use Rattle.pas_scan.proofs.Singles.{single_more, below_more}
+use Rattle.pas_scan.proofs.Reading.{single_more, below_more}
 use Rattle.pas_scan.proofs.Judging.{members_more, IsSpan, span_block, span_first, span_some, span_end, span_page}
 use Rattle.pas_scan.proofs.parked.members.Goals.{then-is_open, else-is_open}
 use Rattle.pas_scan.proofs.parked.members.Goals as goal

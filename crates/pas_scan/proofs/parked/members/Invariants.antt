@@ -3,7 +3,7 @@ use Rattle.pas_steps.specs.declared.step.Made.{Made}
 use Rattle.pas_steps.specs.Desks.{AnyView, Adds}
 use Rattle.pas_steps.specs.Evidence.{IsSingle}
 use Rattle.pas_scan.specs.Scan.{InBlock}
-use Rattle.pas_scan.proofs.Singles.{Below}
+use Rattle.pas_scan.proofs.Reading.{Below}
 use Rattle.pas_scan.proofs.Judging.{Members}
 use Rattle.pas_scan.proofs.parked.members.Given as goal
 

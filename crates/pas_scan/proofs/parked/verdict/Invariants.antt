@@ -5,7 +5,7 @@ use Rattle.pas_steps.specs.Frames.{OnlyScans}
 use Rattle.pas_steps.specs.Evidence.{IsSingle}
 use Rattle.pas_steps.specs.Kinds.{Only}
 use Rattle.pas_scan.specs.Scan.{AllParked, judging}
-use Rattle.pas_scan.proofs.Singles.{Below}
+use Rattle.pas_scan.proofs.Reading.{Below}
 use Rattle.pas_scan.proofs.parked.verdict.Given as goal
 
 -- the parked bit of each member below this block was read as 1

@@ -4,7 +4,7 @@ use Rattle.pas_profile.specs.declared.word.Word.TheVariants as Word
 use Rattle.pas_steps.specs.declared.step.Step.TheVariants.{Look}
 use Rattle.pas_steps.specs.Desks.{Makes, made}
 use Rattle.pas_steps.proofs.Adding.{adds_none, adds_step}
-use Rattle.pas_scan.proofs.Reading.{eligible_more}
+use Rattle.pas_scan.proofs.Reading.{looks_more}
 use Rattle.pas_scan.proofs.EligibleRows.{zero_row, words_more, rest_more}
 use Rattle.pas_scan.proofs.row.read_row.Goals as goal
 
@@ -30,7 +30,7 @@ loop-word-preserved g c =
       steps = made (Look (Word.Eligible number word)) a ∷ i.steps;
       adds = adds_step i.adds makes (λ v l stood met. tt);
       answers = a ∷ i.answers;
-      order = eligible_more number c.args.block word a i.steps i.answers i.at i.order;
+      order = looks_more (λ j. Word.Eligible number j) c.args.block word a i.steps i.answers i.at i.order;
       at = omega (arith, i.at);
       words = words_more number c.args.block word a c.loop-word.row i.steps (omega (arith, i.at)) (omega (arith, i.long, room, c.loop-word-test.true)) i.words;
       rest = rest_more c.args.block word a c.loop-word.row (omega (arith, i.at)) i.rest;

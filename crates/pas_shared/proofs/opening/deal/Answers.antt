@@ -3,7 +3,8 @@ use Rattle.pas_profile.specs.Rooms.{shown, EventRoom}
 use Rattle.pas_shared.specs.declared.rule.Roster.TheVariants.{Unused}
 use Rattle.pas_shared.specs.declared.pass.SharedPass.{SharedPass}
 use Rattle.pas_shared.specs.Passes.{AreFresh}
-use Rattle.pas_shared.proofs.Opened.{fresh_more, all_after_first, one_done}
+use Rattle.pas_shared.proofs.Opened.{fresh_more, one_done}
+use Rattle.pas_shared.proofs.Pops.{others_are}
 use Rattle.pas_shared.proofs.opening.deal.Goals as goal
 
 pub loop-room-preserved : goal.loop-room-preserved
@@ -23,7 +24,7 @@ loop-room-preserved c =
         subst (λ (ps : List SharedPass). AreFresh id c.args.profile 0 more ps) (sym c.push_reserved.ensures.items)
             (fresh_more id c.args.profile 0 c.len-actor.result inv.some.0 passes.items c.in-Some.room c.fresh.result inv.some.2 at c.fresh.ensures.pass),
       );
-      empty = all_after_first (λ (room : EventRoom). shown room ≡ []) _ c.in-Some.room _ step inv.empty;
+      empty = others_are (λ (room : EventRoom). shown room ≡ []) _ c.in-Some.room _ step inv.empty;
       left = omega (arith, len, ap length step, inv.left, c.len-actor.ensures);
       reserved = subst (λ (n : ℕ). vec_len c.args.rooms ≤ n) (sym c.push_reserved.ensures.capacity) inv.reserved;
     }

@@ -1,5 +1,5 @@
 use Rattle.std.proofs.Common.{rules}
-use Rattle.pas_bits.proofs.Counts.{set_ones}
+use Rattle.pas_bits.proofs.Masks.{set_ones}
 use Rattle.pas_bits.proofs.mask.Mask4.count.Goals as goal
 
 pub returns : goal.returns

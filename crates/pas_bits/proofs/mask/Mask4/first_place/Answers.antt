@@ -1,5 +1,5 @@
 use Rattle.std.proofs.Common.{◌*◌, arith}
-use Rattle.pas_bits.proofs.Places.{rounded, none_to_place, none_within, none_past, place_found}
+use Rattle.pas_bits.proofs.Masks.{rounded, none_to_place, none_within, none_past, place_found}
 use Rattle.pas_bits.proofs.mask.Mask4.first_place.Goals as goal
 
 -- no place below the next multiple, which is too near the end

@@ -1,5 +1,5 @@
 use Rattle.std.proofs.Common.{◌-◌, ◌≤◌}
-use Rattle.pas_bits.proofs.Places.{NoPlaceBelow}
+use Rattle.pas_bits.proofs.Masks.{NoPlaceBelow}
 use Rattle.pas_bits.proofs.mask.Mask4.first_place.Given as goal
 
 -- no place begins below `from`

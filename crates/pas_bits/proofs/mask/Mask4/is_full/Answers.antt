@@ -1,5 +1,5 @@
 use Rattle.std.proofs.Common.{◌≡◌, ◌*◌, rules, arith, subst, refl}
-use Rattle.pas_bits.proofs.Runs.{ApartBelow, apart_more, not_apart, apart_whole}
+use Rattle.pas_bits.proofs.Masks.{ApartBelow, apart_more, not_apart, apart_whole}
 use Rattle.pas_bits.proofs.mask.Mask4.is_full.Goals as goal
 
 pub returns-then-self-word-ne0 : goal.returns-then-self-word-ne0

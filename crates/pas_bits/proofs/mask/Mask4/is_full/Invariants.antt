@@ -1,5 +1,5 @@
 use Rattle.std.proofs.Common.{◌*◌}
-use Rattle.pas_bits.proofs.Runs.{ApartBelow}
+use Rattle.pas_bits.proofs.Masks.{ApartBelow}
 use Rattle.pas_bits.proofs.mask.Mask4.is_full.Given as goal
 
 -- the words so far share no bit

@@ -5,10 +5,10 @@ use Rattle.pas_profile.specs.declared.profile.Profile.{Profile}
 use Rattle.pas_bitfit.specs.Allocates.{Allocates}
 use Rattle.pas_cache.specs.Parts.{ServesFrom}
 use Rattle.pas_cache.specs.Serves.{IsFilling, filling_in}
-use Rattle.pas_cache.proofs.BitfitRoute.{bitfit_call, bitfit_room, bitfit_allocates}
+use Rattle.pas_cache.proofs.Routes.{bitfit_call, bitfit_room, bitfit_allocates}
 use Rattle.pas_cache.proofs.Obtained.{obtain_rests}
 use Rattle.pas_cache.proofs.Served.{routed, roomed, filling_for, home_is, allocates, serve_call, formed, rests_after}
-use Rattle.pas_cache.proofs.Opened.{may_allocate_open}
+use Rattle.pas_cache.proofs.FlushesAndFrees.{may_allocate_open}
 use Rattle.pas_cache.proofs.cache.ThreadCache.alloc.Goals as goal
 
 pub route-requires-clause-valid : goal.route-requires-clause-valid

@@ -1,5 +1,5 @@
 use Rattle.std.proofs.Common.{◌∙◌, subst}
-use Rattle.pas_cache.proofs.PagesRoute.{whole_pages, pages_call, pages_allocates}
+use Rattle.pas_cache.proofs.Routes.{whole_pages, pages_call, pages_allocates}
 use Rattle.pas_cache.proofs.cache.ThreadCache.alloc_large.Goals as goal
 
 pub alloc-requires-clause-can : goal.alloc-requires-clause-can

@@ -3,8 +3,7 @@ use Rattle.pas_profile.specs.declared.profile.Profile.{Profile}
 use Rattle.pas_cache.specs.Caches.{Cached}
 use Rattle.pas_cache.specs.Contents.{CacheOf}
 use Rattle.pas_cache.specs.Names.{IsInRegion, IsFaultOf}
-use Rattle.pas_cache.proofs.FlushesAndFrees.{full_room, flush_call, frees, refuses}
-use Rattle.pas_cache.proofs.Opened.{rests_open}
+use Rattle.pas_cache.proofs.FlushesAndFrees.{full_room, flush_call, frees, refuses, rests_open}
 use Rattle.pas_cache.proofs.cache.ThreadCache.free_entry.Goals as goal
 
 pub log_entry-requires-clause-room : goal.log_entry-requires-clause-room

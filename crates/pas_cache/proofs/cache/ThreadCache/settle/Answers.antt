@@ -4,7 +4,7 @@ use Rattle.std.proofs.lemmas.List.{take_all, take_more}
 use Rattle.pas_free_log.specs.Noted.{AreRanges, IsRange}
 use Rattle.pas_free_log.specs.declared.noting.EndedRun.{EndedRun}
 use Rattle.pas_cache.specs.Calls.{SettlesEach}
-use Rattle.pas_cache.proofs.Settled.{settles_more, blank}
+use Rattle.pas_cache.proofs.FlushesAndFrees.{settles_more, blank}
 use Rattle.pas_cache.proofs.cache.ThreadCache.settle.Goals as goal
 
 pub loop-run-init : goal.loop-run-init

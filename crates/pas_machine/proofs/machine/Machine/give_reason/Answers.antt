@@ -1,7 +1,9 @@
-use Rattle.std.proofs.Common.{◌∙◌, sym, arith}
+use Rattle.std.proofs.Common.{◌≡◌, true, false, sym, ◌∙◌, arith}
+use Rattle.std.proofs.lemmas.Bool.{false≢true}
 use Rattle.pas_profile.specs.Runs.{address_of}
-use Rattle.pas_machine.proofs.Verdicts.{inside_never, give_before, number_below, gives_are}
-use Rattle.pas_machine.proofs.Verdicts as verdict
+use Rattle.pas_machine.specs.Places.{IsOfHeap}
+use Rattle.pas_machine.specs.declared.places.Page.{Page}
+use Rattle.pas_machine.proofs.Verdicts.{inside_never, give_before, number_below, gives_are, place_at, some_page, each_page, some_lives, none_lives}
 use Rattle.pas_machine.proofs.machine.Machine.give_reason.Goals as goal
 
 pub returns-then-lacks_deed-clause-verdict : goal.returns-then-lacks_deed-clause-verdict
@@ -11,7 +13,7 @@ returns-then-lacks_deed-clause-verdict c k es shows =
     let is = c.if-is_no_run.ensures in
     let some = rw (c.grain-first.ensures, c.grains.ensures, c.deref.ensures.value) at c.if-lacks_deed.ensures in
     record {
-      applies = verdict.lacks_deed f _ _ _ es shows k block is some;
+      applies = some_page shows block is (λ (p : Page). IsOfHeap block.heap p.directory → ⊥) some;
       others = give_before f es k block 4 (λ _. inside_never f block is) (λ _ h. let lt = c.if-block-self.false in omega (arith, h, lt)) (λ lt. absurd (omega (arith, lt))) (λ lt. absurd (omega (arith, lt)))
           (λ lt. absurd (omega (arith, lt))) (λ lt. absurd (omega (arith, lt)));
     }
@@ -24,9 +26,9 @@ returns-then-lacks_backing-clause-verdict c k es shows =
     let deeds = rw (c.grain-first.ensures, c.grains.ensures, c.deref.ensures.value) at c.if-lacks_deed.ensures in
     let some = rw (c.grain-first.ensures, c.grains.ensures, c.deref-2.ensures.value) at c.if-lacks_backing.ensures in
     record {
-      applies = verdict.lacks_backing f _ _ _ es shows k block is some;
-      others = give_before f es k block 6 (λ _. inside_never f block is) (λ _ h. let lt = c.if-block-self.false in omega (arith, h, lt)) (λ _. verdict.has_deeds f _ _ _ es shows k block is deeds) (λ lt. absurd (omega (arith, lt)))
-          (λ lt. absurd (omega (arith, lt))) (λ lt. absurd (omega (arith, lt)));
+      applies = some_page shows block is (λ (p : Page). p.backed ≡ false) some;
+      others = give_before f es k block 6 (λ _. inside_never f block is) (λ _ h. let lt = c.if-block-self.false in omega (arith, h, lt))
+          (λ _ h. h.2 (each_page shows block is (λ (p : Page). IsOfHeap block.heap p.directory) deeds h.0 h.1)) (λ lt. absurd (omega (arith, lt))) (λ lt. absurd (omega (arith, lt))) (λ lt. absurd (omega (arith, lt)));
     }
 
 pub returns-then-is_some_covered-clause-verdict : goal.returns-then-is_some_covered-clause-verdict
@@ -38,9 +40,10 @@ returns-then-is_some_covered-clause-verdict c k es shows =
     let backed = rw (c.grain-first.ensures, c.grains.ensures, c.deref-2.ensures.value) at c.if-lacks_backing.ensures in
     let some = rw (c.grain-first.ensures, c.grains.ensures, c.deref-3.ensures.value) at c.if-is_some_covered.ensures in
     record {
-      applies = verdict.lives_there f _ _ _ es shows k block is some;
-      others = give_before f es k block 7 (λ _. inside_never f block is) (λ _ h. let lt = c.if-block-self.false in omega (arith, h, lt)) (λ _. verdict.has_deeds f _ _ _ es shows k block is deeds)
-          (λ _. verdict.has_backing f _ _ _ es shows k block is backed) (λ lt. absurd (omega (arith, lt))) (λ lt. absurd (omega (arith, lt)));
+      applies = some_lives shows block is some;
+      others = give_before f es k block 7 (λ _. inside_never f block is) (λ _ h. let lt = c.if-block-self.false in omega (arith, h, lt))
+          (λ _ h. h.2 (each_page shows block is (λ (p : Page). IsOfHeap block.heap p.directory) deeds h.0 h.1))
+          (λ _ h. false≢true (sym h.2 ∙ each_page shows block is (λ (p : Page). p.backed ≡ true) backed h.0 h.1)) (λ lt. absurd (omega (arith, lt))) (λ lt. absurd (omega (arith, lt)));
     }
 
 pub returns-then-index-block-clause-verdict : goal.returns-then-index-block-clause-verdict
@@ -51,12 +54,12 @@ returns-then-index-block-clause-verdict c k es shows =
     let deeds = rw (c.grain-first.ensures, c.grains.ensures, c.deref.ensures.value) at c.if-lacks_deed.ensures in
     let backed = rw (c.grain-first.ensures, c.grains.ensures, c.deref-2.ensures.value) at c.if-lacks_backing.ensures in
     let clear = rw (c.grain-first.ensures, c.grains.ensures, c.deref-3.ensures.value) at c.if-is_some_covered.ensures in
-    let read = rw c.grain-first.ensures at c.index.ensures in
-    let p = verdict.place_at f _ _ _ es shows block is c.args.self.now.places.len c.args.self.now.places.ok.0 c.args.self.now.places_sized c.index.result.now read in
+    let p = place_at f _ _ _ es shows block is c.args.self.now.places.len c.args.self.now.places.ok.0 c.args.self.now.places_sized c.index.result.now (rw c.grain-first.ensures at c.index.ensures) in
     record {
       applies = λ same. c.if-index-block.true (gives_are es (address_of block.name) is.whole.aligned c.index.result.now p ∙ sym same);
-      others = give_before f es k block 9 (λ _. inside_never f block is) (λ _ h. let lt = c.if-block-self.false in omega (arith, h, lt)) (λ _. verdict.has_deeds f _ _ _ es shows k block is deeds)
-          (λ _. verdict.has_backing f _ _ _ es shows k block is backed) (λ _. verdict.is_clear f _ _ _ es shows k block is clear) (λ lt. absurd (omega (arith, lt)));
+      others = give_before f es k block 9 (λ _. inside_never f block is) (λ _ h. let lt = c.if-block-self.false in omega (arith, h, lt))
+          (λ _ h. h.2 (each_page shows block is (λ (p : Page). IsOfHeap block.heap p.directory) deeds h.0 h.1))
+          (λ _ h. false≢true (sym h.2 ∙ each_page shows block is (λ (p : Page). p.backed ≡ true) backed h.0 h.1)) (λ _ h. none_lives shows block is clear h.0 h.1 h.2) (λ lt. absurd (omega (arith, lt)));
     }
 
 pub returns-clause-verdict : goal.returns-clause-verdict
@@ -67,8 +70,8 @@ returns-clause-verdict c k es shows reason =
     let deeds = rw (c.grain-first.ensures, c.grains.ensures, c.deref.ensures.value) at c.if-lacks_deed.ensures in
     let backed = rw (c.grain-first.ensures, c.grains.ensures, c.deref-2.ensures.value) at c.if-lacks_backing.ensures in
     let clear = rw (c.grain-first.ensures, c.grains.ensures, c.deref-3.ensures.value) at c.if-is_some_covered.ensures in
-    let read = rw c.grain-first.ensures at c.index.ensures in
-    let p = verdict.place_at f _ _ _ es shows block is c.args.self.now.places.len c.args.self.now.places.ok.0 c.args.self.now.places_sized c.index.result.now read in
-    give_before f es k block 12 (λ _. inside_never f block is) (λ _ h. let lt = c.if-block-self.false in omega (arith, h, lt)) (λ _. verdict.has_deeds f _ _ _ es shows k block is deeds)
-    (λ _. verdict.has_backing f _ _ _ es shows k block is backed) (λ _. verdict.is_clear f _ _ _ es shows k block is clear)
+    let p = place_at f _ _ _ es shows block is c.args.self.now.places.len c.args.self.now.places.ok.0 c.args.self.now.places_sized c.index.result.now (rw c.grain-first.ensures at c.index.ensures) in
+    give_before f es k block 12 (λ _. inside_never f block is) (λ _ h. let lt = c.if-block-self.false in omega (arith, h, lt))
+    (λ _ h. h.2 (each_page shows block is (λ (p : Page). IsOfHeap block.heap p.directory) deeds h.0 h.1))
+    (λ _ h. false≢true (sym h.2 ∙ each_page shows block is (λ (p : Page). p.backed ≡ true) backed h.0 h.1)) (λ _ h. none_lives shows block is clear h.0 h.1 h.2)
     (λ _ h. h (sym c.if-index-block.false ∙ gives_are es (address_of block.name) is.whole.aligned c.index.result.now p)) reason (number_below reason)

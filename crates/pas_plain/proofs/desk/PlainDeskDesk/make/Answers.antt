@@ -1,5 +1,4 @@
-use Rattle.pas_steps.proofs.Ranged.{is_ranged}
-use Rattle.pas_steps.proofs.Targets.{target_of_region}
+use Rattle.pas_steps.proofs.Targets.{is_ranged, target_of_region}
 use Rattle.pas_plain.specs.Plain.{profile_of}
 use Rattle.pas_plain.proofs.Desks.{plain_makes}
 use Rattle.pas_plain.proofs.desk.PlainDeskDesk.make.Goals as goal

@@ -1,7 +1,7 @@
 use Rattle.std.proofs.Common.{ap, ◌∙◌, ◌≡◌, ℕ, length, refl, arith}
 use Rattle.std.specs.Prelude.{slice_index, slice_set}
 use Rattle.pas_profile.specs.Layouts.{index_of, words_of, same_word}
-use Rattle.pas_steps.proofs.Written.{place_written}
+use Rattle.pas_steps.proofs.Targets.{place_written}
 use Rattle.pas_steps.proofs.state.State.set_word.Goals as goal
 
 pub returns-clause-words : goal.returns-clause-words

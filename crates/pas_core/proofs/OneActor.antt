@@ -1,0 +1,517 @@
+-- Laws of one actor alone, in a list that is legal as a whole: what its steps leave as it was, which grains are free and where rights are before and
+-- after them, and what its search finds.
+use Rattle.std.proofs.Common.{◌≡◌, ℕ, ◌/◌, true, false, if◌then◌else◌, List, [], ◌∷◌, ◌++◌, refl, ap, ◌∙◌, true≢false, ◌≢◌, ◌+◌, ◌*◌, ◌%◌, ◌<◌, ◌==◌, Bool, ◌&&◌, ◌||◌, sym, arith, inl, inr, None, Some, subst, Result, Ok, Err}
+use Rattle.pas_profile.specs.Classes.{has_bit}
+use Rattle.pas_profile.specs.Directories.{number_of, deed_word_of, deed_word_numbered}
+use Rattle.pas_profile.specs.Layouts.{same_word}
+use Rattle.pas_profile.specs.declared.word.Word.{Word}
+use Rattle.pas_bits.specs.PageVectors.{page_mask}
+use Rattle.pas_steps.specs.Effects.{target, new_value, free_word_at, in_mask}
+use Rattle.pas_steps.specs.Views.{epoch_of, View, Move, Stays, Gets, Puts, Gives, Ends, grain_move, held_after, holds, Way, Rests, ByDeed, FromOffer, FromParked, ToOffer, ToParked, way, had_after, has_right, deed_after, known_deed, KnowsDeed}
+use Rattle.pas_steps.specs.Lists.{Whole, part, word_after, Legal}
+use Rattle.pas_steps.specs.Desks.{triples, triple}
+use Rattle.pas_steps.specs.Kinds.{Kinds, kind_of, place_of, is_in, apart, Only, Taking, Claiming, Deeding, lending}
+use Rattle.pas_steps.specs.declared.step.Made.{Made}
+use Rattle.pas_steps.specs.declared.step.Step.{Step}
+use Rattle.pas_steps.specs.declared.step.Step.TheVariants.{Look, Deed, Take, Put, TakeRight, Offer, Give, End, EndSized, Park, Unpark}
+use Rattle.pas_steps.proofs.Apart.{in_apart}
+use Rattle.pas_core.proofs.Deeds.{looked, deed_kept, deed_was_none, known_is, numbered_ne}
+use Rattle.pas_core.proofs.Rights.{put_keeps, one_has_right, offered_has_deed, offered_spot, own_eligible, is_on_offer, Spot, Nowhere, With, Offered, InParked, is_with, is_offered, is_parked, spot_after, spot_of, Suits, DeedFits, IsSpotted, step_suits, spotted}
+use Rattle.std.proofs.lemmas.Bool.{cases_Bool, eq-eqb, eqb-true, cond_both, or_left, or_parts, or_from, cases_eq, false≢true, and_parts}
+use Rattle.pas_profile.specs.Profiles.{IsValid, IsDirectoryOf}
+use Rattle.pas_profile.specs.declared.profile.Profile.{Profile}
+use Rattle.pas_steps.specs.Past.{Once, Always}
+use Rattle.pas_steps.specs.Events.{event_of}
+use Rattle.pas_profile.specs.declared.event.Event.{Event}
+use Rattle.pas_steps.proofs.Past.{since_once, always_map, once_map}
+use Rattle.pas_core.specs.Rights.{free_of_page, eligible_bit, parked_bit, AllRest}
+use Rattle.pas_steps.proofs.Parts.{part_of_own, part_of_others, each_part}
+use Rattle.pas_core.specs.Good.{Place, Held, is_free, is_held_by, IsPlacedOnce}
+use Rattle.pas_core.proofs.Grains.{Fits, free_moved, free_step, step_fits, placed_once, is_held_by-true}
+use Rattle.pas_steps.specs.Evidence.{Readings, IsAntitone, ReadsFree, ReadsDeed, ShowsHere, KeptHere, UnfitHere, DeedHere, ReadsEligible, ReadsParked, ZeroHere, OneHere, ParkedHere, LacksAfter, HeldHere}
+use Rattle.pas_profile.specs.declared.directory.Directory.{Directory}
+use Rattle.pas_profile.proofs.Codecs.{deed_word_of-positive, numbered}
+use Rattle.pas_steps.specs.Allowed.{Allowed}
+use Rattle.pas_steps.specs.Agreement.{Agrees}
+use Rattle.pas_steps.proofs.Adding.{triples_append}
+use Rattle.pas_steps.proofs.Frames.{right_own, right_of_own, lacks_now}
+use Rattle.pas_steps.proofs.Kept.{deed_stays}
+use Rattle.pas_core.proofs.Nexts.{agrees_next}
+use Rattle.pas_profile.specs.declared.event.NoRoom.{NoRoom}
+use Rattle.pas_profile.specs.declared.event.NoRoom.TheVariants.{NoSpace}
+use Rattle.pas_core.specs.Fits.{IsOfferedFit, IsBarePage, HasNoFit}
+use Rattle.pas_core.specs.Alone.{ShowsOffered, ShowsBare, ShowsNone, ShowsHeld, ShowsAnswer, SearchesAlone, IsPlainAnswer}
+
+-- ==== Bits of free and eligible words, and deed words, that steps of some kinds leave as they were.
+
+-- what no step of these kinds ends holds of a word after them
+over : (Q : ℕ → Type 0) (x : Word) (ks ls : Kinds) → ((e : ℕ) (s : Step) (old : ℕ) → is_in ls (kind_of s) ≡ false → Q old → Q (if same_word (target s) x then new_value e s old else old)) → apart ks ls ≡ true
+    → (k : ℕ) (xs : List Made) (l : Whole) → Only ks xs → Q (word_after l x) → Q (word_after (triples k xs ++ l) x)
+over Q x ks ls step w k [] l only h = h
+over Q x ks ls step w k (m ∷ xs) l only h =
+    step (epoch_of (part k (triples k xs ++ l))) m.step (word_after (triples k xs ++ l) x) (in_apart ks ls (place_of (kind_of m.step)) w only.0) (over Q x ks ls step w k xs l only.1 h)
+
+frees_kept : (e : ℕ) (s : Step) (p w old b : ℕ) → is_in (Taking ∷ []) (kind_of s) ≡ false → has_bit old b ≡ true → has_bit (if same_word (target s) (Word.Free p w) then new_value e s old else old) b ≡ true
+frees_kept e (Look x) p w old b is h = ap (λ n. has_bit n b) (looked (same_word x (Word.Free p w)) old) ∙ h
+frees_kept e (Put q j m) p w old b is h = put_keeps (same_word (Word.Free q j) (Word.Free p w)) old m b h
+frees_kept e (Take q j m) p w old b is h = absurd (true≢false is)
+frees_kept e s p w old b is h = h
+
+-- where none takes, free grains stay free
+pub free_stays : (ks : Kinds) → apart ks (Taking ∷ []) ≡ true → (k : ℕ) (xs : List Made) (l : Whole) (p w b : ℕ) → Only ks xs → has_bit (word_after l (Word.Free p w)) b ≡ true → has_bit (word_after (triples k xs ++ l) (Word.Free p w)) b ≡ true
+free_stays ks apart k xs l p w b = over (λ n. has_bit n b ≡ true) (Word.Free p w) ks (Taking ∷ []) (λ e s old other. frees_kept e s p w old b other) apart k xs l
+
+offers_kept : (e : ℕ) (s : Step) (n j old b : ℕ) → is_in (Claiming ∷ []) (kind_of s) ≡ false → has_bit old b ≡ true → has_bit (if same_word (target s) (Word.Eligible n j) then new_value e s old else old) b ≡ true
+offers_kept e (Look x) n j old b is h = ap (λ a. has_bit a b) (looked (same_word x (Word.Eligible n j)) old) ∙ h
+offers_kept e (Offer q d) n j old b is h = put_keeps (same_word (Word.Eligible (number_of d) (q / 64)) (Word.Eligible n j)) old (page_mask q) b h
+offers_kept e (TakeRight q d) n j old b is h = absurd (true≢false is)
+offers_kept e s n j old b is h = h
+
+-- where none claims, offered pages stay offered
+pub offered_stays : (ks : Kinds) → apart ks (Claiming ∷ []) ≡ true → (k : ℕ) (xs : List Made) (l : Whole) (n j b : ℕ) → Only ks xs → has_bit (word_after l (Word.Eligible n j)) b ≡ true → has_bit (word_after (triples k xs ++ l) (Word.Eligible n j)) b ≡ true
+offered_stays ks apart k xs l n j b = over (λ a. has_bit a b ≡ true) (Word.Eligible n j) ks (Claiming ∷ []) (λ e s old other. offers_kept e s n j old b other) apart k xs l
+
+deeds_kept : (e : ℕ) (s : Step) (p old : ℕ) → is_in (Deeding ∷ []) (kind_of s) ≡ false → (if same_word (target s) (Word.Deed p) then new_value e s old else old) ≡ old
+deeds_kept e (Look x) p old is = looked (same_word x (Word.Deed p)) old
+deeds_kept e (Deed q d) p old is = absurd (true≢false is)
+deeds_kept e s p old is = refl
+
+-- where none makes a deed, deed words stay
+pub deed_same : (ks : Kinds) → apart ks (Deeding ∷ []) ≡ true → (k : ℕ) (xs : List Made) (l : Whole) (p : ℕ) → Only ks xs → word_after (triples k xs ++ l) (Word.Deed p) ≡ word_after l (Word.Deed p)
+deed_same ks apart k xs l p only = over (λ n. n ≡ word_after l (Word.Deed p)) (Word.Deed p) ks (Deeding ∷ []) (λ e s old other h. deeds_kept e s p old other ∙ h) apart k xs l only refl
+
+-- ==== Which grains are free, and which deed words there are, before and after the steps of an actor that gives and ends no block.
+
+-- ---- how such steps move a grain
+abbrev IsPlain : Move → Type 0
+IsPlain Stays = Unit {0}
+IsPlain Gets = Unit {0}
+IsPlain Puts = Unit {0}
+IsPlain (Gives a) = ⊥
+IsPlain (Ends a) = ⊥
+
+plain_move : (s : Step) (a g : ℕ) → is_in lending (kind_of s) ≡ false → IsPlain (grain_move s a g)
+plain_move (Take p w mask) a g h = cond_both (in_mask p w mask g && has_bit a (g % 64)) Gets Stays IsPlain (λ here. tt) (λ other. tt)
+plain_move (Put p w mask) a g h = cond_both (in_mask p w mask g) Puts Stays IsPlain (λ here. tt) (λ other. tt)
+plain_move (Give b) a g h = absurd (true≢false h)
+plain_move (End n b) a g h = absurd (true≢false h)
+plain_move (EndSized n room) a g h = absurd (true≢false h)
+plain_move s a g h = tt
+
+-- no block is given or ended
+abbrev pub LendsNone : List Made → Type 0
+LendsNone = Always (λ m before. is_in lending (kind_of m.step) ≡ false)
+
+pub lends_none : (ks : Kinds) → apart ks lending ≡ true → (xs : List Made) → Only ks xs → LendsNone xs
+lends_none ks w xs = always_map (λ m before. is_in ks (kind_of m.step) ≡ true) (λ m before. is_in lending (kind_of m.step) ≡ false) xs (λ m before is. in_apart ks lending (place_of (kind_of m.step)) w is)
+
+abbrev bit_of : Whole → ℕ → Bool
+bit_of l g = has_bit (word_after l (free_word_at g)) (g % 64)
+
+holds_own : (g : ℕ) (xs : List Made) (v : View) → holds v g ≡ false → holds (xs ++ v) g ≡ holds xs g
+holds_own g [] v h = h
+holds_own g (m ∷ xs) v h = ap (held_after (grain_move m.step m.answer g)) (holds_own g xs v h)
+
+bit_moved : (f : Profile) (k : ℕ) (l : Whole) (g : ℕ) (m : Made) (xs : List Made) → Legal f (triples k (m ∷ xs) ++ l) → bit_of (triples k (m ∷ xs) ++ l) g ≡ free_moved (grain_move m.step m.answer g) (bit_of (triples k xs ++ l) g)
+bit_moved f k l g m xs legal = free_step f (triples k xs ++ l) (epoch_of (part k (triples k xs ++ l))) m.step m.answer g legal.0.of_region legal.0.answer_is
+
+-- ---- a grain that was free at entry is free, or the call holds it
+free_move : (m : Move) (bit held : Bool) → IsPlain m → (bit || held) ≡ true → (free_moved m bit || held_after m held) ≡ true
+free_move Stays bit held plain h = h
+free_move (Gives a) bit held plain h = absurd plain
+free_move (Ends a) bit held plain h = absurd plain
+free_move s bit held plain h = refl
+
+free_or_held : (f : Profile) (k : ℕ) (l : Whole) (g : ℕ) (xs : List Made) → Legal f (triples k xs ++ l) → LendsNone xs → bit_of l g ≡ true → (bit_of (triples k xs ++ l) g || holds xs g) ≡ true
+free_or_held f k l g [] legal lends free = or_left (bit_of l g) false free
+free_or_held f k l g (m ∷ xs) legal lends free =
+    ap (λ x. x || held_after (grain_move m.step m.answer g) (holds xs g)) (bit_moved f k l g m xs legal)
+    ∙ free_move (grain_move m.step m.answer g) (bit_of (triples k xs ++ l) g) (holds xs g) (plain_move m.step m.answer g lends.0) (free_or_held f k l g xs legal.1 lends.1 free)
+
+-- ---- a grain that is neither free nor the actor's stays so
+abbrev pub Used : ℕ → Whole → ℕ → List Made → Type 0
+Used k l g xs = (bit_of (triples k xs ++ l) g ≡ false) × (holds (xs ++ part k l) g ≡ false)
+
+held_own : (k : ℕ) → is_held_by k (Held k) ≡ true
+held_own k = eq-eqb k k refl
+
+used_move : (k : ℕ) (m : Move) (o : Place) (bit held : Bool) → IsPlain m → Fits k m o → is_free o ≡ false → is_held_by k o ≡ false → bit ≡ false → held ≡ false → (free_moved m bit ≡ false) × (held_after m held ≡ false)
+used_move k Stays o bit held plain fits not_free not_held b h = (b, h)
+used_move k Gets o bit held plain fits not_free not_held b h = absurd (true≢false (sym (ap is_free fits) ∙ not_free))
+used_move k Puts o bit held plain fits not_free not_held b h = absurd (true≢false (sym (ap (is_held_by k) fits ∙ held_own k) ∙ not_held))
+used_move k s o bit held plain fits not_free not_held b h = absurd plain
+
+used_next : (f : Profile) (k : ℕ) (l : Whole) (g : ℕ) (m : Made) (xs : List Made) → IsValid f → Legal f (triples k (m ∷ xs) ++ l) → is_in lending (kind_of m.step) ≡ false → Used k l g xs → Used k l g (m ∷ xs)
+used_next f k l g m xs valid legal search used =
+    let w : Whole = triples k xs ++ l in
+    let at : IsPlacedOnce w g = placed_once f w valid legal.1 g in
+    let moved = used_move k (grain_move m.step m.answer g) at.place (bit_of w g) (holds (xs ++ part k l) g) (plain_move m.step m.answer g search)
+    (step_fits f w k m.step m.answer g at valid legal.0.of_region legal.0.allowed legal.0.answer_is)
+    (sym at.free ∙ used.0) (sym (at.held k) ∙ ap (λ v. holds v g) (part_of_own k xs l) ∙ used.1) used.0 used.1 in
+    (bit_moved f k l g m xs legal ∙ moved.0, moved.1)
+
+used_all : (f : Profile) (k : ℕ) (l : Whole) (g : ℕ) (xs : List Made) → IsValid f → Legal f (triples k xs ++ l) → LendsNone xs → Used k l g [] → Used k l g xs
+used_all f k l g [] valid legal lends used = used
+used_all f k l g (m ∷ xs) valid legal lends used = used_next f k l g m xs valid legal lends.0 (used_all f k l g xs valid legal.1 lends.1 used)
+
+-- ---- what a reading of a free word shows
+free_read : (page word : ℕ) (s : Step) (w : Whole) → ReadsFree page word s → word_after w (target s) ≡ word_after w (Word.Free page word)
+free_read page word s w ReadsFree.Looks = refl
+free_read page word s w (ReadsFree.Takes mask) = refl
+
+word_of_page : (page b : ℕ) → b < 256 → free_word_at (page * 256 + b) ≡ Word.Free page (b / 64)
+word_of_page page b lt = let x : (page * 256 + b) / 256 ≡ page = omega (arith, lt) in let y : (page * 256 + b) / 64 % 4 ≡ b / 64 = omega (arith, lt) in
+    ap (λ p. Word.Free p ((page * 256 + b) / 64 % 4)) x ∙ ap (λ w. Word.Free page w) y
+
+shown : (f : Profile) (k : ℕ) (l : Whole) (page b : ℕ) (r : Readings) (m : Made) (xs : List Made) → Legal f (triples k (m ∷ xs) ++ l) → b < 256 → ShowsHere page (b / 64) r m xs → r b ≡ (bit_of (triples k xs ++ l) (page * 256 + b) || holds xs (page * 256 + b))
+shown f k l page b r m xs legal lt s =
+    let w : Whole = triples k xs ++ l in
+    let whole : 64 * (b / 64) + b % 64 ≡ b = omega arith in
+    let bit : b % 64 ≡ (page * 256 + b) % 64 = omega arith in
+    let word : m.answer ≡ word_after w (free_word_at (page * 256 + b)) = legal.0.answer_is ∙ free_read page (b / 64) m.step w s.0 ∙ ap (word_after w) (sym (word_of_page page b lt)) in
+    ap r (sym whole) ∙ s.2 (b % 64) (omega arith) ∙ ap (λ n. has_bit m.answer (b % 64) || holds xs (page * 256 + n)) whole
+    ∙ ap (λ n. has_bit n (b % 64) || holds xs (page * 256 + b)) word ∙ ap (λ n. has_bit (word_after w (free_word_at (page * 256 + b))) n || holds xs (page * 256 + b)) bit
+
+of_page : (l : Whole) (page b : ℕ) → free_of_page l page b ≡ bit_of l (page * 256 + b)
+of_page l page b = let bit : b % 64 ≡ (page * 256 + b) % 64 = omega arith in ap (λ n. has_bit (word_after l (free_word_at (page * 256 + b))) n) bit
+
+-- a grain that was free at entry is read as free
+free_shown : (f : Profile) (k : ℕ) (l : Whole) (page b : ℕ) (r : Readings) (xs : List Made) → Legal f (triples k xs ++ l) → LendsNone xs → b < 256 → bit_of l (page * 256 + b) ≡ true → Once (ShowsHere page (b / 64) r) xs → r b ≡ true
+free_shown f k l page b r [] legal lends lt free h = absurd h
+free_shown f k l page b r (m ∷ xs) legal lends lt free (inr h) = free_shown f k l page b r xs legal.1 lends.1 lt free h
+free_shown f k l page b r (m ∷ xs) legal lends lt free (inl s) = shown f k l page b r m xs legal lt s ∙ free_or_held f k l (page * 256 + b) xs legal.1 lends.1 free
+
+-- one that was read as not free, and that the actor didn't hold at entry, is used from then on
+shown_used : (f : Profile) (k : ℕ) (l : Whole) (page b : ℕ) (r : Readings) (xs : List Made) → IsValid f → Legal f (triples k xs ++ l) → LendsNone xs → b < 256 → r b ≡ false → holds (part k l) (page * 256 + b) ≡ false → Once (ShowsHere page (b / 64) r) xs → Used k l (page * 256 + b) xs
+shown_used f k l page b r [] valid legal lends lt miss none h = absurd h
+shown_used f k l page b r (m ∷ xs) valid legal lends lt miss none (inr h) = used_next f k l (page * 256 + b) m xs valid legal lends.0 (shown_used f k l page b r xs valid legal.1 lends.1 lt miss none h)
+shown_used f k l page b r (m ∷ xs) valid legal lends lt miss none (inl s) =
+    let parts = or_parts (bit_of (triples k xs ++ l) (page * 256 + b)) (holds xs (page * 256 + b)) (sym (shown f k l page b r m xs legal lt s) ∙ miss) in
+    used_next f k l (page * 256 + b) m xs valid legal lends.0 (parts.0, holds_own (page * 256 + b) xs (part k l) none ∙ parts.1)
+
+-- one that was used at entry is read as not free
+used_shown : (f : Profile) (k : ℕ) (l : Whole) (page b : ℕ) (r : Readings) (xs : List Made) → IsValid f → Legal f (triples k xs ++ l) → LendsNone xs → b < 256 → Used k l (page * 256 + b) [] → Once (ShowsHere page (b / 64) r) xs → r b ≡ false
+used_shown f k l page b r [] valid legal lends lt used h = absurd h
+used_shown f k l page b r (m ∷ xs) valid legal lends lt used (inr h) = used_shown f k l page b r xs valid legal.1 lends.1 lt used h
+used_shown f k l page b r (m ∷ xs) valid legal lends lt used (inl s) =
+    let now : Used k l (page * 256 + b) xs = used_all f k l (page * 256 + b) xs valid legal.1 lends.1 used in
+    shown f k l page b r m xs legal lt s ∙ or_from (bit_of (triples k xs ++ l) (page * 256 + b)) (holds xs (page * 256 + b)) now.0 (sym (holds_own (page * 256 + b) xs (part k l) used.1) ∙ now.1)
+
+-- ---- a page that didn't fit
+-- it fitted neither at entry ..
+pub unfit_entry : (no_fit : Readings → Type 0) (f : Profile) (k : ℕ) (l : Whole) (page : ℕ) (xs : List Made) → IsAntitone no_fit → Legal f (triples k xs ++ l) → LendsNone xs → Once (UnfitHere no_fit page) xs → no_fit (free_of_page l page)
+unfit_entry no_fit f k l page [] fewer legal lends h = absurd h
+unfit_entry no_fit f k l page (m ∷ xs) fewer legal lends (inr h) = unfit_entry no_fit f k l page xs fewer legal.1 lends.1 h
+unfit_entry no_fit f k l page (m ∷ xs) fewer legal lends (inl u) =
+    fewer u.readings (free_of_page l page) (λ b lt free. free_shown f k l page b u.readings xs legal.1 lends.1 lt (sym (of_page l page b) ∙ free)
+    (since_once (ShowsHere page (b / 64) u.readings) (KeptHere page) xs (u.read (b / 64) (omega (arith, lt))))) u.none
+
+unfit_used : (no_fit : Readings → Type 0) (f : Profile) (k : ℕ) (l : Whole) (page : ℕ) (xs : List Made) → IsValid f → Legal f (triples k xs ++ l) → LendsNone xs → Once (UnfitHere no_fit page) xs
+    → (r : Readings) × no_fit r × ((b : ℕ) → b < 256 → r b ≡ false → holds (part k l) (page * 256 + b) ≡ false → Used k l (page * 256 + b) xs)
+unfit_used no_fit f k l page [] valid legal lends h = absurd h
+unfit_used no_fit f k l page (m ∷ xs) valid legal lends (inr h) =
+    let old = unfit_used no_fit f k l page xs valid legal.1 lends.1 h in
+    (old.0, old.1, λ b lt miss none. used_next f k l (page * 256 + b) m xs valid legal lends.0 (old.2 b lt miss none))
+unfit_used no_fit f k l page (m ∷ xs) valid legal lends (inl u) = (
+  u.readings,
+  u.none,
+  λ b lt miss none. used_next f k l (page * 256 + b) m xs valid legal lends.0
+      (shown_used f k l page b u.readings xs valid legal.1 lends.1 lt miss none (since_once (ShowsHere page (b / 64) u.readings) (KeptHere page) xs (u.read (b / 64) (omega (arith, lt))))),
+)
+
+-- .. nor at exit, where the actor holds what it held
+pub unfit_exit : (no_fit : Readings → Type 0) (f : Profile) (k : ℕ) (l : Whole) (page : ℕ) (xs : List Made) → IsAntitone no_fit → IsValid f → Legal f (triples k xs ++ l) → LendsNone xs → ((g : ℕ) → holds (xs ++ part k l) g ≡ holds (part k l) g) → Once (UnfitHere no_fit page) xs → no_fit (free_of_page (triples k xs ++ l) page)
+unfit_exit no_fit f k l page xs fewer valid legal lends still h =
+    let w : Whole = triples k xs ++ l in
+    let r = unfit_used no_fit f k l page xs valid legal lends h in
+    fewer r.0 (free_of_page w page) (λ b lt free. let g : ℕ = page * 256 + b in
+    elim (cases_Bool (r.0 b)) [
+      | inl hit ↦ hit
+      | inr miss ↦ elim (cases_Bool (holds (part k l) g)) [
+        | inr none ↦ absurd (true≢false (sym free ∙ of_page w page b ∙ (r.2 b lt miss none).0))
+        | inl held ↦
+            let at : IsPlacedOnce w g = placed_once f w valid legal g in
+            let mine : is_held_by k at.place ≡ true = sym (at.held k) ∙ ap (λ v. holds v g) (part_of_own k xs l) ∙ still g ∙ held in
+            absurd (true≢false (sym free ∙ of_page w page b ∙ at.free ∙ ap is_free (is_held_by-true k at.place mine)))
+      ]
+    ]) r.1
+
+-- a page that was read as fitting fitted at entry, where no grain that the actor held was read as free
+pub fit_entry : (no_fit : Readings → Type 0) (f : Profile) (k : ℕ) (l : Whole) (page : ℕ) (r : Readings) (xs : List Made) → IsAntitone no_fit → IsValid f → Legal f (triples k xs ++ l) → LendsNone xs
+    → (no_fit r → ⊥) → ((word : ℕ) → word < 4 → Once (ShowsHere page word r) xs) → ((g : ℕ) → g / 256 ≡ page → holds (part k l) g ≡ true → r (g % 256) ≡ false) → no_fit (free_of_page l page) → ⊥
+fit_entry no_fit f k l page r xs fewer valid legal lends fits read held none =
+    fits (fewer (free_of_page l page) r (λ b lt hit. let g : ℕ = page * 256 + b in
+    let rest : g % 256 ≡ b = omega (arith, lt) in
+    elim (cases_Bool (bit_of l g)) [
+      | inl free ↦ of_page l page b ∙ free
+      | inr used ↦ elim (cases_Bool (holds (part k l) g)) [
+        | inl mine ↦ absurd (true≢false (sym hit ∙ ap r (sym rest) ∙ held g (omega (arith, lt)) mine))
+        | inr none ↦ absurd (true≢false (sym hit ∙ used_shown f k l page b r xs valid legal lends lt (used, none) (read (b / 64) (omega (arith, lt)))))
+      ]
+    ]) none)
+
+-- ---- deed words
+abbrev pub MakesNoEvent : List Made → Type 0
+MakesNoEvent = Always (λ m before. (k epoch : ℕ) → event_of k epoch m.step m.answer ≡ None)
+
+pub no_deed_event : (t : Bool) (e : Event) → (if t then Some e else None) ≡ None → t ≡ false
+no_deed_event t e h = grind arith
+
+no_deed_written : (t z : Bool) (word old : ℕ) → (t ≡ true → z ≡ false) → (if t then (if z then word else old) else old) ≡ old
+no_deed_written t z word old h = grind arith
+
+deed_step : (w : Whole) (e : ℕ) (s : Step) (a p : ℕ) → a ≡ word_after w (target s) → ((k epoch : ℕ) → event_of k epoch s a ≡ None)
+    → (if same_word (target s) (Word.Deed p) then new_value e s (word_after w (Word.Deed p)) else word_after w (Word.Deed p)) ≡ word_after w (Word.Deed p)
+deed_step w e (Look x) a p is quiet = looked (same_word x (Word.Deed p)) (word_after w (Word.Deed p))
+deed_step w e (Deed q d) a p is quiet = no_deed_written (q == p) (word_after w (Word.Deed p) == 0) (deed_word_of d) (word_after w (Word.Deed p))
+    (λ h. ap (λ n. n == 0) (sym (is ∙ ap (λ x. word_after w (Word.Deed x)) (eqb-true q p h))) ∙ no_deed_event (a == 0) (Event.Deed 0 q d) (quiet 0 0))
+deed_step w e s a p is quiet = refl
+
+-- without events it stays as it was
+pub deed_quiet : (f : Profile) (k : ℕ) (l : Whole) (p : ℕ) (xs : List Made) → Legal f (triples k xs ++ l) → MakesNoEvent xs → word_after (triples k xs ++ l) (Word.Deed p) ≡ word_after l (Word.Deed p)
+deed_quiet f k l p [] legal quiet = refl
+deed_quiet f k l p (m ∷ xs) legal quiet = deed_step (triples k xs ++ l) (epoch_of (part k (triples k xs ++ l))) m.step m.answer p legal.0.answer_is quiet.0 ∙ deed_quiet f k l p xs legal.1 quiet.1
+
+pub deed_read : (p : ℕ) (s : Step) (w : Whole) → ReadsDeed p s → word_after w (target s) ≡ word_after w (Word.Deed p)
+deed_read p s w ReadsDeed.Looks = refl
+deed_read p s w (ReadsDeed.Deeds d) = refl
+
+-- one that was read as not 0 isn't 0 at exit
+pub deed_exit : (f : Profile) (k : ℕ) (l : Whole) (p : ℕ) (xs : List Made) → Legal f (triples k xs ++ l) → Once (DeedHere p) xs → word_after (triples k xs ++ l) (Word.Deed p) ≢ 0
+deed_exit f k l p [] legal h = absurd h
+deed_exit f k l p (m ∷ xs) legal (inl z) =
+    let w : Whole = triples k xs ++ l in
+    let some : word_after w (Word.Deed p) ≢ 0 = λ e. z.1 (legal.0.answer_is ∙ deed_read p m.step w z.0 ∙ e) in
+    λ e. some (sym (deed_kept w (triple k m) p some) ∙ e)
+deed_exit f k l p (m ∷ xs) legal (inr h) =
+    let some = deed_exit f k l p xs legal.1 h in λ e. some (sym (deed_kept (triples k xs ++ l) (triple k m) p some) ∙ e)
+
+-- where there is no deed there was none
+pub deed_none : (k : ℕ) (l : Whole) (p : ℕ) (xs : List Made) → word_after (triples k xs ++ l) (Word.Deed p) ≡ 0 → word_after l (Word.Deed p) ≡ 0
+deed_none k l p [] h = h
+deed_none k l p (m ∷ xs) h = deed_none k l p xs (deed_was_none (triples k xs ++ l) (triple k m) p h)
+
+-- ==== Where the right of a page is before and after the steps.
+
+-- ---- a page whose right the call never had stays where it was
+stays_put : (k : ℕ) (w : Way) (o : Spot) → had_after w false ≡ false → Suits k w o → (o ≡ With k → ⊥) → spot_after k w o ≡ o
+stays_put k Rests o lacks suits not_with = refl
+stays_put k (ToOffer n) o lacks suits not_with = absurd (not_with suits)
+stays_put k ToParked o lacks suits not_with = absurd (not_with suits)
+stays_put k s o lacks suits not_with = absurd (true≢false lacks)
+
+pub is_with_own : (k : ℕ) → is_with k (With k) ≡ true
+is_with_own k = eq-eqb k k refl
+
+not_with : (l : Whole) (k p : ℕ) → IsSpotted l p → has_right (part k l) p ≡ false → spot_of l p ≡ With k → ⊥
+not_with l k p at lacks e = true≢false (sym (at.has k ∙ ap (is_with k) e ∙ is_with_own k) ∙ lacks)
+
+pub spot_same : (f : Profile) (k : ℕ) (l : Whole) (p : ℕ) (xs : List Made) → Legal f (triples k xs ++ l) → has_right (part k l) p ≡ false → Always (LacksAfter p) xs → spot_of (triples k xs ++ l) p ≡ spot_of l p
+spot_same f k l p [] legal none lacks = refl
+spot_same f k l p (m ∷ xs) legal none lacks =
+    let w : Whole = triples k xs ++ l in
+    let at : IsSpotted w p = spotted f w legal.1 p in
+    let own : has_right xs p ≡ false = lacks_now p xs lacks.1 in
+    let view : has_right (part k w) p ≡ false = ap (λ v. has_right v p) (part_of_own k xs l) ∙ right_own p xs (part k l) none ∙ own in
+    let moved : had_after (way m.step m.answer p) false ≡ false = ap (had_after (way m.step m.answer p)) (sym own) ∙ lacks.0 in
+    stays_put k (way m.step m.answer p) (spot_of w p) moved (step_suits f w k m.step m.answer p at legal.0.allowed legal.0.answer_is) (not_with w k p at view)
+    ∙ spot_same f k l p xs legal.1 none lacks.1
+
+-- ---- readings of the page's bits
+eligible_read : (d : Directory) (p : ℕ) (s : Step) (w : Whole) → ReadsEligible d p s → word_after w (target s) ≡ word_after w (Word.Eligible (number_of d) (p / 64))
+eligible_read d p s w (ReadsEligible.Looks n j en ej) = ap (λ x. word_after w (Word.Eligible x j)) en ∙ ap (λ x. word_after w (Word.Eligible (number_of d) x)) ej
+eligible_read d p s w ReadsEligible.Claims = refl
+
+pub zero_told : (f : Profile) (k : ℕ) (l : Whole) (d : Directory) (p : ℕ) (xs : List Made) → Legal f (triples k xs ++ l) → has_right (part k l) p ≡ false → Always (LacksAfter p) xs → Once (ZeroHere d p) xs → is_offered (number_of d) (spot_of l p) ≡ false
+zero_told f k l d p [] legal none lacks h = absurd h
+zero_told f k l d p (m ∷ xs) legal none lacks (inr h) = zero_told f k l d p xs legal.1 none lacks.1 h
+zero_told f k l d p (m ∷ xs) legal none lacks (inl z) =
+    let w : Whole = triples k xs ++ l in
+    let at : IsSpotted w p = spotted f w legal.1 p in
+    ap (is_offered (number_of d)) (sym (spot_same f k l p xs legal.1 none lacks.1)) ∙ sym (at.eligible (number_of d))
+    ∙ ap (λ n. has_bit n (p % 64)) (sym (eligible_read d p m.step w z.0) ∙ sym legal.0.answer_is) ∙ z.1
+
+-- the page was offered when the call read its bit as 1
+pub one_told : (f : Profile) (k : ℕ) (l : Whole) (d : Directory) (p : ℕ) (xs : List Made) → Legal f (triples k xs ++ l) → Once (λ m before. OneHere d p m before × Always (LacksAfter p) before) xs → (ys : List Made) × Legal f (triples k ys ++ l) × Always (LacksAfter p) ys × (eligible_bit (triples k ys ++ l) (number_of d) p ≡ true)
+one_told f k l d p [] legal h = absurd h
+one_told f k l d p (m ∷ xs) legal (inr h) = one_told f k l d p xs legal.1 h
+one_told f k l d p (m ∷ xs) legal (inl z) = (xs, legal.1, z.1, ap (λ n. has_bit n (p % 64)) (sym (eligible_read d p m.step (triples k xs ++ l) z.0.0) ∙ sym legal.0.answer_is) ∙ z.0.1)
+
+parked_read : (p : ℕ) (s : Step) (w : Whole) → ReadsParked p s → word_after w (target s) ≡ word_after w (Word.Parked (p / 64))
+parked_read p s w (ReadsParked.Looks j ej) = ap (λ x. word_after w (Word.Parked x)) ej
+
+pub parked_told : (f : Profile) (k : ℕ) (l : Whole) (p : ℕ) (set : Bool) (xs : List Made) → Legal f (triples k xs ++ l) → has_right (part k l) p ≡ false → Always (LacksAfter p) xs → Once (ParkedHere set p) xs → is_parked (spot_of l p) ≡ set
+parked_told f k l p set [] legal none lacks h = absurd h
+parked_told f k l p set (m ∷ xs) legal none lacks (inr h) = parked_told f k l p set xs legal.1 none lacks.1 h
+parked_told f k l p set (m ∷ xs) legal none lacks (inl z) =
+    let w : Whole = triples k xs ++ l in
+    let at : IsSpotted w p = spotted f w legal.1 p in
+    ap is_parked (sym (spot_same f k l p xs legal.1 none lacks.1)) ∙ sym at.parked
+    ∙ ap (λ n. has_bit n (p % 64)) (sym (parked_read p m.step w z.0) ∙ sym legal.0.answer_is) ∙ z.1
+
+-- ---- the deed word stays, once it is there
+deed_later : (k : ℕ) (l : Whole) (p : ℕ) (xs : List Made) → word_after l (Word.Deed p) ≢ 0 → word_after (triples k xs ++ l) (Word.Deed p) ≡ word_after l (Word.Deed p)
+deed_later k l p [] some = refl
+deed_later k l p (m ∷ xs) some = let e = deed_later k l p xs some in deed_kept (triples k xs ++ l) (triple k m) p (λ z. some (sym e ∙ z)) ∙ e
+
+-- ---- an actor that has a right knows the page's deed
+got_if : (t : Bool) (w : Way) → had_after (if t then w else Rests) false ≡ true → (t ≡ true) × (had_after w false ≡ true)
+got_if true w h = (refl, h)
+got_if false w h = absurd (false≢true h)
+
+deed_here : (t z : Bool) (d : Directory) (a known : ℕ) → t ≡ true → z ≡ true → (if t then (if z then deed_word_of d else a) else known) ≢ 0
+deed_here t z d a known ht hz e = deed_word_of-positive d (sym (ap (λ x. if x then (if z then deed_word_of d else a) else known) ht ∙ ap (λ x. if x then deed_word_of d else a) hz) ∙ e)
+
+gains_known : (f : Profile) (v : View) (s : Step) (a p : ℕ) → Allowed f v s → had_after (way s a p) false ≡ true → deed_after s a p (known_deed v p) ≢ 0
+gains_known f v (Deed q d) a p allowed h = let parts = and_parts (q == p) (a == 0) (got_if ((q == p) && (a == 0)) ByDeed h).0 in deed_here (q == p) (a == 0) d a (known_deed v p) parts.0 parts.1
+gains_known f v (TakeRight q d) a p allowed h =
+    let parts = and_parts (q == p) (has_bit a (p % 64)) (got_if ((q == p) && has_bit a (p % 64)) (FromOffer (number_of d)) h).0 in
+    cond_both ((q / 64 == p / 64) && has_bit a (p % 64)) (deed_word_numbered (number_of d)) (known_deed v p) (λ x. x ≢ 0) (λ here. (numbered_ne (number_of d))) (λ other. (λ z. deed_word_of-positive d (sym allowed ∙ ap (known_deed v) (eqb-true q p parts.0) ∙ z)))
+gains_known f v (Offer q d) a p allowed h = absurd (false≢true (got_if (q == p) (ToOffer (number_of d)) h).1)
+gains_known f v (Park q) a p allowed h = absurd (false≢true (got_if (q == p) ToParked h).1)
+gains_known f v (Unpark q) a p allowed h =
+    let parts = and_parts (q == p) (has_bit a (p % 64)) (got_if ((q == p) && has_bit a (p % 64)) FromParked h).0 in
+    λ z. allowed (ap (known_deed v) (eqb-true q p parts.0) ∙ z)
+gains_known f v s a p allowed h = absurd (false≢true h)
+
+own_known : (f : Profile) (v : View) (m : Made) (p : ℕ) → Allowed f v m.step → Agrees f v m.step m.answer → (has_right v p ≡ true → known_deed v p ≢ 0) → (had : Bool) → has_right v p ≡ had → had_after (way m.step m.answer p) had ≡ true → known_deed (m ∷ v) p ≢ 0
+own_known f v m p allowed agrees known true e h = λ z. known e (sym (deed_stays f (m ∷ []) v p (agrees, tt) (known e)) ∙ z)
+own_known f v m p allowed agrees known false e h = gains_known f v m.step m.answer p allowed h
+
+right_known : (f : Profile) (l : Whole) → IsValid f → Legal f l → (k p : ℕ) → has_right (part k l) p ≡ true → known_deed (part k l) p ≢ 0
+right_known f l valid legal k p = each_part f (λ l k v. has_right v p ≡ true → known_deed v p ≢ 0) (λ k h. absurd (false≢true h))
+    (λ t l legal before. own_known f (part t.actor l) t.made p legal.0.allowed
+    (agrees_next f l t.actor (part t.actor l) t.made.step t.made.answer valid legal.1 refl legal.0.of_region legal.0.answer_is) before (has_right (part t.actor l) p) refl)
+    (λ t l k legal other before. before) l legal k
+
+-- An actor that has no right of a page that it knows to be of the directory had none at entry of a page that turns out to be so.
+pub entry_lacks : (f : Profile) (k : ℕ) (l : Whole) (d : Directory) (p : ℕ) (xs : List Made) → IsValid f → Legal f l → (KnowsDeed p d (part k l) → has_right (part k l) p ≡ false) → word_after (triples k xs ++ l) (Word.Deed p) ≡ deed_word_of d → has_right (part k l) p ≡ false
+entry_lacks f k l d p xs valid legal may deed = elim (cases_Bool (has_right (part k l) p)) [
+  | inl has ↦
+      let known : known_deed (part k l) p ≢ 0 = right_known f l valid legal k p has in
+      let is : known_deed (part k l) p ≡ word_after l (Word.Deed p) = known_is (known_deed (part k l) p) (word_after l (Word.Deed p)) ((spotted f l legal p).known k) known in
+      let there : word_after (triples k xs ++ l) (Word.Deed p) ≡ word_after l (Word.Deed p) = deed_later k l p xs (λ z. known (is ∙ z)) in
+      absurd (true≢false (sym has ∙ may (is ∙ sym there ∙ deed)))
+  | inr none ↦ none
+]
+
+pub legal_before : (f : Profile) (k : ℕ) (xs : List Made) (l : Whole) → Legal f (triples k xs ++ l) → Legal f l
+legal_before f k [] l legal = legal
+legal_before f k (x ∷ xs) l legal = legal_before f k xs l legal.1
+
+-- with the earlier ones of its steps alone
+pub legal_earlier : (f : Profile) (k : ℕ) (ys xs : List Made) (l : Whole) → Legal f (triples k (ys ++ xs) ++ l) → Legal f (triples k xs ++ l)
+legal_earlier f k ys xs l legal = legal_before f k ys (triples k xs ++ l) (subst (Legal f) (sym (triples_append k ys xs l)) legal)
+
+-- the deed of a page that is offered to a directory
+pub offered_deed : (f : Profile) (l : Whole) (d : Directory) (p : ℕ) → IsDirectoryOf f d → Legal f l → eligible_bit l (number_of d) p ≡ true → word_after l (Word.Deed p) ≡ deed_word_of d
+offered_deed f l d p of legal bit = offered_has_deed f l legal (number_of d) p bit ∙ numbered d of.kind
+
+pub offered_lacks : (f : Profile) (k : ℕ) (l : Whole) (n p : ℕ) → Legal f l → eligible_bit l n p ≡ true → has_right (part k l) p ≡ false
+offered_lacks f k l n p legal bit = let at : IsSpotted l p = spotted f l legal p in at.has k ∙ ap (is_with k) (offered_spot l n p at bit)
+
+-- ---- a page whose right the call once had is in nobody's hands but the actor's
+had_then : (f : Profile) (k : ℕ) (l : Whole) (p j : ℕ) (xs : List Made) → Legal f (triples k xs ++ l) → k ≢ j → Once (KeptHere p) xs → has_right (part j l) p ≡ true → ⊥
+had_then f k l p j [] legal ne h there = h
+had_then f k l p j (m ∷ xs) legal ne (inr h) there = had_then f k l p j xs legal.1 ne h there
+had_then f k l p j (m ∷ xs) legal ne (inl h) there =
+    let w : Whole = triples k xs ++ l in
+    ne (one_has_right f w legal.1 k j p
+    (ap (λ v. has_right v p) (part_of_own k xs l) ∙ right_of_own p xs (part k l) h)
+    (ap (λ v. has_right v p) (part_of_others j k xs l ne) ∙ there))
+
+-- the page has a deed, and is neither offered nor parked, so some actor has its right
+pub in_hands : (o : Spot) (word : ℕ) → DeedFits o word → word ≢ 0 → is_on_offer o ≡ false → is_parked o ≡ false → (j : ℕ) × (o ≡ With j)
+in_hands Nowhere word fits some offer parked = absurd (some fits)
+in_hands (With j) word fits some offer parked = (j, refl)
+in_hands (Offered n) word fits some offer parked = absurd (true≢false offer)
+in_hands InParked word fits some offer parked = absurd (true≢false parked)
+
+pub not_in_hands : (f : Profile) (k : ℕ) (l : Whole) (d : Directory) (p : ℕ) (xs : List Made) → IsDirectoryOf f d → Legal f (triples k xs ++ l) → has_right (xs ++ part k l) p ≡ false → Once (KeptHere p) xs
+    → word_after (triples k xs ++ l) (Word.Deed p) ≡ deed_word_of d → eligible_bit (triples k xs ++ l) (number_of d) p ≡ false → parked_bit (triples k xs ++ l) p ≡ false → ⊥
+not_in_hands f k l d p xs of legal lacks once deed not_offered not_parked =
+    let w : Whole = triples k xs ++ l in
+    let at : IsSpotted w p = spotted f w legal p in
+    let some : word_after w (Word.Deed p) ≢ 0 = λ z. deed_word_of-positive d (sym deed ∙ z) in
+    let with : (j : ℕ) × (spot_of w p ≡ With j) = in_hands (spot_of w p) (word_after w (Word.Deed p)) at.deed some
+    (sym (own_eligible f w legal p d of deed) ∙ not_offered) (sym at.parked ∙ not_parked) in
+    let j : ℕ = with.0 in
+    let has : has_right (part j w) p ≡ true = at.has j ∙ ap (is_with j) with.1 ∙ is_with_own j in
+    elim (cases_eq k j) [
+      | inl same ↦ true≢false (sym (ap (λ x. has_right (part x w) p) same ∙ has) ∙ ap (λ v. has_right v p) (part_of_own k xs l) ∙ lacks)
+      | inr ne ↦ had_then f k l p j xs legal ne once (sym (ap (λ v. has_right v p) (part_of_others j k xs l ne)) ∙ has)
+    ]
+
+-- ==== One actor alone goes on with one search, after a list at whose end all are at rest.
+
+-- a page that was got and left isn't one whose right the call never had
+unfit_lacks : (no_fit : Readings → Type 0) (p : ℕ) (xs : List Made) → Once (UnfitHere no_fit p) xs → Always (LacksAfter p) xs → ⊥
+unfit_lacks no_fit p [] h lacks = h
+unfit_lacks no_fit p (m ∷ more) (inl u) lacks = true≢false (sym u.kept ∙ lacks_now p more lacks.1)
+unfit_lacks no_fit p (m ∷ more) (inr h) lacks = unfit_lacks no_fit p more h lacks.1
+
+-- a deed that was made was on a page without one
+deed_made : (f : Profile) (k : ℕ) (l : Whole) (d : Directory) (p : ℕ) (xs : List Made) → Legal f (triples k xs ++ l) → Once (λ m before. (m.step ≡ Deed p d) × (m.answer ≡ 0)) xs → word_after l (Word.Deed p) ≡ 0
+deed_made f k l d p [] legal h = absurd h
+deed_made f k l d p (m ∷ xs) legal (inl z) = deed_none k l p xs (sym (legal.0.answer_is ∙ ap (λ s. word_after (triples k xs ++ l) (target s)) z.0) ∙ z.1)
+deed_made f k l d p (m ∷ xs) legal (inr h) = deed_made f k l d p xs legal.1 h
+
+module _ (no_fit : Readings → Type 0) (f : Profile) (d : Directory) (k : ℕ) (l : Whole) (xs : List Made) (valid : IsValid f) (of : IsDirectoryOf f d) (fewer : IsAntitone no_fit)
+    (rest : AllRest f l) (legal : Legal f (triples k xs ++ l)) (lends : LendsNone xs) where
+  abbrev w : Whole
+  w = triples k xs ++ l
+
+  first : Legal f l
+  first = legal_before f k xs l legal
+
+  -- ---- a page that serves could before the search
+  offered_fits : (page : ℕ) → ShowsOffered no_fit f d (part k l) page xs → IsOfferedFit no_fit f d l page
+  offered_fits page shows =
+      let read = one_told f k l d page xs legal shows.offered in record {
+        of_region = shows.of_region;
+        offered = (spotted f l first page).eligible (number_of d) ∙ ap (is_offered (number_of d)) (sym (spot_same f k l page read.0 read.1 (rest.rights page k) read.2))
+            ∙ sym ((spotted f (triples k read.0 ++ l) read.1 page).eligible (number_of d)) ∙ read.3;
+        fits = fit_entry no_fit f k l page shows.readings xs fewer valid legal lends shows.fits shows.read shows.none_held;
+      }
+
+  bare_page : (page : ℕ) → ShowsBare f d page xs → IsBarePage f l page
+  bare_page page shows = record { of_region = shows.of_region; no_deed = deed_made f k l d page xs legal shows.made }
+
+  -- ---- where none serves, none could
+  none_serves : ShowsNone no_fit f d xs → HasNoFit no_fit f d l
+  none_serves shows = record {
+    offered = λ page fit. let high = fit.of_region.1 in elim (shows.searched page fit.of_region.0 (omega (arith, high))) [
+      | inl u ↦ fit.fits (unfit_entry no_fit f k l page xs fewer legal lends u)
+      | inr z ↦ true≢false (sym fit.offered ∙ (spotted f l first page).eligible (number_of d) ∙ zero_told f k l d page xs legal (rest.rights page k) z.0 z.1)
+    ];
+    bare = λ page bare. let high = bare.of_region.1 in deed_exit f k l page xs legal (shows.deeds page bare.of_region.0 (omega (arith, high))) (deed_quiet f k l page xs legal shows.quiet ∙ bare.no_deed);
+  }
+
+  -- ---- no page is in another's hands
+  nobody_holds : (page : ℕ) → ShowsNone no_fit f d xs → ShowsHeld f d (part k l) page xs → ⊥
+  nobody_holds page none shows =
+      let high = shows.of_region.1 in
+      let lacks : has_right (part k l) page ≡ false = rest.rights page k in
+      let same = spot_same f k l page xs legal lacks shows.lacked in
+      let at = spotted f w legal page in
+      let known : known_deed (part k w) page ≡ deed_word_of d = ap (λ v. known_deed v page) (part_of_own k xs l) ∙ shows.of_directory in
+      let deed : word_after w (Word.Deed page) ≡ deed_word_of d = sym (known_is (known_deed (part k w) page) (word_after w (Word.Deed page)) (at.known k) (λ z. deed_word_of-positive d (sym known ∙ z))) ∙ known in
+      let not_offered : is_offered (number_of d) (spot_of l page) ≡ false = elim (none.searched page shows.of_region.0 (omega (arith, high))) [
+        | inl u ↦ absurd (unfit_lacks no_fit page xs u shows.lacked)
+        | inr z ↦ zero_told f k l d page xs legal lacks z.0 z.1
+      ] in
+      let not_parked : is_parked (spot_of l page) ≡ false = parked_told f k l page false xs legal lacks shows.lacked (once_map (HeldHere d page) (ParkedHere false page) xs (λ m before h. h.0) shows.held) in
+      let with = in_hands (spot_of w page) (word_after w (Word.Deed page)) at.deed (λ z. deed_word_of-positive d (sym deed ∙ z))
+      (sym (own_eligible f w legal page d of deed) ∙ at.eligible (number_of d) ∙ ap (is_offered (number_of d)) same ∙ not_offered) (ap is_parked same ∙ not_parked) in
+      true≢false (sym ((spotted f l first page).has with.0 ∙ ap (is_with with.0) (sym same ∙ with.1) ∙ is_with_own with.0) ∙ rest.rights page with.0)
+
+  plain : (answer : Result ℕ NoRoom) → ShowsAnswer no_fit f d (part k l) xs answer → IsPlainAnswer no_fit f d l answer
+  plain (Ok page) (inl shows) = record { not_held = λ p bad. absurd cc; none_fits = λ bad. absurd cc; no_space = λ none. absurd (none.offered page (offered_fits page shows)) }
+  plain (Ok page) (inr shows) = record { not_held = λ p bad. absurd cc; none_fits = λ bad. absurd cc; no_space = λ none. absurd (none.bare page (bare_page page shows)) }
+  plain (Err NoSpace) shows = record { not_held = λ p bad. absurd cc; none_fits = λ is. none_serves shows; no_space = λ none. refl }
+  plain (Err (NoRoom.Held page)) shows = absurd (nobody_holds page shows.0 shows.1)
+
+-- after rest a search alone finds what there is
+pub plain_answer : (no_fit : Readings → Type 0) (f : Profile) (d : Directory) (k : ℕ) (l : Whole) (xs : List Made) (answer : Result ℕ NoRoom) → IsValid f → IsDirectoryOf f d → IsAntitone no_fit → AllRest f l
+    → SearchesAlone no_fit f d k l xs answer → IsPlainAnswer no_fit f d l answer
+plain_answer no_fit f d k l xs answer valid of fewer rest search = plain no_fit f d k l xs valid of fewer rest search.legal search.lends_none answer search.shows
