@@ -3,7 +3,7 @@ use Rattle.std.proofs.Common.{◌≡◌, ℕ, ◌+◌, ◌*◌, ◌/◌, ◌%◌
 use Rattle.std.proofs.lemmas.Bool.{eq-eqb, eqb-true}
 use Rattle.std.proofs.Math.Nat.{add-mul-mod_self_right, mul-mod_left, mod-add-div', mul_assoc}
 use Rattle.pas_profile.specs.Classes.{IsAlignment}
-use Rattle.pas_profile.proofs.Tables.{passes_below, passes_at}
+use Rattle.pas_profile.proofs.Sizes.{passes_below, passes_at}
 
 -- an alignment is a multiple of 16
 abbrev is_sixteens : ℕ → Bool

@@ -11,7 +11,7 @@ use Rattle.pas_rights.specs.Puts.{masked}
 use Rattle.pas_rights.specs.PutsBack.{taking_grains}
 use Rattle.pas_rights.specs.Takes.{HasRight, taken, takes, TakesMask}
 use Rattle.pas_rights.specs.Words.{words}
-use Rattle.pas_rights.proofs.Hints.{hints_none}
+use Rattle.pas_rights.proofs.Hints.{due_none}
 use Rattle.pas_rights.proofs.Looks.{looks_only, looks_on, looks_held, looks_free, looks_know, looks_read}
 use Rattle.pas_rights.proofs.Takes.{MayTakeAll, takes_only, takes_on, takes_keep, takes_few, takes_known}
 use Rattle.pas_rights.proofs.Words.{bit_of, bit_on, keeps_by, since_kept}
@@ -81,7 +81,7 @@ module _ {Found : Type 0} (choice : Choice Found) (page : ℕ) (d : Directory) {
     keeps = keeps_by page (LookFree ∷ []) looked refl looked_only;
     read = looked_read;
     held = unheld;
-    hints = hints_none (LookFree ∷ []) looked refl looked_only;
+    due = due_none (LookFree ∷ []) looked refl looked_only;
     marks = λ some. keeps_marks (LookFree ∷ []) page looked refl looked_only;
   }
 
@@ -127,7 +127,7 @@ module _ {Found : Type 0} (choice : Choice Found) (page : ℕ) (d : Directory) {
         read = λ before got word lt. subst (Since (ShowsHere page word (is_set free)) (KeptHere page)) (sym (append_assoc ts looked before))
             (since_kept (ShowsHere page word (is_set free)) page ts (looked ++ before) (takes_keep page (words grains) (words took.answers) 4) (rights_same (LookFree ∷ []) refl page looked before looked_only ∙ got.right) (looked_read before got word lt));
         held = record { from = λ v met agreed. unheld.from v met (agreed_later σ.seat.profile v ts looked agreed) };
-        hints = hints_none looking_and_taking (ts ++ looked) refl all_only;
+        due = due_none looking_and_taking (ts ++ looked) refl all_only;
         marks = λ some. keeps_marks looking_and_taking page (ts ++ looked) refl all_only;
       }
 

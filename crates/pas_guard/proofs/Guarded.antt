@@ -15,14 +15,14 @@ use Rattle.pas_steps.specs.Views.{View, Stays, Gives, held_after, grain_move, ho
 use Rattle.pas_steps.specs.declared.step.Made.{Made}
 use Rattle.pas_steps.specs.declared.step.Step.{Step}
 use Rattle.pas_steps.specs.declared.step.Step.TheVariants.{Look, Back, Give, Unback}
-use Rattle.pas_core.proofs.DeedWords.{deed_kept, looked, known_is}
+use Rattle.pas_core.proofs.Deeds.{deed_kept, looked, known_is}
 use Rattle.pas_core.proofs.Grains.{one_holder}
 use Rattle.pas_large.specs.Claims.{StaysPut}
 use Rattle.pas_guard.specs.Raises.{BacksNot}
 use Rattle.pas_guard.specs.Evidence.{BackedReadHere}
 use Rattle.pas_guard.specs.Seeks.{LeftSince}
 use Rattle.pas_steps.specs.Past.{Since}
-use Rattle.pas_core.proofs.Knowledge.{deeds_known}
+use Rattle.pas_core.proofs.Rights.{deeds_known}
 use Rattle.pas_guard.specs.Guarded.{StandsGuard, LeavesGuard, KeepsGuard, GivesOn, IsUntouched, AreUntouched}
 
 -- only a back makes a page that isn't backed a backed one

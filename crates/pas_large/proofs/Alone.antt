@@ -20,9 +20,8 @@ use Rattle.pas_steps.proofs.Parts.{part_of_own, part_of_others}
 use Rattle.pas_steps.proofs.Past.{once_later}
 use Rattle.pas_core.specs.Rights.{AllRest}
 use Rattle.pas_core.proofs.Nexts.{agreed_steps}
-use Rattle.pas_core.proofs.OneActorRights.{legal_earlier, in_hands, is_with_own}
-use Rattle.pas_core.proofs.Rights.{own_eligible}
-use Rattle.pas_core.proofs.Spots.{spot_of, is_with, spotted}
+use Rattle.pas_core.proofs.OneActor.{legal_earlier, in_hands, is_with_own}
+use Rattle.pas_core.proofs.Rights.{own_eligible, spot_of, is_with, spotted}
 use Rattle.pas_scan.specs.Runs.{large_directory}
 use Rattle.pas_scan.specs.Usable.{DeedReadHere}
 use Rattle.pas_search.specs.Telling.{IsInHands, IsTrueReason}

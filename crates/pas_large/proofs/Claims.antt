@@ -1,15 +1,15 @@
 -- The claim of the pages of a run, one page more, and how they are left.
 use Rattle.pas_steps.specs.Clear.{IsClear}
 use Rattle.pas_steps.proofs.SpareRoom.{Spares, spare_falls}
-use Rattle.std.proofs.Common.{◌≡◌, ◌≢◌, ℕ, ◌+◌, ◌/◌, ◌-◌, ◌<◌, ◌≤◌, ◌==◌, ◌*◌, min, nat_le, nat_lt, Bool, true, false, ◌||◌, if◌then◌else◌, List, [], ◌++◌, inl, inr, refl, ap, sym, ◌∙◌, arith, true≢false, length, subst, append_assoc, length-append, Some, None}
+use Rattle.std.proofs.Common.{◌≡◌, ◌≢◌, ℕ, ◌+◌, ◌/◌, ◌-◌, ◌<◌, ◌≤◌, ◌==◌, ◌*◌, min, nat_le, nat_lt, Bool, true, false, ◌||◌, if◌then◌else◌, List, [], ◌∷◌, ◌++◌, inl, inr, refl, ap, sym, ◌∙◌, arith, true≢false, length, subst, append_assoc, length-append, Some, None}
 use Rattle.std.proofs.lemmas.Bool.{and_parts, cases_Bool, cases_eq, eqb-true}
 use Rattle.std.proofs.lemmas.Bool.Decides.{nat_tests}
 use Rattle.pas_profile.specs.declared.directory.Directory.{Directory}
 use Rattle.pas_steps.specs.Calls.{Kept, Gained, Lost, now, nothing, Does, Calls, Leads}
 use Rattle.pas_steps.specs.Frames.{IsOnPage, OnlyOn}
-use Rattle.pas_steps.specs.Past.{Once, Since}
+use Rattle.pas_steps.specs.Past.{Once, Always, Since}
 use Rattle.pas_steps.specs.Evidence.{KeptHere, GetsHere}
-use Rattle.pas_steps.specs.Views.{View, Stays, grain_move, holds, has_right, KnowsDeed}
+use Rattle.pas_steps.specs.Views.{View, Stays, grain_move, held_after, holds, has_right, KnowsDeed}
 use Rattle.pas_steps.specs.declared.step.Step.{Step}
 use Rattle.pas_steps.specs.declared.step.Made.{Made}
 use Rattle.pas_steps.specs.declared.step.Step.TheVariants.{Deed, Park}
@@ -20,14 +20,13 @@ use Rattle.pas_steps.proofs.Sets.{both_fates}
 use Rattle.pas_scan.specs.Usable.{ParksNotHere, MakesNoDeedHere, LeftAlone}
 use Rattle.pas_large.specs.Pages.{of_pages, GotPages, MayClaim, DeedsOn, OnlyDeedsShow, claiming, claiming_old, LosesPage, BreaksPage, WinsPage, ClaimsPage}
 use Rattle.pas_large.specs.Claims.{in_span, MayClaimPages, HasRunRoom, AloneFrom, DeedsIn, HoldsSpan, FailsAt, ClaimsPages, HasPages, Releases, ClaimsRun, LacksAll, StaysPut}
-use Rattle.pas_search.specs.Kinds.{IsReturnOf}
+use Rattle.pas_search.specs.Kinds.{IsReturnOf, ReturnsDuly}
 use Rattle.pas_search.proofs.Returns.{duly_both, duly_in, return_page}
-use Rattle.pas_rights.proofs.Hints.{hints_both, put_and_leave_hints}
+use Rattle.pas_rights.proofs.Hints.{put_and_leave_due}
 use Rattle.pas_large.proofs.Pages.{DeedsFrom, from_on, from_none, rise_none, rise_both, MadeHere, since_more, undone, no_deeds, knew_before, shows_both, shows_taking, after_more}
-use Rattle.pas_profile.specs.Profiles.{IsPage}
 use Rattle.pas_profile.specs.declared.profile.Profile.{Profile}
 use Rattle.pas_rights.specs.Puts.{masked}
-use Rattle.pas_rights.specs.PutsBack.{giving_back, taking_grains, MayPutAndLeave, PutsAndLeaves}
+use Rattle.pas_rights.specs.PutsBack.{giving_back, taking_grains, GivesDuly, MayPutAndLeave, PutsAndLeaves}
 use Rattle.pas_rights.specs.Words.{full}
 use Rattle.pas_rights.proofs.Looks.{on_full}
 use Rattle.pas_steps.specs.Agreement.{Agreed}
@@ -37,7 +36,7 @@ use Rattle.pas_steps.specs.Unknown.{unknown_pages}
 use Rattle.pas_steps.proofs.Adding.{adds_none, adds_call, can_call, agreed_first, agreed_later, adds_under}
 use Rattle.pas_steps.proofs.Apart.{only_both, only_within}
 use Rattle.pas_steps.proofs.Called.{call_none, call_then, next_call, call_as}
-use Rattle.pas_scan.proofs.LeftPages.{usable_later}
+use Rattle.pas_scan.proofs.LeftPages.{usable_later, holds_own}
 use Rattle.pas_large.specs.Evidence.{LostHere, BrokenHere, TakenWholeHere, DeedsBelow}
 use Rattle.pas_large.specs.declared.claiming.Claimed.{Claimed}
 
@@ -105,6 +104,10 @@ steady_on q g ys on ne = always_map (λ m before. IsOnPage q m.step) (StaysHere 
 pub steady_both : (g : ℕ) (ys xs : List Made) → StaysPut g ys → StaysPut g xs → StaysPut g (ys ++ xs)
 steady_both g ys xs = always_both (StaysHere g) (StaysHere g) ys xs (λ m before h. h)
 
+steady_holds : (g : ℕ) (ys xs : List Made) → StaysPut g ys → holds (ys ++ xs) g ≡ holds xs g
+steady_holds g [] xs h = refl
+steady_holds g (y ∷ ys) xs h = ap (λ t. held_after t (holds (ys ++ xs) g)) h.0 ∙ steady_holds g ys xs h.1
+
 pub out_of : (first end p q : ℕ) → in_span first end p ≡ false → first ≤ q → q < end → p ≢ q
 out_of first end p q out low high e = true≢false (sym (ap (in_span first end) e ∙ span_in first end q low high) ∙ out)
 
@@ -129,11 +132,14 @@ alone_on q p ys xs on ne alone = record {
 }
 
 -- ---- the claim of the pages of a run, one page more
-pub run_page : (f : Profile) (first end page : ℕ) → 1 ≤ first → end ≤ f.pages + 1 → first ≤ page → page < end → IsPage f page
-run_page f first end page some region low high = (omega (arith, some, low), omega (arith, region, high))
-
 pub claims_fewer : (d : Directory) (first stop end : ℕ) → stop ≤ end → (v : View) → MayClaimPages d first end v → MayClaimPages d first stop v
 claims_fewer d first stop end le v met = record { lacks = λ p low high. met.lacks p low (omega (arith, high, le)); clear = met.clear }
+
+claims_one : (d : Directory) (first end page : ℕ) → first ≤ page → page < end → (v : View) → MayClaimPages d first end v → MayClaim d page v
+claims_one d first end page low high v met = record { lacks = met.lacks page low high; clear = met.clear }
+
+pub can_claim_one : {σ : Standing} {page : ℕ} (d : Directory) (first end : ℕ) → first ≤ page → page < end → CanCall σ (MayClaimPages d first end) → CanCall σ (MayClaim d page)
+can_claim_one {page = page} d first end low high can = record { view = can.view; whole = can.whole; stood = can.stood; met = claims_one d first end page low high can.view can.met }
 
 abbrev pub may_claim : {σ : Standing} {f : Profile} {d : Directory} {first end n spare : ℕ} (stop : ℕ) → stop ≤ end → CanCall σ (HasRunRoom f d first end n spare) → CanCall σ (MayClaimPages d first stop)
 may_claim {d = d} {first = first} {end = end} stop le can = record { view = can.view; whole = can.whole; stood = can.stood; met = claims_fewer d first stop end le can.view can.met.may }
@@ -202,15 +208,19 @@ module _ {σ σ1 : Standing} (deeds : Bool) (d : Directory) (first end page : �
   so_got : (v : View) → MayClaimPages d first end v → Agreed σ.seat.profile v xs → GotPages (in_span first page) d v (xs ++ v)
   so_got v met agreed = so_far.got.from v (claims_fewer d first page end (omega (arith, high)) v met) agreed
 
-  page_may : (v : View) → MayClaimPages d first end v → Agreed σ.seat.profile v xs → MayClaim d page (xs ++ v)
-  page_may v met agreed = let got = so_got v met agreed in record {
-    lacks = λ knows.
-        got.does.right page ∙ ap (λ t. now (if t then Gained else Kept) (has_right v page)) (span_past first page page (omega arith)) ∙ met.lacks page so_far.span.0 high (knew_before σ.seat.profile d page xs v agreed knows);
+  -- those from this one on may be claimed still
+  rest_may : (v : View) → MayClaimPages d first end v → Agreed σ.seat.profile v xs → MayClaimPages d page end (xs ++ v)
+  rest_may v met agreed = let got = so_got v met agreed in record {
+    lacks = λ p ge lt knows.
+        got.does.right p ∙ ap (λ t. now (if t then Gained else Kept) (has_right v p)) (span_past first page p ge) ∙ met.lacks p (let low = so_far.span.0 in omega (arith, low, ge)) lt (knew_before σ.seat.profile d p xs v agreed knows);
     clear = record { on = λ q. got.does.clear q (met.clear.on q) };
   }
 
-  pub page_call : CanCall σ (MayClaimPages d first end) → CanCall σ1 (MayClaim d page)
-  page_call can = can_call so_adds can (λ v l stood met. page_may v met (so_adds.agreed v l stood met))
+  page_may : (v : View) → MayClaimPages d first end v → Agreed σ.seat.profile v xs → MayClaim d page (xs ++ v)
+  page_may v met agreed = claims_one d page end page (omega arith) high (xs ++ v) (rest_may v met agreed)
+
+  pub rest_call : CanCall σ (MayClaimPages d first end) → CanCall σ1 (MayClaimPages d page end)
+  rest_call can = can_call so_adds can (λ v l stood met. rest_may v met (so_adds.agreed v l stood met))
 
   module _ {σ2 : Standing} {claimed : Claimed} (h : ClaimsPage deeds d page σ1 σ2 claimed) where
     abbrev ys : List Made
@@ -341,7 +351,7 @@ left_none d first = record {
   calls = call_none (λ v met. does_as (of_pages (in_span first first) Lost) (does_none v) (λ g. inl (ap (λ t. if t then Lost else Kept) (sym (span_none first (g / 256))))) (λ q. ap (λ t. if t then Lost else Kept) (sym (span_none first q))) (λ q h. h));
   kinds = tt;
   within = tt;
-  hints = tt;
+  due = λ before held all. all;
   few = omega arith;
   lacks = λ before p none. none (span_none first p);
   alone = λ before p ge alone. alone;
@@ -382,7 +392,10 @@ left_more d first page low so_far h =
       kinds = only_both giving_back ys so_far.steps h.kinds so_far.kinds;
       within = always_both (λ m before. IsOnPage page m.step) (ReturnsHere (in_span first (page + 1))) ys so_far.steps (λ m before on p is. ap (in_span first (page + 1)) (return_page page p m.step is on) ∙ span_in first (page + 1) page low (omega arith)) h.on
           (always_map (ReturnsHere (in_span first page)) (ReturnsHere (in_span first (page + 1))) so_far.steps (λ m before h p is. span_wider first page (page + 1) p (omega arith) (h p is)) so_far.within);
-      hints = hints_both ys so_far.steps (put_and_leave_hints page d full h) so_far.hints;
+      due = λ before held all. subst (Always GivesDuly) (sym (append_assoc ys so_far.steps before)) (put_and_leave_due page d full (so_far.steps ++ before)
+          (λ g is. let at : page ≡ g / 256 = eqb-true page (g / 256) (sym (on_full page g) ∙ is) in
+          steady_holds g so_far.steps before (so_far.steady g (span_past first page (g / 256) (omega (arith, at)))) ∙ held g (span_in first (page + 1) (g / 256) (omega (arith, at, low)) (omega (arith, at))))
+          (so_far.due before (λ g is. held g (span_wider first page (page + 1) (g / 256) (omega arith) is)) all) h);
       few = let n = length-append ys so_far.steps in let a = h.few in let b = so_far.few in omega (arith, n, a, b, low);
       lacks = λ before p none. ap (λ s. has_right s p) (append_assoc ys so_far.steps before) ∙ elim (cases_eq p page) [
         | inl e ↦ ap (has_right (ys ++ (so_far.steps ++ before))) e ∙ h.lacks (so_far.steps ++ before)
@@ -422,8 +435,13 @@ module _ {σ σ1 : Standing} (deeds : Bool) (d : Directory) (first end stop : �
   pub release_call : CanCall σ (MayClaimPages d first end) → CanCall σ1 (HasPages d first stop)
   release_call can = next_call got_call can may_release
 
-  pub run_failed : {σ2 : Standing} → Releases d first stop σ1 σ2 → ClaimsRun deeds d first end σ σ2 (Some stop)
-  run_failed r =
+  -- what was got is held by these steps alone
+  own_held : CanCall σ (MayClaimPages d first end) → (g : ℕ) → in_span first stop (g / 256) ≡ true → holds h.steps g ≡ true
+  own_held can g is = let got = h.got.from can.view can.met (h.adds.agreed can.view can.whole can.stood can.met) in
+      sym (holds_own g h.steps can.view (got.apart g is)) ∙ got.does.held g ∙ ap (λ t. now (if t then Gained else Kept) (holds can.view g)) is
+
+  pub run_failed : {σ2 : Standing} → CanCall σ (MayClaimPages d first end) → Releases d first stop σ1 σ2 → ClaimsRun deeds d first end σ σ2 (Some stop)
+  run_failed can r =
       let calls = call_then (Does nothing) got_call r.calls may_release
       (λ v met got lost. undone (λ g. in_span first stop (g / 256)) (in_span first stop) got.apart got.lacked got.does lost) in
       let made_below : DeedsIn d first (stop + 1) (r.steps ++ h.steps) = deeds_join d first (min (stop + 1) end) (stop + 1) stop r.steps h.steps h.span.0 (omega arith) (omega arith) (no_deeds giving_back d stop r.steps refl r.kinds) h.made in
@@ -432,7 +450,7 @@ module _ {σ σ1 : Standing} (deeds : Bool) (d : Directory) (first end stop : �
         adds = calls.adds;
         kinds = only_both claiming r.steps h.steps (only_within giving_back claiming r.steps refl r.kinds) h.kinds;
         old = λ none. only_both claiming_old r.steps h.steps (only_within giving_back claiming_old r.steps refl r.kinds) (h.old none);
-        returns = duly_in (in_span first stop) r.steps h.steps r.within r.hints (λ p is. let at = in_parts first stop p is in h.gets p at.0 at.1) h.returns;
+        returns = duly_in (in_span first stop) r.steps h.steps r.within (r.due h.steps (own_held can) (always_map ReturnsDuly GivesDuly h.steps (λ m before is. is.1) h.returns)) (λ p is. let at = in_parts first stop p is in h.gets p at.0 at.1) h.returns;
         made = deeds_wider d first (stop + 1) end (r.steps ++ h.steps) (let lt = before_end in omega (arith, lt)) made_below;
         rise = rise_both (stop + 1) r.steps h.steps (rise_none giving_back r.steps refl r.kinds) h.rise (from_none giving_back (stop + 1) r.steps refl r.kinds) (deeds_below d first (min (stop + 1) end) (stop + 1) h.steps (omega arith) h.made);
         shows = shows_both σ.seat.profile r.steps h.steps (shows_taking σ.seat.profile r.steps (only_within giving_back taking_grains r.steps refl r.kinds)) h.shows;

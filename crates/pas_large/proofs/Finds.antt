@@ -34,8 +34,7 @@ use Rattle.pas_profile.specs.Profiles.{IsValid}
 use Rattle.pas_steps.specs.Kinds.{looking}
 use Rattle.pas_steps.specs.Lists.{Whole, part, Legal}
 use Rattle.pas_core.proofs.Nexts.{agreed_steps}
-use Rattle.pas_core.proofs.OneActorGrains.{lends_none}
-use Rattle.pas_core.proofs.OneActorRights.{legal_earlier}
+use Rattle.pas_core.proofs.OneActor.{lends_none, legal_earlier}
 use Rattle.pas_large.specs.Telling.{IsUsableRun, IsLowestRun}
 use Rattle.pas_large.proofs.Told.{usable_told, has_unusable, fails_told}
 use Rattle.pas_large.specs.Finds.{MayFind, FindRoom, finding, Finds}

@@ -4,6 +4,7 @@ use Rattle.std.proofs.Common.{◌≡◌, ℕ, zero, suc, ◌+◌, ◌-◌, ◌*�
 use Rattle.std.proofs.lemmas.Bool.{cases_eq, eq-eqb, and_from}
 use Rattle.pas_profile.specs.Profiles.{IsPage, IsDirectoryOf}
 use Rattle.pas_profile.specs.declared.directory.Directory.{Directory}
+use Rattle.pas_profile.specs.declared.profile.Profile.{Profile}
 use Rattle.pas_profile.proofs.Codecs.{deed_word_of-positive}
 use Rattle.pas_rights.specs.Leaves.{MayLeave, Leaves}
 use Rattle.pas_steps.specs.Agreement.{Agrees}
@@ -16,8 +17,8 @@ use Rattle.pas_steps.specs.Views.{View, holds, holds_on, has_right, knows_backed
 use Rattle.pas_steps.specs.declared.step.Made.{Made}
 use Rattle.pas_steps.specs.declared.step.Step.TheVariants.{Back}
 use Rattle.pas_steps.proofs.Apart.{only_both, deeds_same}
-use Rattle.pas_steps.proofs.Backed.{any_from}
-use Rattle.pas_steps.proofs.Called.{call_none, call_step, call_then, next_step, next_call, call_as}
+use Rattle.pas_steps.proofs.Kept.{any_from}
+use Rattle.pas_steps.proofs.Called.{call_none, call_step, call_then, next_call, call_as}
 use Rattle.pas_steps.proofs.Calls.{does_as, does_then, does_none, does_idly, returns_are, does_after_nothing, kept_first}
 use Rattle.pas_steps.proofs.Sets.{both_fates, same_truth, kept_kept}
 use Rattle.pas_steps.proofs.Frames.{with_few}
@@ -58,6 +59,14 @@ backed_none d first = record {
   few = omega arith;
 }
 
+-- a page of a run that is held may be backed
+may_back_page : (f : Profile) (d : Directory) (first end page : ℕ) → first ≤ page → page < end → (v : View) → HasPages d first end v → Allowed f v (Back page)
+may_back_page f d first end page low high v met = let here = span_in first end page low high in
+    ((page * 256, omega arith, met.held (page * 256) (ap (in_span first end) (omega arith) ∙ here)), λ z. deed_word_of-positive d (sym (met.deeds page here) ∙ z))
+
+pub can_back : {σ : Standing} {page : ℕ} (d : Directory) (first end : ℕ) → first ≤ page → page < end → IsPage σ.seat.profile page → CanCall σ (HasPages d first end) → CanMake σ (Back page)
+can_back {σ} {page} d first end low high is can = record { of_region = is; view = can.view; whole = can.whole; stood = can.stood; allowed = may_back_page σ.seat.profile d first end page low high can.view can.met }
+
 module _ {σ σ1 : Standing} (d : Directory) (first end page : ℕ) (low : first ≤ page) (high : page < end) (so_far : BacksRun d first page σ σ1) where
   abbrev xs : List Made
   xs = so_far.steps
@@ -65,17 +74,23 @@ module _ {σ σ1 : Standing} (d : Directory) (first end page : ℕ) (low : first
   so_calls : Calls σ σ1 (HasPages d first end) (BackedRun first page) xs
   so_calls = pages_call d first page end (omega (arith, high)) so_far.calls
 
+  -- the run is held still
+  has_still : (v : View) → HasPages d first end v → BackedRun first page v (xs ++ v) → HasPages d first end (xs ++ v)
+  has_still v met old = record {
+    right = λ p is. old.does.right p ∙ met.right p is;
+    held = λ g is. old.does.held g ∙ met.held g is;
+    deeds = λ p is. deeds_same (Backing ∷ []) refl p xs v so_far.kinds ∙ met.deeds p is;
+    clear = record { on = λ q. old.does.clear q (met.clear.on q) };
+  }
+
+  pub can_back_next : CanCall σ (HasPages d first end) → CanCall σ1 (HasPages d first end)
+  can_back_next can = next_call so_calls can has_still
+
   held_here : (v : View) → HasPages d first end v → BackedRun first page v (xs ++ v) → (g : ℕ) → g / 256 ≡ page → holds (xs ++ v) g ≡ true
   held_here v met old g at = old.does.held g ∙ met.held g (ap (in_span first end) at ∙ span_in first end page low high)
 
   may_back : (v : View) → HasPages d first end v → BackedRun first page v (xs ++ v) → Allowed σ.seat.profile (xs ++ v) (Back page)
-  may_back v met old = (
-    (page * 256, omega arith, held_here v met old (page * 256) (omega arith)),
-    λ z. deed_word_of-positive d (sym (met.deeds page (span_in first end page low high)) ∙ sym (deeds_same (Backing ∷ []) refl page xs v so_far.kinds) ∙ z),
-  )
-
-  pub can_back : CanCall σ (HasPages d first end) → IsPage σ.seat.profile page → CanMake σ1 (Back page)
-  can_back can is = next_step so_calls can is may_back
+  may_back v met old = may_back_page σ.seat.profile d first end page low high (xs ++ v) (has_still v met old)
 
   now_backed : (a : ℕ) (v : View) → HasPages d first end v → BackedRun first page v (xs ++ v) → Agrees σ.seat.profile (xs ++ v) (Back page) a → BackedRun first (page + 1) v (made (Back page) a ∷ (xs ++ v))
   now_backed a v met old agrees =

@@ -6,12 +6,13 @@ use Rattle.pas_bits.specs.declared.mask.Mask4.{Mask4}
 use Rattle.pas_bits.proofs.Words.{at_word}
 use Rattle.pas_rights.specs.Leaves.{LosesHere}
 use Rattle.pas_rights.specs.Puts.{masked}
-use Rattle.pas_rights.specs.PutsBack.{giving_back, taking_grains, MayPutAndLeave, PutsAndLeaves}
+use Rattle.pas_rights.specs.PutsBack.{giving_back, taking_grains, GivesDuly, MayPutAndLeave, PutsAndLeaves}
 use Rattle.pas_rights.specs.Takes.{GetsGrains, TakesMask, takes}
 use Rattle.pas_rights.specs.Words.{words, full}
-use Rattle.pas_rights.proofs.Hints.{hints_both, hints_none, put_and_leave_hints}
+use Rattle.pas_rights.proofs.Hints.{due_none, put_and_leave_due}
+use Rattle.pas_rights.proofs.Puts.{puts_kinds}
 use Rattle.pas_rights.proofs.Looks.{full_set, full_word}
-use Rattle.pas_rights.proofs.Takes.{takes_only, takes_on, takes_keep, takes_few, takes_right, takes_read}
+use Rattle.pas_rights.proofs.Takes.{takes_only, takes_on, takes_keep, takes_few, takes_right, takes_got, takes_read}
 use Rattle.pas_rights.proofs.Words.{keeps_by}
 use Rattle.pas_steps.specs.Calls.{Calls, Kept, Lost, later, Does, ClearAfter, Gained, now, Fate, nothing}
 use Rattle.pas_steps.specs.Desks.{Standing, CanCall, AnyView, Makes, Adds, made}
@@ -55,7 +56,7 @@ use Rattle.pas_large.specs.declared.claiming.Claimed.{Claimed}
 use Rattle.pas_steps.proofs.Evidence.{deed_known}
 use Rattle.pas_steps.proofs.Sets.{got_lost}
 use Rattle.std.proofs.Math.Bool.{and-true}
-use Rattle.pas_core.proofs.DeedWords.{looked}
+use Rattle.pas_core.proofs.Deeds.{looked}
 
 -- ---- all grains of a page of a run: four takes, and where some grain wasn't free, what was got is put back and the page is left
 since_map : (P P' Q : Made → List Made → Type 0) (xs : List Made) → ((m : Made) (before : List Made) → P m before → P' m before) → Since P Q xs → Since P' Q xs
@@ -78,6 +79,9 @@ module _ (d : Directory) (page : ℕ) (got : Mask4) {σ σ1 : Standing} (taken :
 
   abbrev ts : List Made
   ts = takes page (words full) (words taken.answers) 4
+
+  ts_due : Always GivesDuly ts
+  ts_due = due_none (Taking ∷ []) ts refl (takes_only page (words full) answers 4)
 
   ts_read : (before : List Made) → GotBefore page before → (word : ℕ) → word < 4 → Since (ShowsHere page word (is_set taken.answers)) (KeptHere page) (ts ++ before)
   ts_read before met word lt = takes_read page (words full) answers (is_set taken.answers) (λ w b small. at_word taken.answers w b small) before met.right met.none 4 word lt lt (full_word word lt)
@@ -111,7 +115,7 @@ module _ (d : Directory) (page : ℕ) (got : Mask4) {σ σ1 : Standing} (taken :
       adds = take_call.adds;
       on = takes_on page (words full) answers 4;
       kinds = only_within (Taking ∷ []) taking_grains ts refl (takes_only page (words full) answers 4);
-      hints = hints_none (Taking ∷ []) ts refl (takes_only page (words full) answers 4);
+      due = ts_due;
       few = let few = takes_few page (words full) answers 4 in omega (arith, few);
       outcome = record {
         few = takes_few page (words full) answers 4;
@@ -146,7 +150,7 @@ module _ (d : Directory) (page : ℕ) (got : Mask4) {σ σ1 : Standing} (taken :
         (λ v met gets back. does_as (right_of page Lost) (does_then gets.0.does back) (λ g. again (masked page got g) (holds v g) (gets.0.apart g)) (λ q. kept_first (if page == q then Lost else Kept)) (λ q h. h))
 
     puts_keep : KeepsRight page back.puts
-    puts_keep = keeps_by page (Putting ∷ []) back.puts refl back.only_puts
+    puts_keep = keeps_by page (Putting ∷ []) back.puts refl (puts_kinds page got 4 back.puts back.put_order)
 
     broken : (before : List Made) → GotBefore page before → OnceAfter before (BrokenHere page) ((back.after ++ back.puts) ++ ts)
     broken before met =
@@ -169,7 +173,7 @@ module _ (d : Directory) (page : ℕ) (got : Mask4) {σ σ1 : Standing} (taken :
       adds = left_call.adds;
       on = always_both (λ m before. IsOnPage page m.step) (λ m before. IsOnPage page m.step) (back.after ++ back.puts) ts (λ m before h. h) back.on (takes_on page (words full) answers 4);
       kinds = only_both taking_grains (back.after ++ back.puts) ts (only_within giving_back taking_grains (back.after ++ back.puts) refl back.kinds) (only_within (Taking ∷ []) taking_grains ts refl (takes_only page (words full) answers 4));
-      hints = hints_both (back.after ++ back.puts) ts (put_and_leave_hints page d got back) (hints_none (Taking ∷ []) ts refl (takes_only page (words full) answers 4));
+      due = put_and_leave_due page d got ts (takes_got page full taken.answers got taken.got_is) ts_due back;
       few = let n = length-append (back.after ++ back.puts) ts in let a = back.few in let b = takes_few page (words full) answers 4 in omega (arith, n, a, b);
       outcome = record { leads = left_call.leads; lacks = λ before. ap (λ s. has_right s page) (append_assoc (back.after ++ back.puts) ts before) ∙ back.lacks (ts ++ before); broken = broken };
     }
@@ -418,7 +422,7 @@ module _ (deeds : Bool) (d : Directory) (page : ℕ) {σ σ1 : Standing} (get : 
       on = always_both (λ m before. IsOnPage page m.step) (λ m before. IsOnPage page m.step) takes.steps get.steps (λ m before h. h) takes.on get.on;
       kinds = only_both claiming takes.steps get.steps (only_within taking_grains claiming takes.steps refl takes.kinds) (only_within getting claiming get.steps refl get.kinds);
       old = λ none. only_both claiming_old takes.steps get.steps (only_within taking_grains claiming_old takes.steps refl takes.kinds) (only_within getting_old claiming_old get.steps refl (get.old none));
-      returns = duly_on page takes.steps get.steps takes.on takes.hints just_got (duly_none getting get.steps refl refl get.kinds);
+      returns = duly_on page takes.steps get.steps takes.on takes.due just_got (duly_none getting get.steps refl refl get.kinds);
       few = let n = length-append takes.steps get.steps in let a = takes.few in let b = get.few in omega (arith, n, a, b);
       rise = rise_both (page + 1) takes.steps get.steps (rise_none taking_grains takes.steps refl takes.kinds) get.rise (from_none taking_grains (page + 1) takes.steps refl takes.kinds) (below_on d page get.steps get.made);
       made = always_both (MadeHere d page) (MadeHere d page) takes.steps get.steps (λ m before h. h) (no_deeds taking_grains d page takes.steps refl takes.kinds) get.made;

@@ -13,11 +13,10 @@ use Rattle.pas_steps.specs.Frames.{OnlyScans, IsScan}
 use Rattle.pas_steps.specs.Desks.{made, Seat, Standing}
 use Rattle.pas_steps.specs.declared.step.Made.{Made}
 use Rattle.pas_steps.specs.declared.step.Step.{Step}
-use Rattle.pas_scan.proofs.Singles.{place_of}
 use Rattle.pas_steps.specs.declared.step.Step.TheVariants.{Look}
 use Rattle.pas_scan.specs.Marks.{is_marked}
 use Rattle.pas_steps.specs.Evidence.{ReadsEligible, ZeroHere, OneHere, ParkedHere, ParkedLater, LacksAfter, MissingHere, HeldHere}
-use Rattle.pas_scan.proofs.Reading.{scans_lack, right_scans}
+use Rattle.pas_scan.proofs.Reading.{scans_lack, right_scans, place_of}
 use Rattle.pas_large.specs.Refusals.{LastOffered, NotReadHere, IsAccounted, AllAccounted, IsReason, MarksOffered, Refuses}
 use Rattle.pas_steps.specs.Kinds.{kind_of, is_in}
 use Rattle.pas_profile.specs.declared.profile.Profile.{Profile}

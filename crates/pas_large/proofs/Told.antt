@@ -21,16 +21,14 @@ use Rattle.pas_steps.specs.declared.step.Step.TheVariants.{Look, Deed, TakeRight
 use Rattle.pas_steps.proofs.Frames.{right_own}
 use Rattle.pas_steps.proofs.Parts.{part_of_own}
 use Rattle.pas_core.specs.Rights.{eligible_bit, parked_bit, free_of_page}
-use Rattle.pas_core.proofs.DeedWords.{looked, known_is, number_told}
-use Rattle.pas_core.proofs.OneActorGrains.{LendsNone, unfit_entry, deed_none}
-use Rattle.pas_core.proofs.Spots.{Spot, Nowhere, With, Offered, InParked, is_with, is_offered, is_offered-true, spot_after, spot_of, DeedFits, spotted, no_deed}
-use Rattle.pas_core.proofs.Rights.{free_without_deed}
+use Rattle.pas_core.proofs.Deeds.{looked, known_is, number_told}
+use Rattle.pas_core.proofs.OneActor.{LendsNone, unfit_entry, deed_none, legal_before}
+use Rattle.pas_core.proofs.Rights.{Spot, Nowhere, With, Offered, InParked, is_with, is_offered, is_offered-true, spot_after, spot_of, DeedFits, spotted, no_deed, free_without_deed}
 use Rattle.pas_scan.specs.Usable.{OfHere, WholeHere, ReadUsable, UnusableHere, ParksNotHere, IsFresh, MakesNoDeedHere}
 use Rattle.pas_scan.specs.Runs.{IsInRun, HasUnusable}
 use Rattle.pas_scan.proofs.LeftPages.{holds_none_by}
 use Rattle.pas_large.specs.Evidence.{LostRightHere, LostDeedHere, NotAll, FailsHere}
 use Rattle.pas_large.specs.Telling.{IsWholePage, IsUsablePage, IsUsableRun}
-use Rattle.pas_core.proofs.OneActorRights.{legal_before}
 use Rattle.std.proofs.Math.Bool.{or-false}
 
 -- ---- looks change no word

@@ -20,8 +20,8 @@ use Rattle.pas_steps.specs.Evidence.{OneHere, LeftHere, ParkedLater, MissingHere
 use Rattle.pas_steps.specs.declared.step.Made.{Made}
 use Rattle.pas_steps.proofs.Parts.{part_of_own}
 use Rattle.pas_core.specs.Rights.{eligible_bit, parked_bit}
-use Rattle.pas_core.proofs.DeedWords.{known_is}
-use Rattle.pas_core.proofs.Spots.{spotted}
+use Rattle.pas_core.proofs.Deeds.{known_is}
+use Rattle.pas_core.proofs.Rights.{spotted}
 use Rattle.pas_scan.specs.Usable.{DeedReadHere, OfHere}
 use Rattle.pas_scan.proofs.LeftPages.{lacks_by}
 use Rattle.pas_search.specs.Telling.{IsInHands, IsTrueReason}

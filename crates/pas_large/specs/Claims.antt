@@ -2,8 +2,7 @@
 use Rattle.std.specs.Prelude.{ℕ, ◌+◌, ◌-◌, ◌*◌, ◌/◌, ◌<◌, ◌≤◌, ◌≡◌, ◌⊎◌, min, nat_le, nat_lt, Bool, true, false, ◌&&◌, List, ◌++◌, length, Option, MatchOption}
 use Rattle.pas_profile.specs.declared.directory.Directory.{Directory}
 use Rattle.pas_profile.specs.declared.profile.Profile.{Profile}
-use Rattle.pas_rights.specs.Looks.{HintsEmpty}
-use Rattle.pas_rights.specs.PutsBack.{giving_back}
+use Rattle.pas_rights.specs.PutsBack.{giving_back, GivesDuly}
 use Rattle.pas_steps.specs.Agreement.{Agreed}
 use Rattle.pas_steps.specs.Calls.{Calls, Leads, Lost, nothing, Does}
 use Rattle.pas_steps.specs.Clear.{IsClear}
@@ -89,13 +88,14 @@ pub record HasPages (d : Directory) (first end : ℕ) (v : View) : Type 0 where
   pub deeds : (p : ℕ) → in_span first end p ≡ true → KnowsDeed p d v
   pub clear : IsClear v
 
--- They are the actor's no longer, and no other page is offered, parked, taken back or hinted. At most 15 steps a page, and no event.
+-- They are the actor's no longer, and no other page is offered, parked, taken back or hinted. What is put is what the steps before held of them. At most 15
+-- steps a page, and no event.
 pub record Releases (d : Directory) (first end : ℕ) (desk desk' : Standing) : Type 0 where
   pub steps : List Made
   pub calls : Calls desk desk' (HasPages d first end) (Does (of_pages (in_span first end) Lost)) steps
   pub kinds : Only giving_back steps
   pub within : Always (λ m before. (p : ℕ) → IsReturnOf p m.step → in_span first end p ≡ true) steps
-  pub hints : Always HintsEmpty steps
+  pub due : (before : List Made) → ((g : ℕ) → in_span first end (g / 256) ≡ true → holds before g ≡ true) → Always GivesDuly before → Always GivesDuly (steps ++ before)
   pub few : length steps ≤ 15 * (end - first)
   pub lacks : (before : List Made) (p : ℕ) → (in_span first end p ≡ false → has_right before p ≡ false) → has_right (steps ++ before) p ≡ false
   pub alone : (before : List Made) (p : ℕ) → end ≤ p → LeftAlone p before → LeftAlone p (steps ++ before)

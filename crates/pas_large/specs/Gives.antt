@@ -6,7 +6,7 @@ use Rattle.pas_profile.specs.declared.name.Block.{Block}
 use Rattle.pas_steps.specs.Calls.{Calls, Effect, Kept, Lost, nothing, Does, Bears}
 use Rattle.pas_rights.specs.Gives.{give_steps}
 use Rattle.pas_rights.specs.Leaves.{LeaveSteps}
-use Rattle.pas_steps.specs.Desks.{Standing, made}
+use Rattle.pas_steps.specs.Desks.{Standing, Makes, made}
 use Rattle.pas_steps.specs.InTurn.{InTurn}
 use Rattle.pas_steps.specs.Kinds.{Backing, Only, returning}
 use Rattle.pas_steps.specs.Past.{Always}
@@ -30,6 +30,10 @@ abbrev pub BackStep : ℕ → List Made → Type 0
 BackStep page steps = (a : ℕ) × (steps ≡ made (Back page) a ∷ [])
 
 -- ---- of private functions: the pages are backed
+-- the one step is the back of this page
+abbrev pub BacksPage : ℕ → Standing → Standing → Type 0
+BacksPage page desk desk' = (a : ℕ) × Makes desk desk' (Back page) a
+
 -- nothing changed but that they are known as backed
 pub record BackedRun (first end : ℕ) (v w : View) : Type 0 where
   pub does : Does nothing v w

@@ -2,8 +2,7 @@
 use Rattle.std.specs.Prelude.{ℕ, ◌+◌, ◌/◌, ◌<◌, ◌≤◌, ◌≡◌, ◌==◌, ◌⊎◌, Bool, true, false, if◌then◌else◌, MatchBool, List, ◌++◌, ◌∷◌, [], length}
 use Rattle.pas_profile.specs.declared.directory.Directory.{Directory}
 use Rattle.pas_profile.specs.declared.profile.Profile.{Profile}
-use Rattle.pas_rights.specs.Looks.{HintsEmpty}
-use Rattle.pas_rights.specs.PutsBack.{taking_grains}
+use Rattle.pas_rights.specs.PutsBack.{taking_grains, GivesDuly}
 use Rattle.pas_steps.specs.Agreement.{Agreed}
 use Rattle.pas_steps.specs.Calls.{Leads, Fate, Kept, Gained, Lost, Effect, nothing, Does}
 use Rattle.pas_steps.specs.Clear.{IsClear}
@@ -112,7 +111,7 @@ pub record TakesPage (d : Directory) (page : ℕ) (desk desk' : Standing) (whole
   pub adds : Adds desk desk' (MayServe page d) steps
   pub on : OnlyOn page steps
   pub kinds : Only taking_grains steps
-  pub hints : Always HintsEmpty steps
+  pub due : Always GivesDuly steps
   pub few : length steps ≤ 19
   pub outcome : MatchBool whole (KeepsAll desk.seat.profile d page steps) (LeavesBroken desk.seat.profile d page steps)
 

@@ -1,14 +1,28 @@
 //! A run of pages that is held is given as one block.
-ghost use Rattle.std.specs.Prelude.{◌≡◌, ◌≤◌, ◌+◌};
+ghost use Rattle.std.specs.Prelude.{◌≡◌, ◌≤◌, ◌<◌, ◌+◌};
 ghost use Rattle.pas_profile.specs.Profiles.{IsDirectoryOf};
 ghost use Rattle.pas_steps.specs.Desks.{CanCall};
 ghost use Rattle.pas_large.specs.Claims.{HasPages};
-ghost use Rattle.pas_large.specs.Gives.{BacksRun, MayLeaveRun, LeavesRun, GivesRun};
+ghost use Rattle.pas_large.specs.Gives.{BacksPage, BacksRun, MayLeaveRun, LeavesRun, GivesRun};
 
 use pas_profile::limits::PAGE_GRAINS;
 use pas_profile::{Block, Directory};
 use pas_rights::{give, leave};
 use pas_steps::Desk;
+
+/// Backs this page of the run from `first` to below `end`. One step and at most one event.
+fn back_page<D: Desk>(desk: &mut D, first: u32, end: u32, page: u32, directory: Directory)
+    requires first { 1 ≤ first }
+    requires low { first ≤ page }
+    requires high { page < end }
+    requires region { end ≤ (D.standing desk.old).seat.profile.pages + 1 }
+    requires can { CanCall (D.standing desk.old) (HasPages directory first end) }
+    requires room { 1 ≤ D.spare_of desk.old }
+    ensures backs { BacksPage page (D.standing desk.old) (D.standing desk.new) }
+    ensures home { D.home desk.new ≡ D.home desk.old }
+{
+    desk.back(page);
+}
 
 /// Backs the pages from `first` to below `end`, from the lowest up. One step and at most one event a page.
 fn back_run<D: Desk>(desk: &mut D, first: u32, end: u32, directory: Directory)
@@ -22,7 +36,7 @@ fn back_run<D: Desk>(desk: &mut D, first: u32, end: u32, directory: Directory)
     ensures home { D.home desk.new ≡ D.home desk.old }
 {
     for page in first..end {
-        desk.back(page);
+        back_page(desk, first, end, page, directory);
     }
 }
 

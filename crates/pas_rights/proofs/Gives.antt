@@ -17,7 +17,7 @@ use Rattle.pas_steps.specs.Lists.{Whole}
 use Rattle.pas_steps.specs.Views.{View, Gives, Stays, holds, holds_on, knows_backed, known_life, KnowsDeed, is_unstamped}
 use Rattle.pas_steps.specs.declared.step.Step.TheVariants.{Look, Give}
 use Rattle.pas_steps.proofs.Adding.{adds_none, adds_step, can_step, room_left}
-use Rattle.pas_steps.proofs.Backed.{backed_holds}
+use Rattle.pas_steps.proofs.Kept.{backed_holds}
 use Rattle.pas_steps.proofs.Calls.{does_as, does_step, does_then}
 use Rattle.pas_steps.proofs.Frames.{given_le}
 use Rattle.pas_steps.proofs.SpareRoom.{Spares}

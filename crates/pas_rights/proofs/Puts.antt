@@ -1,27 +1,27 @@
 -- The grains of a mask of one page, put back word by word.
-use Rattle.std.proofs.Common.{◌≡◌, ◌≢◌, ℕ, zero, suc, ◌<◌, ◌+◌, ◌/◌, ◌%◌, ◌≤◌, ◌==◌, nat_lt, Bool, true, false, ◌&&◌, ◌||◌, if◌then◌else◌, List, [], ◌∷◌, ◌++◌, length, slice_index, inl, inr, refl, ap, sym, ◌∙◌, subst, arith, true≢false}
-use Rattle.std.proofs.lemmas.Bool.{cases_eq, eqb-true, lt-ltb, le-ltb, and_parts, and_right}
+use Rattle.std.proofs.Common.{◌≡◌, ◌≢◌, ℕ, zero, suc, ◌<◌, ◌+◌, ◌/◌, ◌%◌, ◌≤◌, ◌==◌, nat_lt, Bool, true, false, ◌&&◌, ◌||◌, if◌then◌else◌, List, [], ◌∷◌, ◌++◌, length, slice_index, inl, inr, refl, ap, sym, ◌∙◌, subst, arith, append_assoc, true≢false}
+use Rattle.std.proofs.lemmas.Bool.{cases_eq, eqb-true, ne_eqb, lt-ltb, le-ltb, and_parts, and_right}
 use Rattle.std.proofs.lemmas.Bool.Decides.{nat_tests}
 use Rattle.pas_profile.specs.Classes.{has_bit}
 use Rattle.pas_bits.specs.declared.mask.Mask4.{Mask4}
 use Rattle.pas_bits.specs.Masks.{is_set, HasMember}
 use Rattle.pas_bits.proofs.Words.{none_of_zero}
 use Rattle.pas_steps.specs.Calls.{Calls, Does, Kept, Lost, now, put}
-use Rattle.pas_steps.specs.Desks.{Standing}
 use Rattle.pas_steps.specs.Effects.{in_mask}
 use Rattle.pas_steps.specs.Frames.{IsOnPage, OnlyOn}
 use Rattle.pas_steps.specs.InTurn.{numbers_below}
 use Rattle.pas_steps.specs.Kinds.{Putting, Only, is_in, kind_of}
-use Rattle.pas_steps.specs.Past.{Once}
-use Rattle.pas_steps.specs.Views.{View, holds}
+use Rattle.pas_steps.specs.Desks.{Standing}
+use Rattle.pas_steps.specs.Past.{Once, Always}
+use Rattle.pas_steps.specs.Views.{View, Move, Stays, Gets, Puts, Ends, grain_move, held_after, holds}
 use Rattle.pas_steps.specs.declared.step.Made.{Made}
 use Rattle.pas_steps.proofs.Apart.{unstamped_same}
 use Rattle.pas_steps.proofs.Called.{call_then, call_as}
 use Rattle.pas_steps.proofs.Calls.{does_none}
-use Rattle.pas_steps.proofs.InTurn.{in_turn_always, in_turn_length}
-use Rattle.pas_steps.proofs.Past.{once_earlier, once_later}
+use Rattle.pas_steps.proofs.Past.{in_turn_always, in_turn_length, once_earlier, once_later}
 use Rattle.pas_steps.proofs.Sets.{put_both, put_as, put_nothing}
 use Rattle.pas_rights.specs.Puts.{masked, MayPut, WordPut, PutsBelow, PutsHere, MayPutWord, PutsWord, PutsMask}
+use Rattle.pas_rights.specs.PutsBack.{GivesDuly}
 
 -- ---- one word
 pub none_in : (page word mask g : ℕ) → mask ≡ 0 → in_mask page word mask g ≡ false
@@ -105,6 +105,41 @@ pub some_put : (page : ℕ) (mask : Mask4) (steps : List Made) → PutsBelow pag
 some_put page mask steps h some =
     let b = some.0 in let lt = some.1 in
     made_below page mask 4 (b / 64) steps h (omega (arith, lt)) (λ none. true≢false (sym some.2 ∙ ap (λ m. has_bit m (b % 64)) none ∙ none_of_zero (b % 64)))
+
+-- ---- what is put was held
+-- what steps hold they hold whatever stood before
+held_too : (move : Move) (a b : Bool) → (a ≡ true → b ≡ true) → held_after move a ≡ true → held_after move b ≡ true
+held_too Stays a b f h = f h
+held_too Gets a b f h = refl
+held_too (Ends x) a b f h = refl
+held_too move a b f h = h
+
+pub holds_more : (g : ℕ) (ys xs : List Made) → holds ys g ≡ true → holds (ys ++ xs) g ≡ true
+holds_more g [] xs h = absurd (true≢false (sym h))
+holds_more g (y ∷ ys) xs h = held_too (grain_move y.step y.answer g) (holds ys g) (holds (ys ++ xs) g) (holds_more g ys xs) h
+
+-- the mask's grains of the words from n on are held still, and each that was put was held
+abbrev StillHeld : ℕ → Mask4 → ℕ → List Made → Type 0
+StillHeld page mask n steps = ((g : ℕ) → masked page mask g ≡ true → n ≤ g / 64 % 4 → holds steps g ≡ true) × Always GivesDuly steps
+
+word_held : (page : ℕ) (mask : Mask4) (n : ℕ) (xs : List Made) → StillHeld page mask n xs → (g : ℕ) → in_mask page n (slice_index mask.0 n) g ≡ true → holds xs g ≡ true
+word_held page mask n xs h g here =
+    let at = and_parts (n == g / 64 % 4) (masked page mask g) (sym (in_word page mask n g) ∙ here) in let e : n ≡ g / 64 % 4 = eqb-true n (g / 64 % 4) at.0 in h.0 g at.1 (omega (arith, e))
+
+word_taken : (page : ℕ) (mask : Mask4) (n : ℕ) (piece xs : List Made) → WordPut page n (slice_index mask.0 n) piece → StillHeld page mask n xs → StillHeld page mask (suc n) (piece ++ xs)
+word_taken page mask n piece xs (inl none) h = subst (λ s. StillHeld page mask (suc n) (s ++ xs)) (sym none.1) ((λ g is le. h.0 g is (omega (arith, le))), h.1)
+word_taken page mask n piece xs (inr puts) h = let w = slice_index mask.0 n in subst (λ s. StillHeld page mask (suc n) (s ++ xs)) (sym puts.2) (
+  (λ g is le. ap (λ t. held_after (if t then Puts else Stays) (holds xs g)) (in_word page mask n g ∙ ap (λ t. t && masked page mask g) (ne_eqb n (g / 64 % 4) (λ e. absurd (omega (arith, e, le))))) ∙ h.0 g is (omega (arith, le))),
+  (((λ p same. cc), (λ p u k g same here. let there : in_mask page n w g ≡ true = cc in word_held page mask n xs h g there)), h.1),
+)
+
+puts_below : (page : ℕ) (mask : Mask4) (xs : List Made) → ((g : ℕ) → masked page mask g ≡ true → holds xs g ≡ true) → Always GivesDuly xs → (n : ℕ) (steps : List Made) → PutsBelow page mask n steps → StillHeld page mask n (steps ++ xs)
+puts_below page mask xs held all zero steps h = subst (λ s. StillHeld page mask 0 (s ++ xs)) (sym h) ((λ g is le. held g is), all)
+puts_below page mask xs held all (suc n) steps h =
+    subst (StillHeld page mask (suc n)) (sym (ap (λ s. s ++ xs) h.4 ∙ append_assoc h.0 h.1 xs)) (word_taken page mask n h.0 (h.1 ++ xs) h.2 (puts_below page mask xs held all n h.1 h.3))
+
+pub puts_due : (page : ℕ) (mask : Mask4) (steps xs : List Made) → PutsBelow page mask 4 steps → ((g : ℕ) → masked page mask g ≡ true → holds xs g ≡ true) → Always GivesDuly xs → Always GivesDuly (steps ++ xs)
+puts_due page mask steps xs order held all = (puts_below page mask xs held all 4 steps order).1
 
 -- ---- the calls
 pub may_put_word : (page : ℕ) (mask : Mask4) (n : ℕ) (steps : List Made) (v : View) → PutsBelow page mask n steps → MayPut page mask v → Does (put (masked_below page mask n) page) v (steps ++ v) → MayPutWord page n (slice_index mask.0 n) (steps ++ v)

@@ -170,7 +170,7 @@ module _ {σ σ1 : Standing} (page : ℕ) (d : Directory) (mask : Mask4) (puts :
     on = both_on page left.steps puts.steps (returns_on page left.steps left.returns) puts.on;
     kinds = only_back left.steps (returns_are page left.steps left.returns);
     few = let all = length-append left.steps puts.steps in let a = left.few in let b = puts.few in omega (arith, all, a, b);
-    only_puts = puts.kinds;
+    put_order = puts.order;
     order = left.order;
     left = left.left;
     lacks = λ before. ap (λ s. has_right s page) (append_assoc left.steps puts.steps before) ∙ leave_lacks page d left.steps (puts.steps ++ before) left.order;

@@ -1,5 +1,5 @@
 -- Grains of one page, taken word by word.
-use Rattle.std.proofs.Common.{◌≡◌, ◌≢◌, ℕ, zero, suc, ◌+◌, ◌*◌, ◌/◌, ◌%◌, ◌<◌, ◌≤◌, ◌==◌, nat_lt, Bool, true, false, ◌&&◌, ◌||◌, if◌then◌else◌, List, [], ◌∷◌, ◌++◌, length, inl, refl, ap, sym, ◌∙◌, subst, arith, append_assoc, add-one, true≢false}
+use Rattle.std.proofs.Common.{◌≡◌, ◌≢◌, ℕ, zero, suc, ◌+◌, ◌*◌, ◌/◌, ◌%◌, ◌<◌, ◌≤◌, ◌==◌, nat_lt, Bool, true, false, ◌&&◌, ◌||◌, if◌then◌else◌, List, [], ◌∷◌, ◌++◌, length, inl, refl, ap, sym, ◌∙◌, subst, arith, append_assoc, add-one, append-nil, true≢false}
 use Rattle.std.proofs.Math.Bool.{and_comm}
 use Rattle.std.proofs.lemmas.Bool.{ne_eqb, eqb-true, lt-ltb, le-ltb, and_parts, and_from, and_left, or_right, or_from, false_from_ne_true}
 use Rattle.pas_profile.specs.Classes.{has_bit}
@@ -175,6 +175,10 @@ module _ (page : ℕ) (mask answers got : Mask4) (got_is : (g : ℕ) → is_set 
   -- a grain that wasn't got is held as before
   pub takes_leave : (g : ℕ) (v : View) → masked page got g ≡ false → holds (takes page (words mask) (words answers) 4 ++ v) g ≡ holds v g
   takes_leave g v none = takes_hold page (words mask) (words answers) 4 g v ∙ ap (λ t. t || holds v g) (got_all g ∙ none)
+
+  -- and one that was got is held by these steps alone
+  pub takes_got : (g : ℕ) → masked page got g ≡ true → holds (takes page (words mask) (words answers) 4) g ≡ true
+  takes_got g is = ap (λ s. holds s g) (sym (append-nil (takes page (words mask) (words answers) 4))) ∙ takes_hold page (words mask) (words answers) 4 g [] ∙ ap (λ t. t || false) (got_all g ∙ is)
 
   pub takes_get : (f : Profile) (v : View) → Agreed f v (takes page (words mask) (words answers) 4) → GetsGrains (masked page got) v (takes page (words mask) (words answers) 4 ++ v)
   takes_get f v agreed = record {

@@ -33,6 +33,10 @@ PutsBelow page mask n steps = InTurn (λ word piece. WordPut page word (slice_in
 abbrev pub PutsHere : ℕ → Made → List Made → Type 0
 PutsHere page m before = (word : ℕ) × (mask : ℕ) × (m.step ≡ Put page word mask)
 
+-- the step puts no grain but one that these steps took, and hold
+abbrev pub PutsTaken : Made → List Made → Type 0
+PutsTaken m before = (page word mask g : ℕ) → m.step ≡ Put page word mask → in_mask page word mask g ≡ true → holds before g ≡ true
+
 -- The grains of the mask were put back, by a put for each free word of the page that has any, and by nothing else.
 pub record PutsMask (page : ℕ) (mask : Mask4) (desk desk' : Standing) : Type 0 where
   pub steps : List Made

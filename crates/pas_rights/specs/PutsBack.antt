@@ -13,7 +13,8 @@ use Rattle.pas_steps.specs.Past.{Once}
 use Rattle.pas_steps.specs.Views.{View, holds, has_right, KnowsDeed}
 use Rattle.pas_steps.specs.declared.step.Made.{Made}
 use Rattle.pas_rights.specs.Leaves.{LeaveSteps, LosesHere}
-use Rattle.pas_rights.specs.Puts.{masked, MayPut, PutsBelow}
+use Rattle.pas_rights.specs.Looks.{HintsEmpty}
+use Rattle.pas_rights.specs.Puts.{masked, MayPut, PutsBelow, PutsTaken}
 use Rattle.pas_rights.specs.Returns.{ReturnSteps}
 
 -- what is done where grains are put back, and where some were taken before
@@ -22,6 +23,10 @@ giving_back = Putting ∷ returning
 
 abbrev pub taking_grains : Kinds
 taking_grains = Taking ∷ giving_back
+
+-- the step hints no page but one that these steps read as empty, and puts no grain but one that they took, and hold
+abbrev pub GivesDuly : Made → List Made → Type 0
+GivesDuly m before = HintsEmpty m before × PutsTaken m before
 
 -- ---- what every actor does that put grains back
 pub record MayPutAndReturn (page : ℕ) (directory : Directory) (mask : Mask4) (v : View) : Type 0 where
@@ -66,7 +71,7 @@ pub record PutsAndLeaves (page : ℕ) (d : Directory) (mask : Mask4) (desk desk'
   pub on : OnlyOn page (after ++ puts)
   pub kinds : Only giving_back (after ++ puts)
   pub few : length (after ++ puts) ≤ 15
-  pub only_puts : Only (Putting ∷ []) puts
+  pub put_order : PutsBelow page mask 4 puts
   pub order : LeaveSteps page d after
   pub left : Once (LosesHere page) after
   pub lacks : (before : List Made) → has_right ((after ++ puts) ++ before) page ≡ false

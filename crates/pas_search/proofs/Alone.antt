@@ -16,9 +16,8 @@ use Rattle.pas_steps.proofs.Past.{once_map}
 use Rattle.pas_core.specs.Alone.{ShowsNone, ShowsAnswer, IsPlainAnswer}
 use Rattle.pas_core.specs.Fits.{HasNoFit}
 use Rattle.pas_core.specs.Rights.{AllRest}
-use Rattle.pas_core.proofs.OneActorRights.{plain_answer}
+use Rattle.pas_core.proofs.OneActor.{plain_answer, lends_none}
 use Rattle.pas_core.proofs.Nexts.{agreed_steps}
-use Rattle.pas_core.proofs.OneActorGrains.{lends_none}
 use Rattle.pas_search.specs.Alone.{page_found, FindsWhatThereIs}
 use Rattle.pas_search.specs.Kinds.{searching, AreSearch}
 use Rattle.pas_search.specs.Searches.{MaySearch, DeedMadeHere, IsServed, IsRefused}

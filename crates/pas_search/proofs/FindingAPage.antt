@@ -30,14 +30,13 @@ use Rattle.pas_steps.specs.Lists.{Whole, part, word_after, Legal}
 use Rattle.pas_steps.specs.Desks.{triples, Seat, Standing, AnyView, made, Adds, CanCall}
 use Rattle.pas_steps.specs.declared.step.Step.{Step}
 use Rattle.pas_steps.proofs.Parts.{part_of_own}
-use Rattle.pas_core.proofs.DeedWords.{known_is, numbered_ne}
-use Rattle.pas_core.proofs.Spots.{is_offered, is_parked, spotted}
+use Rattle.pas_core.proofs.Deeds.{known_is, numbered_ne}
+use Rattle.pas_core.proofs.Rights.{is_offered, is_parked, spotted}
 use Rattle.pas_search.specs.Kinds.{searching, AreSearch, IsDeedOrBack, deeds_made}
 use Rattle.pas_core.specs.Fits.{IsOfferedFit, HasNoFit}
 use Rattle.pas_search.specs.Telling.{IsLowestOffered, IsLowestBare, IsInHands, IsTrueReason, IsTold}
 use Rattle.pas_search.specs.declared.serving.Served.{Served}
-use Rattle.pas_core.proofs.OneActorRights.{spot_same, zero_told, one_told, parked_told, entry_lacks, legal_before, offered_deed, offered_lacks, not_in_hands}
-use Rattle.pas_core.proofs.OneActorGrains.{LendsNone, unfit_entry, unfit_exit, fit_entry, deed_quiet, deed_exit, deed_none, lends_none}
+use Rattle.pas_core.proofs.OneActor.{spot_same, zero_told, one_told, parked_told, entry_lacks, legal_before, offered_deed, offered_lacks, not_in_hands, LendsNone, unfit_entry, unfit_exit, fit_entry, deed_quiet, deed_exit, deed_none, lends_none}
 use Rattle.pas_steps.specs.Clear.{IsClear}
 use Rattle.pas_steps.specs.Events.{events_of, events_by}
 use Rattle.pas_steps.specs.Unknown.{HasRoom}
@@ -279,7 +278,7 @@ module _ {F : Type 0} (rule : Rule F) (f : Profile) (d : Directory) (marks : Lis
   }
 
   deed_search : AreSearch (steps ++ os)
-  deed_search = subst AreSearch (sym all_steps) (served_search served.page bare.serve (m ∷ ws) bare.serves.only bare.serves.hints (inl (GetsRight.Deeds d 0 refl)) (got_search f d served.page m ws (GetsRight.Deeds d 0 refl) now.searches))
+  deed_search = subst AreSearch (sym all_steps) (served_search served.page bare.serve (m ∷ ws) bare.serves.only bare.serves.due (inl (GetsRight.Deeds d 0 refl)) (got_search f d served.page m ws (GetsRight.Deeds d 0 refl) now.searches))
 
   deed_serves : IsServed rule f d (steps ++ os) served
   deed_serves = subst (λ call. IsServed rule f d call served) (sym all_steps)

@@ -6,11 +6,10 @@ use Rattle.pas_profile.specs.declared.directory.Directory.{Directory}
 use Rattle.pas_profile.specs.declared.event.Event.{Event}
 use Rattle.pas_profile.proofs.Codecs.{deed_word_of-positive}
 use Rattle.pas_rights.specs.Leaves.{MayLeave, Leaves}
-use Rattle.pas_rights.specs.Looks.{HintsEmpty}
-use Rattle.pas_rights.specs.PutsBack.{taking_grains}
+use Rattle.pas_rights.specs.PutsBack.{taking_grains, GivesDuly}
 use Rattle.pas_rights.specs.Takes.{taken}
 use Rattle.pas_rights.proofs.Debts.{leave_lacks}
-use Rattle.pas_rights.proofs.Hints.{hints_both, leave_hints}
+use Rattle.pas_rights.proofs.Hints.{due_both, leave_due}
 use Rattle.pas_steps.specs.Agreement.{Agreed}
 use Rattle.pas_steps.specs.Allowed.{Allowed}
 use Rattle.pas_steps.specs.Calls.{Calls, Leads, Kept, Gained, Lost, now, ClearAfter, Does}
@@ -25,11 +24,10 @@ use Rattle.pas_steps.specs.declared.step.Made.{Made}
 use Rattle.pas_steps.specs.declared.step.Step.TheVariants.{Back}
 use Rattle.pas_steps.proofs.Adding.{agreed_later}
 use Rattle.pas_steps.proofs.Apart.{in_apart, only_within, only_both, holds_same, no_event, no_events}
-use Rattle.pas_steps.proofs.Backed.{any_from}
+use Rattle.pas_steps.proofs.Kept.{any_from, returns_on}
 use Rattle.pas_steps.proofs.Called.{call_then, call_knows, call_step, next_call, next_step}
 use Rattle.pas_steps.proofs.Calls.{does_then, does_as, does_idly, returns_are, kept_first}
 use Rattle.pas_steps.proofs.Frames.{rights_stay}
-use Rattle.pas_steps.proofs.Kept.{returns_on}
 use Rattle.pas_steps.proofs.Past.{once_later, always_both, always_map, since_once}
 use Rattle.pas_steps.proofs.Sets.{kept_kept}
 use Rattle.pas_search.specs.Kinds.{serving, KeepsMarks, IsQuiet, AreQuiet}
@@ -58,7 +56,7 @@ pub record Prepares (page : ℕ) (d : Directory) (r : Readings) (kept : ℕ → 
   pub keeps : KeepsRight page steps
   pub read : (before : List Made) → GotBefore page before → (word : ℕ) → word < 4 → Since (ShowsHere page word r) (KeptHere page) (steps ++ before)
   pub held : Leads desk.seat.profile (MayServe page d) (ReadsNoneHeld page r) steps
-  pub hints : Always HintsEmpty steps
+  pub due : Always GivesDuly steps
   pub marks : (b : ℕ) × (b < 256) × (kept b ≡ true) → Always (KeepsMarks page) steps
 
 module _ {Found : Type 0} (rule : Rule Found) (page : ℕ) (d : Directory) (r : Readings) (kept : ℕ → Bool) {σ σ1 : Standing} (p : Prepares page d r kept σ σ1) where
@@ -94,7 +92,7 @@ module _ {Found : Type 0} (rule : Rule Found) (page : ℕ) (d : Directory) (r : 
           kinds = only_within taking_grains serving (left.steps ++ p.steps) refl left_kinds;
           on = always_both (λ m before. IsOnPage page m.step) (λ m before. IsOnPage page m.step) left.steps p.steps (λ m before h. h) (returns_on page left.steps left.returns) p.on;
         };
-        hints = hints_both left.steps p.steps (leave_hints page d left.steps left.order) p.hints;
+        due = due_both left.steps p.steps (leave_due page d left.steps left.order) p.due;
         few = λ k v. subst (λ es. length es ≤ rule.events) (sym (no_events taking_grains refl k v (left.steps ++ p.steps) left_kinds)) (omega arith);
         short = let all = length-append left.steps p.steps in let a = left.few in omega (arith, all, a, short);
         outcome = record {
@@ -154,7 +152,7 @@ module _ {Found : Type 0} (rule : Rule Found) (page : ℕ) (d : Directory) (r : 
         adds = back_call.adds;
         serves = record {
           only = record { kinds = (refl, only_within taking_grains serving p.steps refl p.kinds); on = (IsOnPage.Backs, p.on) };
-          hints = ((λ q same. cc), p.hints);
+          due = (((λ q same. cc), (λ q word mask g same here. cc)), p.due);
           few = λ k v. let none : length (events_by k v p.steps) ≡ 0 = ap length (no_events taking_grains refl k v p.steps p.kinds) in
               cond_both (a == 0) (Some (Event.Back k page)) None (λ o. length (with_event o (events_by k v p.steps)) ≤ rule.events) (λ made. omega (arith, none, one)) (λ silent. omega (arith, none));
           short = omega (arith, short);

@@ -5,7 +5,7 @@ use Rattle.pas_profile.specs.declared.event.Event.{Event}
 use Rattle.pas_steps.specs.declared.step.Made.{Made}
 use Rattle.pas_steps.specs.declared.step.Step.{Step}
 use Rattle.pas_steps.specs.declared.step.Step.TheVariants.{Deed, Look, TakeRight}
-use Rattle.pas_steps.specs.Views.{View, has_right, Way, Stays, grain_move, held_after, holds, KnowsDeed, known_free, epoch_of}
+use Rattle.pas_steps.specs.Views.{View, has_right, Way, Stays, Puts, grain_move, held_after, holds, KnowsDeed, known_free, epoch_of}
 use Rattle.pas_steps.specs.Events.{events_by, event_of, events_of}
 use Rattle.pas_steps.specs.Evidence.{GetsHere, GetsRight, LacksAfter, ZeroHere, OneHere, UnfitHere, Searched, ReadsEligible, ReadsDeed, DeedHere, NoDeedHere, AllDeeds}
 use Rattle.pas_steps.specs.Past.{Once, Always}
@@ -29,8 +29,8 @@ use Rattle.pas_search.specs.Serving.{righted, IsUntouched, Rule, MayServe, GotBe
 use Rattle.pas_scan.specs.Marks.{is_marked}
 use Rattle.pas_scan.specs.Rows.{row_end, row_words, words_to}
 use Rattle.pas_search.specs.Searches.{offered_steps, OfferedHere, Searching, MaySearch, FromOffered, KeepsFound, FewEvents, Finds, GoesOn, SearchesOffered, BareRoom, SearchesBare}
-use Rattle.pas_rights.specs.Looks.{HintsEmpty}
 use Rattle.pas_rights.specs.Puts.{PutsHere}
+use Rattle.pas_rights.specs.PutsBack.{GivesDuly}
 use Rattle.pas_search.proofs.Returns.{duly_on, never_returned}
 use Rattle.pas_search.proofs.ForBackEnds.{events_quiet, room_after, room_kept}
 use Rattle.pas_profile.specs.Profiles.{IsPage}
@@ -39,14 +39,14 @@ use Rattle.pas_steps.proofs.Kept.{right_on, holds_on_page, knows_still, scans_lo
 use Rattle.pas_steps.proofs.Adding.{adds_call, can_call, agreed_first, agreed_later, adds_step}
 use Rattle.pas_scan.specs.Scan.{IsFirstOffered, FindsOffered, FindsBare}
 use Rattle.pas_steps.specs.Lists.{Whole}
-use Rattle.pas_core.proofs.OneActorGrains.{no_deed_event}
+use Rattle.pas_core.proofs.OneActor.{no_deed_event}
 use Rattle.pas_steps.proofs.Evidence.{zero_before, deed_known, deed_before, unknown}
 use Rattle.pas_steps.proofs.Sets.{got_lost}
 
 -- ---- kinds
 -- a search goes on with a page whose right it got
-pub served_search : (p : ℕ) (ys xs : List Made) → OnlyServes p ys → Always HintsEmpty ys → Once (GetsHere p) xs → AreSearch xs → AreSearch (ys ++ xs)
-served_search p ys xs only hints got are = record { kinds = only_both searching ys xs (only_within serving searching ys refl only.kinds) are.kinds; returns = duly_on p ys xs only.on hints got are.returns }
+pub served_search : (p : ℕ) (ys xs : List Made) → OnlyServes p ys → Always GivesDuly ys → Once (GetsHere p) xs → AreSearch xs → AreSearch (ys ++ xs)
+served_search p ys xs only due got are = record { kinds = only_both searching ys xs (only_within serving searching ys refl only.kinds) are.kinds; returns = duly_on p ys xs only.on due got are.returns }
 
 -- ---- events
 -- the events of steps, where those before made none
@@ -160,14 +160,20 @@ vain_lacks p (m ∷ more) xs vain none all = (vain_right p (m ∷ more) xs vain 
 vain_quiet : (steps : List Made) → AreVain steps → AreQuiet steps
 vain_quiet steps = always_map (λ m before. IsVain m) (λ m before. IsQuiet m) steps (λ m before h. h.quiet)
 
--- a step that returns no page
-returns_none : (m : Made) (before : List Made) → ((q : ℕ) → IsReturnOf q m.step → ⊥) → ReturnsDuly m before
-returns_none m before none = (λ q is. absurd (none q is), λ q same. absurd (none q (subst (IsReturnOf q) (sym same) IsReturnOf.Hints)))
+-- such a step returns no page, and puts nothing
+returns_none : (fates : ℕ → Fate) (m : Made) (before : List Made) → Rights fates m → ReturnsDuly m before
+returns_none fates m before h = (
+  λ q is. absurd (h.returns q is),
+  (
+    λ q same. absurd (h.returns q (subst (IsReturnOf q) (sym same) IsReturnOf.Hints)),
+    λ q word mask g same here. let puts : Puts ≡ Stays = ap (λ t. if t then Puts else Stays) (sym here) ∙ ap (λ s. grain_move s m.answer g) (sym same) ∙ h.grains g in cc,
+  ),
+)
 
 pub vain_search : (ys xs : List Made) → AreVain ys → AreSearch xs → AreSearch (ys ++ xs)
 vain_search ys xs vain are = record {
   kinds = always_both (λ m before. IsVain m) (λ m before. is_in searching (kind_of m.step) ≡ true) ys xs (λ m before h. h.rights.kind) vain are.kinds;
-  returns = always_both (λ m before. IsVain m) ReturnsDuly ys xs (λ m before h. returns_none m (before ++ xs) h.rights.returns) vain are.returns;
+  returns = always_both (λ m before. IsVain m) ReturnsDuly ys xs (λ m before h. returns_none (λ q. Kept) m (before ++ xs) h.rights) vain are.returns;
 }
 
 offered_before : (d : Directory) (p : ℕ) (ys xs : List Made) → AreVain ys → has_right xs p ≡ false → Always (LacksAfter p) xs → Once (OneHere d p) ys → Once (OfferedHere d p) (ys ++ xs)
@@ -232,7 +238,7 @@ module _ (f : Profile) (d : Directory) (page : ℕ) (m : Made) (ws : List Made) 
   got_before h = record { right = got_right ws; got = inl gets; none = λ g at. holds_then (λ q. if page == q then Gained else Kept) m ws g turns ∙ h.none g at; newest = gets }
 
   pub got_search : AreSearch ws → AreSearch (m ∷ ws)
-  got_search are = record { kinds = (turns.kind, are.kinds); returns = (returns_none m ws turns.returns, are.returns) }
+  got_search are = record { kinds = (turns.kind, are.kinds); returns = (returns_none (λ q. if page == q then Gained else Kept) m ws turns, are.returns) }
 
   pub ready : {B : View → Type 0} → ((v : View) → B v → IsClear v) → Leads f B (Does nothing) ws → ((v : View) → Agreed f v (m ∷ ws) → KnowsDeed page d (m ∷ (ws ++ v))) → Leads f B (IsReady page d) (m ∷ ws)
   ready clear still deed = record {
@@ -330,7 +336,7 @@ module _ {F : Type 0} (rule : Rule F) (f : Profile) (d : Directory) (page : ℕ)
       record {
         searching = record {
           still = leads_then (Does nothing) lacking left.leaves (λ v w met r. r.0.may) (λ v w u r b. got_left page r.1 r.0.got b);
-          searches = served_search page zs (m ∷ ws) serve.only serve.hints (inl gets) (got_search f d page m ws gets s.searches);
+          searches = served_search page zs (m ∷ ws) serve.only serve.due (inl gets) (got_search f d page m ws gets s.searches);
           quiet = always_both (λ m before. IsQuiet m) (λ m before. IsQuiet m) zs (m ∷ ws) (λ m before h. h) left.quiet (quiet, s.quiet);
           untouched = λ p. elim (cases_eq p page) [
             | inl e ↦ subst (λ q. IsUntouched q (zs ++ (m ∷ ws))) (sym e) (left.untouched (m ∷ ws) got)
@@ -456,7 +462,7 @@ module _ {F : Type 0} {rule : Rule F} {σ0 σ : Standing} {d : Directory} {next 
             steps = serve.steps ++ claimed;
             adds = serve_adds (Some found) serve;
             few = let most = few_after serve.steps serve.serves.short in let all = offered_grows rule.steps (row_words f.pages) first.of_region.1 in omega (arith, most, all);
-            searches = served_search page serve.steps claimed serve.serves.only serve.serves.hints (inl (GetsRight.Claims d a bit)) (got_search f d page (made (TakeRight page d) a) looked (GetsRight.Claims d a bit) s.searches);
+            searches = served_search page serve.steps claimed serve.serves.only serve.serves.due (inl (GetsRight.Claims d a bit)) (got_search f d page (made (TakeRight page d) a) looked (GetsRight.Claims d a bit) s.searches);
             outcome = from_offered rule f d page marks (made (TakeRight page d) a) looked serve.steps (GetsRight.Claims d a bit) (λ k e. refl) (IsOnPage.Claims d, tt) serve.serves.only.on got s found (serve_at (Some found) serve) first.of_region (rest_at page (omega arith))
                 (offered_before d page find.steps earlier vain (tries.goes.searching.untouched page).right (tries.goes.searching.lacked page (rest_at page (omega arith))) first.one);
           }

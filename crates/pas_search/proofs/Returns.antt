@@ -1,8 +1,8 @@
--- Which pages a call gives up, takes back and hints: those that it got, and hints after the looks that they rest on.
-use Rattle.std.proofs.Common.{◌≡◌, ℕ, Bool, true, false, List, [], ◌∷◌, ◌++◌, inr, refl, sym, ◌∙◌, subst, true≢false}
-use Rattle.pas_rights.specs.Looks.{HintsEmpty}
+-- Which pages a call gives up, takes back and hints: those that it got, and hints after the looks that they rest on. And what it puts: what it took.
+use Rattle.std.proofs.Common.{◌≡◌, ℕ, Bool, true, List, [], ◌∷◌, ◌++◌, inr, refl, sym, ◌∙◌, subst, true≢false}
 use Rattle.pas_rights.specs.Puts.{PutsHere}
-use Rattle.pas_rights.proofs.Hints.{hints_later, hints_none}
+use Rattle.pas_rights.specs.PutsBack.{GivesDuly}
+use Rattle.pas_rights.proofs.Hints.{giving, due_later, due_none}
 use Rattle.pas_rights.proofs.PutsBack.{unparking}
 use Rattle.pas_steps.specs.Evidence.{GetsHere}
 use Rattle.pas_steps.specs.Frames.{IsOnPage, OnlyOn}
@@ -17,7 +17,7 @@ use Rattle.pas_search.specs.Kinds.{IsReturnOf, ReturnsGot, ReturnsDuly, KeepsMar
 
 -- ---- steps of two calls
 pub duly_later : (m : Made) (before xs : List Made) → ReturnsDuly m before → ReturnsDuly m (before ++ xs)
-duly_later m before xs h = (λ page is. once_earlier (GetsHere page) (GetsHere page) before xs (λ n b gets. gets) (h.0 page is), hints_later m before xs h.1)
+duly_later m before xs h = (λ page is. once_earlier (GetsHere page) (GetsHere page) before xs (λ n b gets. gets) (h.0 page is), due_later m before xs h.1)
 
 pub duly_both : (ys xs : List Made) → Always ReturnsDuly ys → Always ReturnsDuly xs → Always ReturnsDuly (ys ++ xs)
 duly_both ys xs = always_both ReturnsDuly ReturnsDuly ys xs (λ m before h. duly_later m before xs h)
@@ -36,9 +36,9 @@ pub no_return : (ks : Kinds) (page : ℕ) (s : Step) → apart ks turning_back �
 no_return ks page s out is returns = true≢false (sym (return_kind page s returns) ∙ in_apart ks turning_back (place_of (kind_of s)) out is)
 
 -- steps of other kinds
-pub duly_none : (ks : Kinds) (steps : List Made) → apart ks turning_back ≡ true → is_in ks Hinting ≡ false → Only ks steps → Always ReturnsDuly steps
-duly_none ks steps out hints only =
-    always_pair ReturnsGot HintsEmpty steps (always_map (λ m before. is_in ks (kind_of m.step) ≡ true) ReturnsGot steps (λ m before is page returns. absurd (no_return ks page m.step out is returns)) only) (hints_none ks steps hints only)
+pub duly_none : (ks : Kinds) (steps : List Made) → apart ks turning_back ≡ true → apart ks giving ≡ true → Only ks steps → Always ReturnsDuly steps
+duly_none ks steps out due only =
+    always_pair ReturnsGot GivesDuly steps (always_map (λ m before. is_in ks (kind_of m.step) ≡ true) ReturnsGot steps (λ m before is page returns. absurd (no_return ks page m.step out is returns)) only) (due_none ks steps due only)
 
 pub keeps_marks : (ks : Kinds) (page : ℕ) (steps : List Made) → apart ks turning_back ≡ true → Only ks steps → Always (KeepsMarks page) steps
 keeps_marks ks page steps out = always_map (λ m before. is_in ks (kind_of m.step) ≡ true) (KeepsMarks page) steps (λ m before is returns. absurd (no_return ks page m.step out is returns))
@@ -55,14 +55,14 @@ abbrev pub ReturnsIn : (ℕ → Bool) → List Made → Type 0
 ReturnsIn pages = Always (λ m before. (page : ℕ) → IsReturnOf page m.step → pages page ≡ true)
 
 -- pages that were got before
-pub duly_in : (pages : ℕ → Bool) (ys xs : List Made) → ReturnsIn pages ys → Always HintsEmpty ys → ((p : ℕ) → pages p ≡ true → Once (GetsHere p) xs) → Always ReturnsDuly xs → Always ReturnsDuly (ys ++ xs)
-duly_in pages [] xs within hints got all = all
-duly_in pages (y ∷ ys) xs within hints got all = ((λ q is. once_later (GetsHere q) ys xs (got q (within.0 q is)), hints_later y ys xs hints.0), duly_in pages ys xs within.1 hints.1 got all)
+pub duly_in : (pages : ℕ → Bool) (ys xs : List Made) → ReturnsIn pages ys → Always GivesDuly (ys ++ xs) → ((p : ℕ) → pages p ≡ true → Once (GetsHere p) xs) → Always ReturnsDuly xs → Always ReturnsDuly (ys ++ xs)
+duly_in pages [] xs within due got all = all
+duly_in pages (y ∷ ys) xs within due got all = ((λ q is. once_later (GetsHere q) ys xs (got q (within.0 q is)), due.0), duly_in pages ys xs within.1 due.1 got all)
 
-pub duly_on : (p : ℕ) (ys xs : List Made) → OnlyOn p ys → Always HintsEmpty ys → Once (GetsHere p) xs → Always ReturnsDuly xs → Always ReturnsDuly (ys ++ xs)
-duly_on p [] xs on hints got all = all
-duly_on p (y ∷ ys) xs on hints got all =
-    ((λ q is. subst (λ r. Once (GetsHere r) (ys ++ xs)) (sym (return_page p q y.step is on.0)) (once_later (GetsHere p) ys xs got), hints_later y ys xs hints.0), duly_on p ys xs on.1 hints.1 got all)
+pub duly_on : (p : ℕ) (ys xs : List Made) → OnlyOn p ys → Always GivesDuly ys → Once (GetsHere p) xs → Always ReturnsDuly xs → Always ReturnsDuly (ys ++ xs)
+duly_on p [] xs on due got all = all
+duly_on p (y ∷ ys) xs on due got all =
+    ((λ q is. subst (λ r. Once (GetsHere r) (ys ++ xs)) (sym (return_page p q y.step is on.0)) (once_later (GetsHere p) ys xs got), due_later y ys xs due.0), duly_on p ys xs on.1 due.1 got all)
 
 -- a page that was never got isn't returned
 pub never_returned : (p : ℕ) (xs : List Made) → (Once (GetsHere p) xs → ⊥) → Always ReturnsDuly xs → Always (KeepsMarks p) xs

@@ -1,8 +1,8 @@
 -- Kinds of steps of a search, and which events they make.
 use Rattle.std.specs.Prelude.{◌⊎◌, ℕ, ◌≡◌, ◌==◌, suc, Bool, false, if◌then◌else◌, List, [], ◌∷◌, None}
 use Rattle.pas_profile.specs.declared.directory.Directory.{Directory}
-use Rattle.pas_rights.specs.Looks.{HintsEmpty}
 use Rattle.pas_rights.specs.Puts.{PutsHere}
+use Rattle.pas_rights.specs.PutsBack.{GivesDuly}
 use Rattle.pas_steps.specs.Past.{Once, Always}
 use Rattle.pas_steps.specs.Events.{event_of}
 use Rattle.pas_steps.specs.Evidence.{GetsHere}
@@ -38,10 +38,10 @@ ReturnsGot m before = (page : ℕ) → IsReturnOf page m.step → Once (GetsHere
 
 -- and a page that it hints was read as backed, and each of its grains as free
 abbrev pub ReturnsDuly : Made → List Made → Type 0
-ReturnsDuly m before = ReturnsGot m before × HintsEmpty m before
+ReturnsDuly m before = ReturnsGot m before × GivesDuly m before
 
--- The steps of a search, which offers, parks, unparks and hints no page but those whose right it got, and hints only those that it read as backed
--- and empty.
+-- The steps of a search, which offers, parks, unparks and hints no page but those whose right it got, hints only those that it read as backed
+-- and empty, and puts only grains that it took.
 pub record AreSearch (steps : List Made) : Type 0 where
   pub kinds : Only searching steps
   pub returns : Always ReturnsDuly steps

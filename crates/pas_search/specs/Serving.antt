@@ -10,7 +10,7 @@ use Rattle.pas_steps.specs.Clear.{IsClearOn}
 use Rattle.pas_steps.specs.Desks.{Standing, Adds}
 use Rattle.pas_steps.specs.Evidence.{Readings, ShowsHere, GetsHere, UnfitHere}
 use Rattle.pas_rights.specs.Leaves.{LeaveSteps}
-use Rattle.pas_rights.specs.Looks.{HintsEmpty}
+use Rattle.pas_rights.specs.PutsBack.{GivesDuly}
 use Rattle.pas_steps.specs.Past.{Once, Always}
 use Rattle.pas_steps.specs.declared.step.Made.{Made}
 use Rattle.pas_search.specs.Kinds.{OnlyServes, AreQuiet, KeepsMarks}
@@ -116,7 +116,7 @@ pub record KeepsPage {Found : Type 0} (rule : Rule Found) (f : Profile) (page : 
 -- the steps of one call of a back end on the page
 pub record ServeSteps {Found : Type 0} (rule : Rule Found) (f : Profile) (page : ℕ) (d : Directory) (steps : List Made) (answer : Option Found) : Type 0 where
   pub only : OnlyServes page steps
-  pub hints : Always HintsEmpty steps
+  pub due : Always GivesDuly steps
   pub few : (k : ℕ) (v : View) → length (events_by k v steps) ≤ rule.events
   pub short : length steps ≤ rule.steps
   pub outcome : MatchOption answer (LeavesPage rule f page d steps) (KeepsPage rule f page d steps)

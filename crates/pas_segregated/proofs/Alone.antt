@@ -5,7 +5,7 @@ use Rattle.pas_profile.specs.declared.event.NoRoom.{NoRoom}
 use Rattle.pas_steps.specs.Desks.{Standing, triples}
 use Rattle.pas_steps.specs.Evidence.{IsAntitone}
 use Rattle.pas_steps.specs.Lists.{Whole, part, Legal}
-use Rattle.pas_core.proofs.OneActorRights.{legal_earlier}
+use Rattle.pas_core.proofs.OneActor.{legal_earlier}
 use Rattle.pas_search.specs.Alone.{FindsWhatThereIs}
 use Rattle.pas_search.specs.Searches.{MaySearch, IsRefused}
 use Rattle.pas_search.proofs.Alone.{finds_what_there_is}

@@ -46,7 +46,7 @@ module _ (class page : ℕ) (d : Directory) (is : IsClass class) (starts : Mask4
     keeps = took.keeps;
     read = took.read;
     held = took.held;
-    hints = took.hints;
+    due = took.due;
     marks = λ some. took.marks (has_slot some);
   }
 

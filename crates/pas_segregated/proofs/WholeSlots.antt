@@ -12,11 +12,11 @@ use Rattle.pas_rights.specs.PutsBack.{MayPutAndReturn, giving_back, PutsAndRetur
 use Rattle.pas_rights.specs.Returns.{ReturnSteps}
 use Rattle.pas_rights.specs.Takes.{GetsGrains, taken, TakesMask, takes}
 use Rattle.pas_rights.specs.Words.{words}
-use Rattle.pas_rights.proofs.Hints.{hints_both, hints_none, back_hints}
+use Rattle.pas_rights.proofs.Hints.{due_none, back_due}
 use Rattle.pas_rights.proofs.Orders.{return_returns}
 use Rattle.pas_rights.proofs.Puts.{puts_kinds, some_put}
 use Rattle.pas_rights.proofs.PutsBack.{return_holds}
-use Rattle.pas_rights.proofs.Takes.{takes_only, takes_on, takes_keep, takes_few, takes_right, takes_leave, takes_held, takes_free, takes_read}
+use Rattle.pas_rights.proofs.Takes.{takes_only, takes_on, takes_keep, takes_few, takes_right, takes_leave, takes_got, takes_held, takes_free, takes_read}
 use Rattle.pas_rights.proofs.Words.{bit_of, bit_on, since_kept}
 use Rattle.pas_steps.specs.Views.{View, holds, has_right}
 use Rattle.pas_steps.specs.Agreement.{Agreed}
@@ -36,17 +36,13 @@ use Rattle.pas_search.specs.Kinds.{KeepsMarks}
 use Rattle.pas_search.specs.Serving.{MayServe, HoldsNone}
 use Rattle.pas_search.proofs.Returns.{keeps_marks, marks_after}
 use Rattle.pas_segregated.specs.Masks.{start_of}
-use Rattle.pas_segregated.specs.Takes.{AreUsable, AreFreeSlots, in_starts, slots_on, takes_since, TakesSlots}
+use Rattle.pas_segregated.specs.Takes.{AreUsable, AreFreeSlots, IsRest, in_starts, slots_on, takes_since, TakesSlots}
 use Rattle.pas_segregated.proofs.Starts.{start_at, start_below}
 use Rattle.pas_segregated.proofs.GivenUp.{back_count, takes_count, none_yet, back_holds, same_after}
 
 -- the starts are those of the slots all of whose grains are in the mask
 abbrev pub AreWhole : ℕ → Mask4 → Mask4 → Type 0
 AreWhole class got starts = (s : ℕ) → IsTrue (is_set starts s) ↔ (IsSlotStart class s × AreSet got s (class_grains class))
-
--- the rest of the mask without the grains of these slots
-abbrev pub IsRest : ℕ → Mask4 → Mask4 → Mask4 → Type 0
-IsRest class got starts rest = (g : ℕ) → g < 256 → is_set rest g ≡ (is_set got g && not (in_starts class starts g))
 
 pub rest_is : (class : ℕ) (got starts kept others rest : Mask4) → ((g : ℕ) → is_set kept g ≡ is_set starts (start_of class g)) → ((g : ℕ) → g < 256 → is_set others g ≡ not (is_set kept g)) → ((g : ℕ) → is_set rest g ≡ (is_set got g && is_set others g))
     → IsRest class got starts rest
@@ -99,6 +95,9 @@ module _ (class page : ℕ) (d : Directory) (is : IsClass class) {σ σ1 : Stand
   rest_is_other : (g : ℕ) → masked page rest g ≡ (masked page got g && not (slots_on page class starts g))
   rest_is_other g = others (page == g / 256) (is_set got (g % 256)) (in_starts class starts (g % 256)) (is_set rest (g % 256)) (rests (g % 256) (omega arith))
 
+  rest_got : (g : ℕ) → masked page rest g ≡ true → masked page got g ≡ true
+  rest_got g here = (and_parts (masked page got g) (not (slots_on page class starts g)) (sym (rest_is_other g) ∙ here)).0
+
   first_call : Calls σ σ1 (MayServe page d) (GetsGrains (masked page got)) first
   first_call = call_as (GetsGrains (masked page got)) took.calls (λ v met. met.right) (λ v w met gets. gets)
 
@@ -106,7 +105,7 @@ module _ (class page : ℕ) (d : Directory) (is : IsClass class) {σ σ1 : Stand
   may_put_back v met gets = let clear = gets.does.clear page met.clear in record {
     deed = deeds_same (Taking ∷ []) refl page first v (takes_only page (words usable) (words took.answers) 4) ∙ met.deed;
     puts = record {
-      held = λ g here. gets.does.held g ∙ ap (λ t. now (if t then Gained else Kept) (holds v g)) (and_parts (masked page got g) (not (slots_on page class starts g)) (sym (rest_is_other g) ∙ here)).0;
+      held = λ g here. gets.does.held g ∙ ap (λ t. now (if t then Gained else Kept) (holds v g)) (rest_got g here);
       stamped = clear.stamped;
     };
   }
@@ -216,7 +215,7 @@ module _ (class page : ℕ) (d : Directory) (is : IsClass class) {σ σ1 : Stand
         ),
       );
       keeps = always_both (λ m before. GivesUp page m.step → ⊥) (λ m before. GivesUp page m.step → ⊥) back.steps first (λ m before h. h) back_keeps (takes_keep page (words usable) (words took.answers) 4);
-      hints = hints_both back.steps first (back_hints page d rest back.steps back.order) (hints_none (Taking ∷ []) first refl (takes_only page (words usable) (words took.answers) 4));
+      due = back_due page d rest first (λ g here. takes_got page usable took.answers got took.got_is g (rest_got g here)) (due_none (Taking ∷ []) first refl (takes_only page (words usable) (words took.answers) 4)) back.steps back.order;
       marks = marks_kept;
       takes = λ before newest. ap (takes_since page) (append_assoc back.steps first before) ∙ back_count page back.steps (first ++ before) back.kinds ∙ takes_count page (words usable) (words took.answers) 4 before (none_yet page before newest);
       read = λ before met w lt. subst (Since (ShowsHere page w (is_set took.answers)) (KeptHere page)) (sym (append_assoc back.steps first before))

@@ -1,12 +1,12 @@
 -- The slots of a page that are taken.
-use Rattle.std.specs.Prelude.{ℕ, ◌/◌, ◌%◌, ◌<◌, ◌≤◌, ◌≡◌, ◌==◌, ◌↔◌, IsTrue, Bool, true, ◌&&◌, if◌then◌else◌, List, [], ◌∷◌, ◌++◌, length}
+use Rattle.std.specs.Prelude.{ℕ, ◌/◌, ◌%◌, ◌<◌, ◌≤◌, ◌≡◌, ◌==◌, ◌↔◌, IsTrue, Bool, true, not, ◌&&◌, if◌then◌else◌, List, [], ◌∷◌, ◌++◌, length}
 use Rattle.pas_profile.specs.Classes.{has_bit, is_usable, class_grains, IsSlotStart}
 use Rattle.pas_profile.specs.declared.directory.Directory.{Directory}
 use Rattle.pas_profile.specs.declared.directory.Kind.TheVariants as Kind
 use Rattle.pas_bits.specs.declared.mask.Mask4.{Mask4}
 use Rattle.pas_bits.specs.Masks.{is_set, IsEmpty, HasMember}
-use Rattle.pas_rights.specs.Looks.{AllFree, HintsEmpty}
-use Rattle.pas_rights.specs.PutsBack.{taking_grains}
+use Rattle.pas_rights.specs.Looks.{AllFree}
+use Rattle.pas_rights.specs.PutsBack.{taking_grains, GivesDuly}
 use Rattle.pas_rights.specs.Takes.{GetsGrains, takes}
 use Rattle.pas_rights.specs.Words.{words}
 use Rattle.pas_steps.specs.Views.{View, known_free}
@@ -44,6 +44,10 @@ in_starts class starts g = is_set starts (start_of class g)
 -- the grain, a number of the region, is of one of the slots on the page
 abbrev pub slots_on : ℕ → ℕ → Mask4 → ℕ → Bool
 slots_on page class starts g = (page == g / 256) && in_starts class starts (g % 256)
+
+-- the rest of what was got, without the grains of these slots
+abbrev pub IsRest : ℕ → Mask4 → Mask4 → Mask4 → Type 0
+IsRest class got starts rest = (g : ℕ) → g < 256 → is_set rest g ≡ (is_set got g && not (in_starts class starts g))
 
 -- ---- the takes of a page since its right was got, by a claim or a deed
 -- those after this step, with this answer
@@ -95,7 +99,7 @@ pub record TakesSlots (class page : ℕ) (d : Directory) (desk desk' : Standing)
   pub held : Leads desk.seat.profile (MayServe page d) (ReadsNoneHeld page (is_set answers)) steps
   pub all_free : (v : View) → Agreed desk.seat.profile v steps → ((g : ℕ) → g / 256 ≡ page → known_free v g ≡ true) → HasMember starts
   pub keeps : KeepsRight page steps
-  pub hints : Always HintsEmpty steps
+  pub due : Always GivesDuly steps
   pub marks : HasMember starts → Always (KeepsMarks page) steps
   pub takes : (before : List Made) → IsJustGot page before → takes_since page (steps ++ before) ≡ takes page (words usable) (words answers) 4
   pub read : (before : List Made) → GotBefore page before → (word : ℕ) → word < 4 → Since (ShowsHere page word (is_set answers)) (KeptHere page) (steps ++ before)

@@ -1,25 +1,27 @@
-use Rattle.std.proofs.Common.{◌+◌, length, subst, refl, ◌∙◌, arith}
+use Rattle.std.proofs.Common.{◌+◌, ◌≤◌, length, subst, sym, refl, ◌∙◌, arith}
 use Rattle.pas_search.proofs.ForBackEnds.{room_after}
 use Rattle.pas_large.specs.Gives.{BacksRun}
-use Rattle.pas_large.proofs.Claims.{run_page, pages_call}
-use Rattle.pas_large.proofs.Gives.{backed_none, can_back, backed_more, back_events}
+use Rattle.pas_large.proofs.Claims.{pages_call}
+use Rattle.pas_large.proofs.Gives.{backed_none, can_back_next, backed_more, back_events}
 use Rattle.pas_large.proofs.giving.back_run.Goals as goal
 
 pub loop-page-init : goal.loop-page-init
 loop-page-init g c = record { so_far = backed_none c.args.directory c.args.first; home = refl }
 
-pub back-requires-clause-can : goal.back-requires-clause-can
-back-requires-clause-can g c = let i = c.loop-page.invariant in
-    can_back c.args.directory c.args.first c.args.end c.loop-page.page c.loop-page.auto.page c.loop-page-test.true i.so_far c.requires.can (run_page (g.D.Desk.standing c.args.desk.now).seat.profile c.args.first c.args.end c.loop-page.page c.requires.first c.requires.region c.loop-page.auto.page c.loop-page-test.true)
+pub back_page-requires-clause-region : goal.back_page-requires-clause-region
+back_page-requires-clause-region g c = subst (λ s. c.args.end ≤ s.profile.pages + 1) (sym c.loop-page.invariant.so_far.calls.adds.seat_is) c.requires.region
 
-pub back-requires-clause-room : goal.back-requires-clause-room
-back-requires-clause-room g c = let i = c.loop-page.invariant in let few = i.so_far.few in let room = c.requires.room in let low = c.loop-page.auto.page in let test = c.loop-page-test.true in
+pub back_page-requires-clause-can : goal.back_page-requires-clause-can
+back_page-requires-clause-can g c = let i = c.loop-page.invariant in can_back_next c.args.directory c.args.first c.args.end c.loop-page.page c.loop-page.auto.page c.loop-page-test.true i.so_far c.requires.can
+
+pub back_page-requires-clause-room : goal.back_page-requires-clause-room
+back_page-requires-clause-room g c = let i = c.loop-page.invariant in let few = i.so_far.few in let room = c.requires.room in let low = c.loop-page.auto.page in let test = c.loop-page-test.true in
     room_after {spare = g.D.Desk.spare_of c.args.desk.now} {spare' = g.D.Desk.spare_of c.loop-page.desk} 1 (length i.so_far.steps) (pages_call c.args.directory c.args.first c.loop-page.page c.args.end (omega (arith, test)) i.so_far.calls).adds c.requires.can
     (λ k v. back_events k v i.so_far.steps) (g.met.D.Desk.spares c.args.desk.now) (g.met.D.Desk.spares c.loop-page.desk) (omega (arith, few, room, test, low))
 
 pub loop-page-preserved : goal.loop-page-preserved
 loop-page-preserved g c = let i = c.loop-page.invariant in
-    record { so_far = backed_more c.args.directory c.args.first (c.loop-page.page + 1) c.loop-page.page c.loop-page.auto.page (omega arith) i.so_far refl c.back.result c.back.ensures.makes; home = c.back.ensures.home ∙ i.home }
+    record { so_far = backed_more c.args.directory c.args.first (c.loop-page.page + 1) c.loop-page.page c.loop-page.auto.page (omega arith) i.so_far refl c.back_page.ensures.backs.0 c.back_page.ensures.backs.1; home = c.back_page.ensures.home ∙ i.home }
 
 pub returns-clause-backs : goal.returns-clause-backs
 returns-clause-backs g c = let past = c.loop-page-test.false in let most = c.loop-page.auto.page-end c.requires.span in

@@ -1,16 +1,19 @@
-use Rattle.std.proofs.Common.{refl, ◌∙◌, subst, arith}
+use Rattle.std.proofs.Common.{◌≤◌, ◌+◌, refl, ◌∙◌, subst, sym, arith}
 use Rattle.pas_large.specs.Claims.{ClaimsPages}
-use Rattle.pas_large.proofs.Claims.{pages_none, may_claim, page_call, room_after, won_turn, lost_turn, broken_turn}
+use Rattle.pas_large.proofs.Claims.{pages_none, may_claim, rest_call, room_after, won_turn, lost_turn, broken_turn}
 use Rattle.pas_large.proofs.running.claim_pages.Goals as goal
 
 pub loop-page-init : goal.loop-page-init
 loop-page-init g c = record { below = pages_none c.args.deeds c.args.directory c.args.first; home = refl }
 
-pub claim_page-requires-clause-can : goal.claim_page-requires-clause-can
-claim_page-requires-clause-can g c = let i = c.loop-page.invariant in page_call c.args.deeds c.args.directory c.args.first c.args.end c.loop-page.page c.loop-page-test.true i.below (may_claim c.args.end (omega arith) c.requires.can)
+pub claim_lowest-requires-clause-region : goal.claim_lowest-requires-clause-region
+claim_lowest-requires-clause-region g c = subst (λ s. c.args.end ≤ s.profile.pages + 1) (sym c.loop-page.invariant.below.so_far.adds.seat_is) c.requires.region
 
-pub claim_page-requires-clause-room : goal.claim_page-requires-clause-room
-claim_page-requires-clause-room g c = let i = c.loop-page.invariant in let test = c.loop-page-test.true in
+pub claim_lowest-requires-clause-can : goal.claim_lowest-requires-clause-can
+claim_lowest-requires-clause-can g c = let i = c.loop-page.invariant in rest_call c.args.deeds c.args.directory c.args.first c.args.end c.loop-page.page c.loop-page-test.true i.below (may_claim c.args.end (omega arith) c.requires.can)
+
+pub claim_lowest-requires-clause-room : goal.claim_lowest-requires-clause-room
+claim_lowest-requires-clause-room g c = let i = c.loop-page.invariant in let test = c.loop-page-test.true in
     let room = room_after {spare = g.D.Desk.spare_of c.args.desk.now} 1 i.below.so_far.adds (may_claim c.loop-page.page (omega (arith, test)) c.requires.can) i.below.so_far.shows c.requires.can.met.room (g.met.D.Desk.spares c.args.desk.now) (g.met.D.Desk.spares c.loop-page.desk) in omega (arith, room)
 
 pub loop-page-preserved : goal.loop-page-preserved

@@ -9,4 +9,4 @@ pub release-requires-clause-can : goal.release-requires-clause-can
 release-requires-clause-can g c = release_call c.args.deeds c.args.directory c.args.first c.args.end c.claim_pages-stop.result c.if-stop-end.false c.claim_pages-stop.ensures.claims (may_claim c.args.end (omega arith) c.requires.can)
 
 pub returns-clause-claims : goal.returns-clause-claims
-returns-clause-claims g c = run_failed c.args.deeds c.args.directory c.args.first c.args.end c.claim_pages-stop.result c.if-stop-end.false c.claim_pages-stop.ensures.claims c.release.ensures.releases
+returns-clause-claims g c = run_failed c.args.deeds c.args.directory c.args.first c.args.end c.claim_pages-stop.result c.if-stop-end.false c.claim_pages-stop.ensures.claims (may_claim c.args.end (omega arith) c.requires.can) c.release.ensures.releases
