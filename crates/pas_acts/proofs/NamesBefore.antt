@@ -1,18 +1,23 @@
 -- What each thread knows of the names when a phase begins.
-use Rattle.std.proofs.Common.{◌≡◌, ℕ, ◌≤◌, ◌==◌, ◌||◌, Bool, true, false, if◌then◌else◌, inl, inr, List, [], ◌∷◌, ◌++◌, length, Option, Some, None, refl, ap, sym, ◌∙◌, subst, arith, length-append}
+use Rattle.std.proofs.Common.{◌≡◌, ℕ, ◌<◌, ◌≤◌, ◌==◌, ◌||◌, Bool, true, false, if◌then◌else◌, inl, inr, List, [], ◌∷◌, ◌++◌, length, Option, Some, None, refl, ap, sym, ◌∙◌, subst, arith, length-append}
+use Rattle.std.specs.Prelude.{MatchOption}
 use Rattle.std.proofs.lemmas.Bool.{ne_eqb, eq-eqb, cases_eq, true≢false, or_parts}
 use Rattle.pas_profile.specs.declared.profile.Profile.{Profile}
 use Rattle.pas_profile.specs.declared.name.Name.{Name}
 use Rattle.pas_trace.proofs.Costs.{some_cost}
-use Rattle.pas_trace.specs.EveryPlan.{is_asked, asked_after, asked_by, AreSound, IsSoundWhat, IsActorOf, IsThread}
+use Rattle.pas_trace.specs.Asked.{work_of, of_task, request_of, freed_of, request_in}
+use Rattle.pas_trace.specs.EveryPlan.{is_asked, asked_with, asked_after, asked_by, AreSound, IsSoundTask, IsSoundWork, IsActorBy, IsThread}
 use Rattle.pas_trace.specs.EveryPhase.{FreesItsOwn}
 use Rattle.pas_trace.specs.declared.plan.What.{What}
-use Rattle.pas_trace.specs.declared.plan.What.TheVariants.{Alloc, Free, Raw, Flush, Stop, Tick, Pass, Idle}
+use Rattle.pas_trace.specs.declared.plan.What.TheVariants.{Alloc}
+use Rattle.pas_trace.specs.declared.item.Request.{Request}
+use Rattle.pas_trace.specs.declared.plan.Task.{Task}
+use Rattle.pas_trace.specs.declared.plan.Work.{Work}
 use Rattle.pas_trace.specs.declared.plan.Op.{Op}
 use Rattle.pas_answers.specs.Acts.{Act, Operates, Settles, own_acts}
 use Rattle.pas_answers.specs.Answers.{Named, standing_for, Progress}
 use Rattle.pas_answers.specs.Calls.{block_behind, HasTurn}
-use Rattle.pas_answers.specs.Fit.{IsFitWhat, AreFit, IsBelow, AreBelow, cost_of_what, own_costs_of}
+use Rattle.pas_answers.specs.Fit.{IsFitTask, IsFitWork, IsFitWhat, AreFit, AreBelow, cost_of_what, own_costs_of}
 use Rattle.pas_answers.specs.Names.{block_named, names_held}
 use Rattle.pas_answers.specs.Replays.{at_start}
 use Rattle.pas_answers.specs.declared.names.Names.{Names}
@@ -43,29 +48,24 @@ or_false : (s t : Bool) → s ≡ false → t ≡ false → s || t ≡ false
 or_false true t one two = one
 or_false false t one two = two
 
-smaller_after : (what : What) (few many : List ℕ) → IsSmaller few many → IsSmaller (asked_after what few) (asked_after what many)
-smaller_after (Alloc name heap size align) few many small n none = let both = or_parts (name == n) (is_asked many n) none in or_false (name == n) (is_asked few n) both.0 (small n both.1)
-smaller_after (Free name) few many small n none = small n none
-smaller_after (Raw block) few many small n none = small n none
-smaller_after Flush few many small n none = small n none
-smaller_after Stop few many small n none = small n none
-smaller_after (Tick epoch) few many small n none = small n none
-smaller_after Pass few many small n none = small n none
-smaller_after (Idle m) few many small n none = small n none
+smaller_after : (request : Option Request) (few many : List ℕ) → IsSmaller few many → IsSmaller (asked_with request few) (asked_with request many)
+smaller_after None few many small n none = small n none
+smaller_after (Some r) few many small n none = let both = or_parts (r.name == n) (is_asked many n) none in or_false (r.name == n) (is_asked few n) both.0 (small n both.1)
 
 smaller_if : (t : Bool) (what : What) (few many : List ℕ) → IsSmaller few many → IsSmaller (if t then asked_after what few else few) (asked_after what many)
-smaller_if true what few many small n none = smaller_after what few many small n none
+smaller_if true what few many small n none = smaller_after (request_in what) few many small n none
 smaller_if false what few many small n none = small n (not_before what many n none).1
 
-fit_what : (f : Profile) (limit k : ℕ) (few many : List ℕ) (what : What) → 1 ≤ k → IsSmaller few many → IsActorOf f what k → IsSoundWhat f many what → IsBelow limit what → ((n : ℕ) → what ≡ Free n → is_asked few n ≡ true) → IsThread f k × IsFitWhat f limit few what
-fit_what f limit k few many (Alloc name heap size align) some small actor sound below frees = (actor, (below, sound.0, small name sound.1))
-fit_what f limit k few many (Free name) some small actor sound below frees = (actor, frees name refl)
-fit_what f limit k few many (Raw block) some small actor sound below frees = (actor, sound)
-fit_what f limit k few many Flush some small actor sound below frees = (actor, tt)
-fit_what f limit k few many Stop some small actor sound below frees = (actor, tt)
-fit_what f limit k few many (Tick epoch) some small actor sound below frees = absurd (omega (arith, some, actor))
-fit_what f limit k few many Pass some small actor sound below frees = absurd (omega (arith, some, actor))
-fit_what f limit k few many (Idle n) some small actor sound below frees = absurd (omega (arith, some, actor))
+fit_task : (f : Profile) (limit : ℕ) (few many : List ℕ) (task : Task) → IsSmaller few many → IsSoundTask f many task → MatchOption (request_of task) (Unit {0}) (λ r. r.name < limit) → MatchOption (freed_of task) (Unit {0}) (λ n. is_asked few n ≡ true)
+    → IsFitTask f limit few task
+fit_task f limit few many (Task.Request name heap size align) small sound below frees = (below, sound.0, small name sound.1)
+fit_task f limit few many (Task.Free name) small sound below frees = frees
+fit_task f limit few many task small sound below frees = sound
+
+fit_work : (f : Profile) (limit k : ℕ) (few many : List ℕ) (work : Work) → 1 ≤ k → IsSmaller few many → IsActorBy f work k → IsSoundWork f many work → MatchOption (of_task request_of work) (Unit {0}) (λ r. r.name < limit)
+    → MatchOption (of_task freed_of work) (Unit {0}) (λ n. is_asked few n ≡ true) → IsThread f k × IsFitWork f limit few work
+fit_work f limit k few many (Work.Own task) some small actor sound below frees = (actor, fit_task f limit few many task small sound below frees)
+fit_work f limit k few many (Work.Chore chore) some small actor sound below frees = absurd (omega (arith, some, actor))
 
 fit_if : (t : Bool) (f : Profile) (limit : ℕ) (asked : List ℕ) (op : Op) (acts : List Act) → (t ≡ true → IsThread f op.actor × IsFitWhat f limit asked op.what) → AreFit f limit (if t then asked_after op.what asked else asked) acts
     → AreFit f limit asked (if t then Operates op ∷ (Settles op.actor ∷ acts) else acts)
@@ -79,19 +79,13 @@ own_fit f limit k few many (op ∷ ops) some small sound below frees =
     fit_if t f limit few op (own_acts k ops)
     (λ is.
     let same = is_same op.actor k is in
-    fit_what f limit op.actor few many op.what (omega (arith, some, same)) small sound.0 sound.1 below.0 (λ n free. frees.0 n same free))
+    fit_work f limit op.actor few many (work_of op.what) (omega (arith, some, same)) small sound.0 sound.1 below.0 (frees.0 same))
     (own_fit f limit k (if t then asked_after op.what few else few) (asked_after op.what many) ops some (smaller_if t op.what few many small) sound.2 below.1 frees.1)
 
 -- ---- there is room for its requests
 few_asked : (what : What) → length (name_asked what) ≤ cost_of_what what
 few_asked (Alloc name heap size align) = let one = some_cost size in omega (arith, one)
-few_asked (Free name) = omega arith
-few_asked (Raw block) = omega arith
-few_asked Flush = omega arith
-few_asked Stop = omega arith
-few_asked (Tick epoch) = omega arith
-few_asked Pass = omega arith
-few_asked (Idle n) = omega arith
+few_asked what = omega arith
 
 pub own_asked : (k : ℕ) (ops : List Op) → length (names_asked (own_acts k ops)) ≤ own_costs_of k (own_acts k ops)
 own_asked k [] = omega arith

@@ -1,11 +1,13 @@
 -- The places of the names of a phase's operations, one after the other.
-use Rattle.std.proofs.Common.{◌≡◌, ◌≢◌, ℕ, zero, suc, ◌+◌, ◌<◌, ◌≤◌, ◌==◌, ◌||◌, Bool, true, false, if◌then◌else◌, inl, inr, List, [], ◌∷◌, ◌++◌, length, take, replicate, get_or, refl, ap, sym, ◌∙◌, subst, arith, length-append, append_assoc}
+use Rattle.std.proofs.Common.{◌≡◌, ◌≢◌, ℕ, zero, suc, ◌+◌, ◌<◌, ◌≤◌, ◌==◌, ◌||◌, Bool, true, false, if◌then◌else◌, inl, inr, List, [], ◌∷◌, ◌++◌, length, take, replicate, get_or, Option, Some, None, refl, ap, sym, ◌∙◌, subst, arith, length-append, append_assoc}
 use Rattle.std.proofs.lemmas.List.{take_more, length-take, append-nil, get_or-replicate, length-replicate, get_or_past}
 use Rattle.std.proofs.lemmas.Bool.{cases_lt, ne_eqb, eq-eqb, cases_eq, true≢false, or_parts}
 use Rattle.pas_profile.specs.declared.profile.Profile.{Profile}
-use Rattle.pas_trace.specs.EveryPlan.{is_asked, asked_after, asked_by, AreSound, IsSoundWhat}
+use Rattle.pas_trace.specs.Asked.{request_in}
+use Rattle.pas_trace.specs.EveryPlan.{is_asked, asked_with, asked_after, asked_by, AreSound, IsSoundWhat}
 use Rattle.pas_trace.specs.declared.plan.What.{What}
-use Rattle.pas_trace.specs.declared.plan.What.TheVariants.{Alloc, Free, Raw, Flush, Stop, Tick, Pass, Idle}
+use Rattle.pas_trace.specs.declared.plan.What.TheVariants.{Alloc}
+use Rattle.pas_trace.specs.declared.item.Request.{Request}
 use Rattle.pas_trace.specs.declared.plan.Op.{Op}
 use Rattle.pas_answers.specs.Acts.{Act, Operates, Settles, own_acts}
 use Rattle.pas_answers.specs.Fit.{IsBelow, AreBelow}
@@ -38,15 +40,9 @@ asks_last k (o ∷ ops) op =
     asks_more k o (ops ++ op ∷ []) ∙ ap (λ (ns : List ℕ). first ++ ns) (asks_last k ops op) ∙ sym (append_assoc first (asks k ops) (if op.actor == k then name_asked op.what else []))
     ∙ ap (λ (ns : List ℕ). ns ++ (if op.actor == k then name_asked op.what else [])) (sym (asks_more k o ops))
 
-one_at_most : (what : What) → length (name_asked what) ≤ 1
-one_at_most (Alloc name heap size align) = omega arith
-one_at_most (Free name) = omega arith
-one_at_most (Raw block) = omega arith
-one_at_most Flush = omega arith
-one_at_most Stop = omega arith
-one_at_most (Tick epoch) = omega arith
-one_at_most Pass = omega arith
-one_at_most (Idle n) = omega arith
+one_at_most : (request : Option Request) → length (asked_with request []) ≤ 1
+one_at_most None = omega arith
+one_at_most (Some r) = omega arith
 
 if_few : (t : Bool) (ns : List ℕ) → length ns ≤ 1 → length (if t then ns else []) ≤ 1
 if_few true ns few = few
@@ -56,7 +52,7 @@ asks_few : (k : ℕ) (ops : List Op) → length (asks k ops) ≤ length ops
 asks_few k [] = omega arith
 asks_few k (op ∷ ops) =
     let rest = asks_few k ops in
-    let one = if_few (op.actor == k) (name_asked op.what) (one_at_most op.what) in
+    let one = if_few (op.actor == k) (name_asked op.what) (one_at_most (request_in op.what)) in
     let both = ap (λ (ns : List ℕ). length ns) (asks_more k op ops) ∙ length-append (if op.actor == k then name_asked op.what else []) (asks k ops) in
     omega (arith, rest, one, both)
 
@@ -71,13 +67,7 @@ count_small k ops i lt =
 -- not asked for afterwards: neither before nor by the operation
 pub not_before : (what : What) (asked : List ℕ) (n : ℕ) → is_asked (asked_after what asked) n ≡ false → (is_asked (name_asked what) n ≡ false) × (is_asked asked n ≡ false)
 not_before (Alloc name heap size align) asked n none = let both = or_parts (name == n) (is_asked asked n) none in (ap (λ (t : Bool). t || false) both.0, both.1)
-not_before (Free name) asked n none = (refl, none)
-not_before (Raw block) asked n none = (refl, none)
-not_before Flush asked n none = (refl, none)
-not_before Stop asked n none = (refl, none)
-not_before (Tick epoch) asked n none = (refl, none)
-not_before Pass asked n none = (refl, none)
-not_before (Idle m) asked n none = (refl, none)
+not_before what asked n none = (refl, none)
 
 pub never_before : (ops : List Op) (asked : List ℕ) (n : ℕ) → is_asked (asked_by asked ops) n ≡ false → is_asked asked n ≡ false
 never_before [] asked n none = none
@@ -177,13 +167,7 @@ counted ops i d name heap size align k place old lt is here there =
 -- another operation asks for none
 pub no_request : (what : What) → ((a b c d : ℕ) → what ≡ Alloc a b c d → ⊥) → name_asked what ≡ []
 no_request (Alloc name heap size align) other = absurd (other name heap size align refl)
-no_request (Free name) other = refl
-no_request (Raw block) other = refl
-no_request Flush other = refl
-no_request Stop other = refl
-no_request (Tick epoch) other = refl
-no_request Pass other = refl
-no_request (Idle n) other = refl
+no_request what other = refl
 
 if_nothing : (t : Bool) (xs : List ℕ) → xs ++ (if t then [] else []) ≡ xs
 if_nothing true xs = append-nil xs

@@ -4,7 +4,7 @@ use Rattle.std.proofs.lemmas.List.{append-nil}
 use Rattle.std.proofs.lemmas.Bool.{ne_eqb, eq-eqb, cases_eq, false≢true}
 use Rattle.pas_profile.specs.declared.name.Name.{Name}
 use Rattle.pas_trace.specs.declared.plan.What.{What}
-use Rattle.pas_trace.specs.declared.plan.What.TheVariants.{Alloc, Free, Raw, Flush, Stop, Tick, Pass, Idle}
+use Rattle.pas_trace.specs.declared.plan.What.TheVariants.{Alloc}
 use Rattle.pas_answers.specs.Acts.{Act}
 use Rattle.pas_answers.specs.Answers.{Named, named, standing_for}
 use Rattle.pas_answers.specs.Calls.{block_behind, HasTurn, named_by}
@@ -41,13 +41,7 @@ asked_both (x ∷ xs) ys = ap (λ (ns : List ℕ). name_asked_by x ++ ns) (asked
 -- the names of what an operation came to are those that it asks for
 pub names_named : (what : What) (came : Option Name) → names_of (named_by what came) ≡ name_asked what
 names_named (Alloc name heap size align) came = refl
-names_named (Free name) came = refl
-names_named (Raw block) came = refl
-names_named Flush came = refl
-names_named Stop came = refl
-names_named (Tick epoch) came = refl
-names_named Pass came = refl
-names_named (Idle n) came = refl
+names_named what came = refl
 
 -- ---- places
 pub placed_both : (book : NameBook) (i : ℕ) (xs ys : List ℕ) → ArePlaced book i (xs ++ ys) → ArePlaced book i xs × ArePlaced book (i + length xs) ys
@@ -136,23 +130,11 @@ pub tells_more : (book : NameBook) (rs rs' : List Named) (what : What) (came : O
     → came_to (standing_for rs n) base ≡ block_behind (standing_for names n) → came_to (standing_for rs' n) base ≡ block_behind (standing_for (named_by what came ++ names) n)
 tells_more book rs rs' (Alloc name heap size align) came names ms n base is placed tells =
     came_as rs (named name came ∷ []) n base rs' is ∙ both_ways (name == n) (standing_for rs n) came base (standing_for names n) (not_yet book rs ms name n placed) tells
-tells_more book rs rs' (Free name) came names ms n base is placed tells = came_same rs rs' n base is ∙ tells
-tells_more book rs rs' (Raw block) came names ms n base is placed tells = came_same rs rs' n base is ∙ tells
-tells_more book rs rs' Flush came names ms n base is placed tells = came_same rs rs' n base is ∙ tells
-tells_more book rs rs' Stop came names ms n base is placed tells = came_same rs rs' n base is ∙ tells
-tells_more book rs rs' (Tick epoch) came names ms n base is placed tells = came_same rs rs' n base is ∙ tells
-tells_more book rs rs' Pass came names ms n base is placed tells = came_same rs rs' n base is ∙ tells
-tells_more book rs rs' (Idle m) came names ms n base is placed tells = came_same rs rs' n base is ∙ tells
+tells_more book rs rs' what came names ms n base is placed tells = came_same rs rs' n base is ∙ tells
 
 turn_same : (rs rs' : List Named) (n : ℕ) (base : Option Name) → rs' ≡ rs ++ [] → HasTurn (came_to (standing_for rs n) base) → HasTurn (came_to (standing_for rs' n) base)
 turn_same rs rs' n base is turn = subst HasTurn (sym (came_same rs rs' n base is)) turn
 
 pub turns_more : (rs rs' : List Named) (what : What) (came : Option Name) (n : ℕ) (base : Option Name) → rs' ≡ rs ++ named_by what came → HasTurn came → HasTurn (came_to (standing_for rs n) base) → HasTurn (came_to (standing_for rs' n) base)
 turns_more rs rs' (Alloc name heap size align) came n base is new old = subst HasTurn (sym (came_as rs (named name came ∷ []) n base rs' is)) (turn_either (name == n) (standing_for rs n) came base new old)
-turns_more rs rs' (Free name) came n base is new old = turn_same rs rs' n base is old
-turns_more rs rs' (Raw block) came n base is new old = turn_same rs rs' n base is old
-turns_more rs rs' Flush came n base is new old = turn_same rs rs' n base is old
-turns_more rs rs' Stop came n base is new old = turn_same rs rs' n base is old
-turns_more rs rs' (Tick epoch) came n base is new old = turn_same rs rs' n base is old
-turns_more rs rs' Pass came n base is new old = turn_same rs rs' n base is old
-turns_more rs rs' (Idle m) came n base is new old = turn_same rs rs' n base is old
+turns_more rs rs' what came n base is new old = turn_same rs rs' n base is old

@@ -1,3 +1,4 @@
 pub mod NameBooks
 pub mod Works
-pub mod Scavenges
+pub mod Turns
+pub mod AtDesks

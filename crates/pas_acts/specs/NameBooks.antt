@@ -4,11 +4,10 @@ use Rattle.std.specs.Prelude.{ℕ, zero, suc, ◌+◌, ◌<◌, ◌≡◌, ◌==
 use Rattle.pas_profile.specs.declared.profile.Profile.{Profile}
 use Rattle.pas_profile.specs.declared.name.Name.{Name}
 use Rattle.pas_profile.specs.Rooms.{Holding}
-use Rattle.pas_trace.specs.EveryPlan.{AreSound}
+use Rattle.pas_trace.specs.EveryPlan.{asked_after, AreSound}
 use Rattle.pas_trace.specs.declared.plan.What.{What}
 use Rattle.pas_trace.specs.declared.plan.Op.{Op}
-use Rattle.pas_trace.specs.declared.plan.What.TheVariants.{Alloc, Free, Raw, Flush, Stop, Tick, Pass, Idle}
-use Rattle.pas_answers.specs.Acts.{Act, Operates, Settles, Ticks, MakesPass, ReadsEpoch, StopsIdle, MarksPhase, Wakes, MarksClose, Ends}
+use Rattle.pas_answers.specs.Acts.{Act, asked_after_act}
 use Rattle.pas_answers.specs.Answers.{Named, named, standing_for, Progress}
 use Rattle.pas_answers.specs.Calls.{Tells, HasTurns, AreKnown, OnlyAsked}
 use Rattle.pas_answers.specs.Fit.{AreBelow}
@@ -43,26 +42,10 @@ request_at (r ∷ rs) (suc place) n = request_at rs place n
 
 -- the names that an operation asks for, and those of acts, in order
 abbrev pub name_asked : What → List ℕ
-name_asked (Alloc name heap size align) = name ∷ []
-name_asked (Free name) = []
-name_asked (Raw block) = []
-name_asked Flush = []
-name_asked Stop = []
-name_asked (Tick epoch) = []
-name_asked Pass = []
-name_asked (Idle n) = []
+name_asked what = asked_after what []
 
 abbrev pub name_asked_by : Act → List ℕ
-name_asked_by (Operates op) = name_asked op.what
-name_asked_by (Settles k) = []
-name_asked_by (Ticks epoch) = []
-name_asked_by MakesPass = []
-name_asked_by ReadsEpoch = []
-name_asked_by (StopsIdle k n) = []
-name_asked_by (MarksPhase n) = []
-name_asked_by (Wakes k) = []
-name_asked_by MarksClose = []
-name_asked_by (Ends k) = []
+name_asked_by act = asked_after_act act []
 
 abbrev pub names_asked : List Act → List ℕ
 names_asked [] = []

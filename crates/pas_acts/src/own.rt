@@ -8,11 +8,10 @@ ghost use Rattle.pas_answers.specs.Calls.{named_by, freed_by};
 ghost use Rattle.pas_acts.specs.NameBooks.{requests_in, room_for, names_of, name_asked, ArePlaced, known_in, table};
 ghost use Rattle.pas_acts.specs.Works.{keeps, Later, ThreadAt, Works};
 
+use crate::at_desk;
 use crate::gate::Gate;
 use crate::names::{NameBook, Request, Requests};
-use pas_answers::answer_meant;
 use pas_cache::ThreadCache;
-use pas_large::NoIndex;
 use pas_profile::Name;
 use pas_report::Records;
 use pas_steps::Desk;
@@ -43,7 +42,7 @@ fn keep(requests: &mut Requests, what: What, came: Option<Name>)
     }
 }
 
-/// Performs an operation of the desk's thread, and hands on the runs of large blocks that its cache noted.
+/// Performs an operation of the desk's thread. Its name is looked up and kept in book and requests.
 fn operate<D: Desk>(
     desk: &mut D,
     book: &NameBook,
@@ -58,9 +57,8 @@ fn operate<D: Desk>(
     ensures home { D.home desk.new ≡ D.home desk.old }
 {
     let meant = freed(book, requests, op.what);
-    let came = answer_meant(desk, cache, op.what, meant, out);
+    let came = at_desk::operate(desk, cache, op, meant, out);
     keep(requests, op.what, came);
-    cache.settle(&mut NoIndex);
 }
 
 /// Performs the operations of the desk's thread among those of a phase, in order, with the gate called round each.

@@ -27,10 +27,12 @@ use Rattle.pas_cache.specs.Caches.{Cached}
 use Rattle.pas_scavenger.specs.Passes.{passing}
 use Rattle.pas_passes.specs.Records.{records_of_pass}
 use Rattle.pas_answers.specs.Acts.{Act, Operates, Settles, Ticks, MakesPass, ReadsEpoch, StopsIdle, MarksPhase, Wakes, MarksClose, Ends, acts_of}
-use Rattle.pas_answers.specs.Answers.{Progress, having, with_records, records_of, said_by, stopped, epoch_look, IsStopped, after_answer, after_settling, after_wake, after_reading, after_tick, after_pass, after_stop, Follows}
+use Rattle.pas_answers.specs.Answers.{Progress, having, records_of, said_by, stopped, epoch_look, IsStopped, after_stop}
+use Rattle.pas_answers.specs.Reaching.{Advances, Reaches}
 use Rattle.pas_answers.specs.Refusals.{AreRefusalsTrue}
-use Rattle.pas_answers.specs.Replays.{at_start, phases_of, IsReplay}
+use Rattle.pas_answers.specs.Replays.{at_start, phases_of, IsReplay, region_of, threads_of}
 use Rattle.pas_answers.specs.Ways.{Way, IsOneOrder, arranged}
+use Rattle.pas_answers.proofs.Reached.{was_so}
 use Rattle.pas_answers.proofs.Parts.{Each, same_parts, legal_part, of_front, of_rest}
 use Rattle.pas_answers.proofs.Shown.{EachShown, each_both, each_arranged, piece_shown, records_shown, pass_shown, all_shown}
 use Rattle.pas_answers.proofs.Tidy.{Tidy, KeptPart, tidy_over, look_tidy, tick_tidy, stop_tidy, answer_tidy}
@@ -38,8 +40,7 @@ use Rattle.pas_answers.proofs.Requests.{known_directory}
 
 -- ---- the whole replay, by the parts of the actors
 -- what steps of the region and their records leave tidy and to be shown
-record Leaves (f : Profile) (l l' : Whole) (rs rs' : List Record) : Type 0 where
-  of : Each (AreOfRegion f) l
+record Leaves (l l' : Whole) (rs rs' : List Record) : Type 0 where
   tidy : Each Tidy l → Each Tidy l'
   shown : EachShown rs → EachShown rs'
 
@@ -49,57 +50,64 @@ tidy_piece k steps l all new j = elim (cases_eq k j) [
   | inr ne ↦ subst Tidy (sym (part_of_others j k steps l ne)) (all j)
 ]
 
-leaves_piece : (f : Profile) (k : ℕ) (steps : List Made) (more : List Record) (l l' : Whole) (rs rs' : List Record) → (AreOfRegion f steps → Tidy (part k l) → Tidy (steps ++ part k l)) → (AreOfRegion f steps → EachShown more)
-    → Leaves f (triples k steps ++ l) l' (rs ++ more) rs' → Leaves f l l' rs rs'
-leaves_piece f k steps more l l' rs rs' piece shows rest =
-    let own : AreOfRegion f steps = of_front f steps (part k l) (subst (AreOfRegion f) (part_of_own k steps l) (rest.of k)) in
-    record {
-      of = of_rest f k steps l rest.of;
-      tidy = λ all. rest.tidy (tidy_piece k steps l all (piece own (all k)));
-      shown = λ all. rest.shown (each_both rs more all (shows own));
-    }
+leaves_piece : (f : Profile) (k : ℕ) (steps : List Made) (more : List Record) (l : Whole) (rs : List Record) → (AreOfRegion f steps → Tidy (part k l) → Tidy (steps ++ part k l)) → (AreOfRegion f steps → EachShown more)
+    → Each (AreOfRegion f) (triples k steps ++ l) → Leaves l (triples k steps ++ l) rs (rs ++ more)
+leaves_piece f k steps more l rs piece shows all_of =
+    let own : AreOfRegion f steps = of_front f steps (part k l) (subst (AreOfRegion f) (part_of_own k steps l) (all_of k)) in
+    record { tidy = λ all. tidy_piece k steps l all (piece own (all k)); shown = λ all. each_both rs more all (shows own) }
 
-leaves_mark : (f : Profile) (mark : Record) (l l' : Whole) (rs rs' : List Record) → CanShow mark → Leaves f l l' (rs ++ mark ∷ []) rs' → Leaves f l l' rs rs'
-leaves_mark f mark l l' rs rs' can rest = record { of = rest.of; tidy = rest.tidy; shown = λ all. rest.shown (each_both rs (mark ∷ []) all (can, tt)) }
-
--- steps of the scavenger, whose kinds leave a view tidy
-leaves_scavenged : (f : Profile) (steps : List Made) (more : List Record) (l l' : Whole) (rs rs' : List Record) → (Tidy (part 0 l) → Tidy (steps ++ part 0 l)) → (AreOfRegion f steps → EachShown more)
-    → Leaves f (triples 0 steps ++ l) l' (rs ++ more) rs' → Leaves f l l' rs rs'
-leaves_scavenged f steps more l l' rs rs' piece shows rest = leaves_piece f 0 steps more l l' rs rs' (λ of. piece) shows rest
+leaves_mark : (mark : Record) (l : Whole) (rs : List Record) → CanShow mark → Leaves l l rs (rs ++ mark ∷ [])
+leaves_mark mark l rs can = record { tidy = λ all. all; shown = λ all. each_both rs (mark ∷ []) all (can, tt) }
 
 -- one look at the epoch, without a record
-leaves_look : (f : Profile) (k epoch : ℕ) (l l' : Whole) (rs rs' : List Record) → Leaves f (triples k (epoch_look epoch) ++ l) l' rs rs' → Leaves f l l' rs rs'
-leaves_look f k epoch l l' rs rs' rest =
-    record { of = of_rest f k (epoch_look epoch) l rest.of; tidy = λ all. rest.tidy (tidy_piece k (epoch_look epoch) l all (look_tidy Word.Epoch epoch (part k l) refl (all k))); shown = rest.shown }
+leaves_look : (k epoch : ℕ) (l : Whole) (rs : List Record) → Leaves l (triples k (epoch_look epoch) ++ l) rs rs
+leaves_look k epoch l rs = record { tidy = λ all. tidy_piece k (epoch_look epoch) l all (look_tidy Word.Epoch epoch (part k l) refl (all k)); shown = λ all. all }
+
+-- nothing
+leaves_all : (l : Whole) (rs : List Record) → Leaves l l rs rs
+leaves_all l rs = record { tidy = λ all. all; shown = λ all. all }
+
+-- ---- acts, the steps of which are of the region
+abbrev AreLeft : Profile → Progress → Progress → Type 0
+AreLeft f p q = Each (AreOfRegion f) q.list → Leaves p.list q.list p.records q.records
+
+left_at : (f : Profile) (p : Progress) {q r : Progress} → q ≡ r → AreLeft f p r → AreLeft f p q
+left_at f p is left = subst (λ (x : Progress). AreLeft f p x) (sym is) left
 
 -- thread k was stopped, and something is said besides
-leaves_stop : (f : Profile) (p : Progress) (k : ℕ) (steps : List Made) (c : Cached) (said : List Record) (l : Whole) (rs : List Record) → IsStopped k (p.caches k) c steps → EachShown said
-    → Leaves f (triples k steps ++ p.list) l (p.records ++ (records_of (events_by k (part k p.list) steps) ++ said)) rs → Leaves f p.list l p.records rs
-leaves_stop f p k steps c said l rs is shown rest =
+left_stopped : (f : Profile) (p : Progress) (k : ℕ) (steps : List Made) (c : Cached) (said : List Record) → IsStopped k (p.caches k) c steps → EachShown said → AreLeft f p (after_stop p k steps c said)
+left_stopped f p k steps c said is shown of =
     let v = part k p.list in
-    leaves_piece f k steps (records_of (events_by k v steps) ++ said) p.list l p.records rs (λ of tidy. stop_tidy f k (p.caches k) c steps v of is tidy)
-    (λ of. each_both (records_of (events_by k v steps)) said (records_shown f k steps v of) shown) rest
+    leaves_piece f k steps (records_of (events_by k v steps) ++ said) p.list p.records (λ own tidy. stop_tidy f k (p.caches k) c steps v own is tidy)
+    (λ own. each_both (records_of (events_by k v steps)) said (records_shown f k steps v own) shown) of
 
-leaves : (f : Profile) (acts : List Act) (p : Progress) (l : Whole) (rs : List Record) → Follows f acts p l rs → Each (AreOfRegion f) l → Leaves f p.list l p.records rs
-leaves f [] p l rs is of = record { of = subst (Each (AreOfRegion f)) is.0 of; tidy = λ all. subst (Each Tidy) (sym is.0) all; shown = λ all. subst EachShown (sym is.1) all }
-leaves f (MarksPhase n ∷ acts) p l rs is of = leaves_mark f (Record.Phase n) p.list l p.records rs tt (leaves f acts (with_records p (Record.Phase n ∷ [])) l rs is of)
-leaves f (MarksClose ∷ acts) p l rs is of = leaves_mark f Record.Close p.list l p.records rs tt (leaves f acts (with_records p (Record.Close ∷ [])) l rs is of)
-leaves f (Wakes k ∷ acts) p l rs is of = leaves_look f k is.0 p.list l p.records rs (leaves f acts (after_wake p k is.0) l rs is.1 of)
-leaves f (Operates op ∷ acts) p l rs is of =
+left_one : (f : Profile) (act : Act) (p q : Progress) → Advances f act p q → AreLeft f p q
+left_one f (MarksPhase n) p q did = left_at f p did (λ of. leaves_mark (Record.Phase n) p.list p.records tt)
+left_one f MarksClose p q did = left_at f p did (λ of. leaves_mark Record.Close p.list p.records tt)
+left_one f (Wakes k) p q did = left_at f p did.1 (λ of. leaves_look k did.0 p.list p.records)
+left_one f (Operates op) p q did =
     let k = op.actor in
     let v = part k p.list in
-    leaves_piece f k is.0.steps (records_of (events_by k v is.0.steps) ++ said_by k is.0.said) p.list l p.records rs (answer_tidy f k op.what (having p.names v (p.caches k)) is.0 is.1) (piece_shown f k is.0.steps is.0.said v)
-    (leaves f acts (after_answer p k is.0) l rs is.2 of)
-leaves f (Settles k ∷ acts) p l rs is of = leaves f acts (after_settling p k) l rs is of
-leaves f (Ticks asked ∷ acts) p l rs is of =
-    leaves_scavenged f (made (Tick asked) is.0 ∷ []) (Record.Said 0 (Said.Tick (max is.0 asked)) ∷ []) p.list l p.records rs (tick_tidy asked is.0 (part 0 p.list)) (λ of. (tt, tt)) (leaves f acts (after_tick p asked is.0) l rs is.1 of)
-leaves f (MakesPass ∷ acts) p l rs is of =
-    leaves_scavenged f is.2 (records_of_pass 0 is.0 is.1) p.list l p.records rs (tidy_over passing refl is.2 (part 0 p.list) is.3.kinds)
-    (λ of. pass_shown 0 is.0 is.1) (leaves f acts (after_pass p is.0 is.1 is.2) l rs is.4 of)
-leaves f (ReadsEpoch ∷ acts) p l rs is of = leaves_look f 0 is.0 p.list l p.records rs (leaves f acts (after_reading p is.0) l rs is.1 of)
-leaves f (StopsIdle k n ∷ acts) p l rs (inl is) of = leaves_stop f p k is.1 is.2 (stopped k) l rs is.3 (tt, tt) (leaves f acts (after_stop p k is.1 is.2 (stopped k)) l rs is.4 of)
-leaves f (StopsIdle k n ∷ acts) p l rs (inr is) of = leaves f acts p l rs is.1 of
-leaves f (Ends k ∷ acts) p l rs is of = leaves_stop f p k is.0 is.1 [] l rs is.2 tt (leaves f acts (after_stop p k is.0 is.1 []) l rs is.3 of)
+    let a = did.0 in
+    left_at f p did.2 (λ of. leaves_piece f k a.steps (records_of (events_by k v a.steps) ++ said_by k a.said) p.list p.records (answer_tidy f k op.what (having p.names v (p.caches k)) a did.1) (piece_shown f k a.steps a.said v) of)
+left_one f (Settles k) p q did = left_at f p did (λ of. leaves_all p.list p.records)
+left_one f (Ticks asked) p q did = left_at f p did.1
+    (λ of. leaves_piece f 0 (made (Tick asked) did.0 ∷ []) (Record.Said 0 (Said.Tick (max did.0 asked)) ∷ []) p.list p.records (λ own. tick_tidy asked did.0 (part 0 p.list)) (λ own. (tt, tt)) of)
+left_one f MakesPass p q did = left_at f p did.4
+    (λ of. leaves_piece f 0 did.2 (records_of_pass 0 did.0 did.1) p.list p.records (λ own. tidy_over passing refl did.2 (part 0 p.list) did.3.kinds) (λ own. pass_shown 0 did.0 did.1) of)
+left_one f ReadsEpoch p q did = left_at f p did.1 (λ of. leaves_look 0 did.0 p.list p.records)
+left_one f (StopsIdle k n) p q did = elim did [
+  | inl so ↦ left_at f p so.4 (left_stopped f p k so.1 so.2 (stopped k) so.3 (tt, tt))
+  | inr stays ↦ left_at f p stays.1 (λ of. leaves_all p.list p.records)
+]
+left_one f (Ends k) p q did = left_at f p did.3 (left_stopped f p k did.0 did.1 [] did.2 tt)
+
+left_by : (f : Profile) (acts : List Act) (p q : Progress) → Reaches f acts p q → Each (AreOfRegion f) q.list → Leaves p.list q.list p.records q.records
+left_by f [] p q is of = left_at f p is (λ same. leaves_all p.list p.records) of
+left_by f (act ∷ acts) p q is of =
+    let one = left_one f act p is.0 is.1 (was_so f (Each (AreOfRegion f)) (of_rest f) acts is.0 q is.2 of) in
+    let rest = left_by f acts is.0 q is.2 of in
+    record { tidy = λ all. rest.tidy (one.tidy all); shown = λ all. rest.shown (one.shown all) }
 
 later_kept : (t : Bool) (m : Made) (v : View) → KeptPart (if t then m ∷ v else v) → KeptPart v
 later_kept true m v all = all.1
@@ -112,14 +120,14 @@ parts_kept (t ∷ l) all = (
   parts_kept l (λ k. later_kept (t.actor == k) t.made (part k l) (all k)),
 )
 
-module _ (way : Way) (f : Profile) (acts : List Act) (told whole : Whole) (said : List Record) (answers : Follows f acts at_start told said) (one_order : IsOneOrder way told whole) (legal : Legal f whole) where
-  same : (k : ℕ) → part k whole ≡ part k told
-  same = same_parts way told whole one_order
+module _ (way : Way) (f : Profile) (acts : List Act) (reached : Progress) (whole : Whole) (answers : Reaches f acts at_start reached) (one_order : IsOneOrder way reached.list whole) (legal : Legal f whole) where
+  same : (k : ℕ) → part k whole ≡ part k reached.list
+  same = same_parts way reached.list whole one_order
 
-  left : Leaves f [] told [] said
-  left = leaves f acts at_start told said answers (λ k. subst (AreOfRegion f) (same k) (legal_part f whole k legal))
+  left : Leaves [] reached.list [] reached.records
+  left = left_by f acts at_start reached answers (λ k. subst (AreOfRegion f) (same k) (legal_part f whole k legal))
 
-  tidy : Each Tidy told
+  tidy : Each Tidy reached.list
   tidy = left.tidy (λ k. record { kept = tt; stamped = λ p. refl })
 
   -- THE STAMP of each page is the greatest epoch of an end there
@@ -129,28 +137,27 @@ module _ (way : Way) (f : Profile) (acts : List Act) (told whole : Whole) (said 
   }
 
   -- EACH RECORD can be shown
-  are_shown : EachShown said
+  are_shown : EachShown reached.records
   are_shown = left.shown tt
 
 pub can_be_shown : {way : Way} {plan : Plan} {whole : Whole} {records : List Record} → IsReplay way plan whole records → All CanShow records
 can_be_shown {way} {plan} {whole} {records} is =
-    let said = are_shown way plan.profile (acts_of plan.profile.threads (phases_of plan)) is.told whole is.said is.answers is.one_order is.legal in
-    subst (λ (rs : List Record). All CanShow rs) (sym is.records_are) (all_shown (arranged way plan.profile.threads is.said) (each_arranged way plan.profile.threads is.said said))
+    let said = are_shown way (region_of plan) (acts_of (threads_of plan) (phases_of plan)) is.reached whole is.answers is.one_order is.legal in
+    subst (λ (rs : List Record). All CanShow rs) (sym is.records_are) (all_shown (arranged way (region_of plan).threads is.reached.records) (each_arranged way (region_of plan).threads is.reached.records said))
 
-pub replays : (way : Way) (plan : Plan) (told whole : Whole) (said records : List Record) → IsValid plan.profile → (answers : Follows plan.profile (acts_of plan.profile.threads (phases_of plan)) at_start told said)
-    → IsOneOrder way told whole → records ≡ arranged way plan.profile.threads said → Legal plan.profile whole → ((k : ℕ) → HasNothing (part k whole))
-    → AreRefusalsTrue way plan.profile (acts_of plan.profile.threads (phases_of plan)) at_start told said answers → IsReplay way plan whole records
-replays way plan told whole said records valid answers one_order records_are legal nothing refusals = record {
-  told = told;
-  said = said;
+pub replays : (way : Way) (plan : Plan) (reached : Progress) (whole : Whole) (records : List Record) → IsValid (region_of plan) → (answers : Reaches (region_of plan) (acts_of (threads_of plan) (phases_of plan)) at_start reached)
+    → IsOneOrder way reached.list whole → records ≡ arranged way (region_of plan).threads reached.records → Legal (region_of plan) whole → ((k : ℕ) → HasNothing (part k whole))
+    → AreRefusalsTrue way (region_of plan) (acts_of (threads_of plan) (phases_of plan)) at_start reached answers → IsReplay way plan whole records
+replays way plan reached whole records valid answers one_order records_are legal nothing refusals = record {
+  reached = reached;
   answers = answers;
   one_order = one_order;
   records_are = records_are;
   legal = legal;
   nothing = nothing;
-  run = runs plan.profile whole valid legal;
-  deeds = λ k page d of knows. known_directory plan.profile whole k page d valid legal of knows;
-  stamps = stamps_are way plan.profile (acts_of plan.profile.threads (phases_of plan)) told whole said answers one_order legal valid;
-  marks = true_marks plan.profile whole valid legal nothing;
+  run = runs (region_of plan) whole valid legal;
+  deeds = λ k page d of knows. known_directory (region_of plan) whole k page d valid legal of knows;
+  stamps = stamps_are way (region_of plan) (acts_of (threads_of plan) (phases_of plan)) reached whole answers one_order legal valid;
+  marks = true_marks (region_of plan) whole valid legal nothing;
   refusals = refusals;
 }

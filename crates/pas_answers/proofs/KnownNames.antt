@@ -1,5 +1,5 @@
 -- A name that was asked for stands for something.
-use Rattle.std.proofs.Common.{◌≡◌, ℕ, ◌==◌, ◌||◌, Bool, true, false, if◌then◌else◌, List, ◌∷◌, Option, Some, refl, sym, subst}
+use Rattle.std.proofs.Common.{◌≡◌, ℕ, ◌==◌, ◌||◌, Bool, true, false, if◌then◌else◌, List, ◌∷◌, ◌++◌, Option, Some, refl, sym, subst}
 use Rattle.pas_profile.specs.declared.profile.Profile.{Profile}
 use Rattle.pas_profile.specs.declared.name.Name.{Name}
 use Rattle.pas_steps.specs.Views.{View}
@@ -8,7 +8,7 @@ use Rattle.pas_trace.specs.declared.plan.What.{What}
 use Rattle.pas_trace.specs.declared.plan.What.TheVariants.{Alloc, Free, Raw, Flush, Stop}
 use Rattle.pas_report.specs.declared.record.Said.{Said}
 use Rattle.pas_cache.specs.Caches.{Cached}
-use Rattle.pas_answers.specs.Calls.{AreKnown}
+use Rattle.pas_answers.specs.Calls.{AreKnown, named_by}
 use Rattle.pas_answers.specs.Answers.{name_of, having, answer_of, Named, standing_for, IsAnswered}
 use Rattle.pas_trace.specs.EveryPlan.{is_asked, asked_after}
 
@@ -29,3 +29,8 @@ known_after f k (Raw block) asked names names' l c c' steps said answered known 
 known_after f k Flush asked names names' l c c' steps said answered known = same_names asked answered.2 known
 known_after f k Stop asked names names' l c c' steps said answered known = same_names asked answered.2 known
 known_after f k what asked names names' l c c' steps said answered known = absurd answered
+
+-- the name that an operation asked for stands for what it came to
+pub known_more : (what : What) (came : Option Name) (asked : List ℕ) (names : List Named) → AreKnown asked names → AreKnown (asked_after what asked) (named_by what came ++ names)
+known_more (Alloc name heap size align) came asked names known = λ n is. one_more (name == n) came (standing_for names n) (is_asked asked n) (known n) is
+known_more what came asked names known = known

@@ -5,6 +5,7 @@ pub mod Kept
 mod Records
 pub mod OwnRecords
 pub mod KnownNames
+pub mod Reached
 mod Parts
 mod Shown
 mod Tidy

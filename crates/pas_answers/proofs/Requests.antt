@@ -16,9 +16,8 @@ use Rattle.pas_profile.specs.declared.word.Word.TheVariants as Word
 use Rattle.pas_profile.proofs.Codecs.{same_from_deed_word, directory_from_profile, deed_word_of-positive}
 use Rattle.pas_machine.specs.State.{deed_in}
 use Rattle.pas_core.specs.Good.{word_of_deed}
-use Rattle.pas_core.proofs.DeedWords.{known_is}
-use Rattle.pas_core.proofs.Deeds.{deed_of, directory_is_of}
-use Rattle.pas_core.proofs.Knowledge.{deeds_known}
+use Rattle.pas_core.proofs.Deeds.{known_is, deed_of, directory_is_of}
+use Rattle.pas_core.proofs.Rights.{deeds_known}
 use Rattle.pas_steps.specs.declared.step.Made.{Made}
 use Rattle.pas_steps.specs.Views.{View, known_deed, KnowsDeed}
 use Rattle.pas_steps.specs.Events.{events_by}

@@ -1,4 +1,4 @@
--- Which steps and records answer the acts of a replay.
+-- Which steps and records answer an operation, and how far a replay has come after an act.
 use Rattle.std.specs.Prelude.{ℕ, ◌+◌, ◌/◌, ◌%◌, ◌≡◌, ◌≤◌, ◌==◌, ◌⊎◌, true, if◌then◌else◌, List, [], ◌∷◌, ◌++◌, map, max, reverse, Option, None, Some, Result, Ok, Err, MatchResult}
 use Rattle.std.specs.List.{AllByRecursion}
 use Rattle.pas_profile.specs.declared.directory.Directory.{Directory}
@@ -23,6 +23,8 @@ use Rattle.pas_steps.specs.declared.step.Step.TheVariants.{Look}
 use Rattle.pas_steps.specs.declared.step.Step.TheVariants as Step
 use Rattle.pas_trace.specs.declared.plan.What.{What}
 use Rattle.pas_trace.specs.declared.plan.What.TheVariants.{Alloc, Free, Raw, Flush, Stop, Tick, Pass, Idle}
+pub use Rattle.pas_trace.specs.Named.{Named, named, standing_for}
+use Rattle.pas_trace.specs.declared.item.Request.{Request}
 use Rattle.pas_report.specs.declared.record.Record.{Record}
 use Rattle.pas_report.specs.declared.record.Said.{Said}
 use Rattle.pas_cache.specs.Caches.{Cached, AtRest}
@@ -32,22 +34,7 @@ use Rattle.pas_cache.specs.Kinds.{allocating, releasing}
 use Rattle.pas_cache.specs.Serves.{Wanted, wanted_for, ServesRequest, IsPreparing, IsPlaced, IsDeedOf}
 use Rattle.pas_free_log.specs.Logs.{entry_of}
 use Rattle.pas_cache.specs.Calls.{TakesEntry, RefusesName}
-use Rattle.pas_scavenger.specs.Passes.{PassSteps}
 use Rattle.pas_passes.specs.Records.{records_of_pass}
-use Rattle.pas_answers.specs.Acts.{Act, Operates, Settles, Ticks, MakesPass, ReadsEpoch, StopsIdle, MarksPhase, Wakes, MarksClose, Ends}
-
--- ---- what the names of a trace stand for, the newest first: a block, by its address and turn, or nothing where the request was refused
-pub record Named : Type 0 where
-  pub name : ℕ
-  pub block : Option Name
-
-abbrev pub named : ℕ → Option Name → Named
-named name block = record { name = name; block = block }
-
--- what the name stands for; None where no request had it
-abbrev pub standing_for : List Named → ℕ → Option (Option Name)
-standing_for [] name = None
-standing_for (n ∷ names) name = if n.name == name then Some n.block else standing_for names name
 
 -- ---- what the caches hold, by thread
 abbrev pub Caches : Type 0
@@ -102,14 +89,7 @@ abbrev pub name_of : Result Block NoRoom → Option Name
 name_of (Ok block) = Some block.name
 name_of (Err room) = None
 
--- what is asked for: under which name, of which heap, how many bytes, and at a multiple of what
-pub record Request : Type 0 where
-  pub name : ℕ
-  pub heap : ℕ
-  pub size : ℕ
-  pub align : ℕ
-
--- what it comes to
+-- what it comes to for the caches
 abbrev pub wanted_by : Profile → Request → Wanted
 wanted_by f r = wanted_for f r.heap r.size r.align
 
@@ -257,22 +237,3 @@ stopped k = Record.Said 0 (Said.Stopped k) ∷ []
 -- thread k was idle for n epochs when the scavenger read the epoch
 abbrev pub IsIdleFor : Progress → ℕ → ℕ → Type 0
 IsIdleFor p k n = (p.caches k).idle_since + n ≤ p.epoch
-
--- The acts are answered by pieces, in order: the steps of each go onto the list that those before it left, and its records to the end of the
--- records: the events of the steps, and what is said. They begin as far as p, and end with the list l and the records rs. A piece is about the part of its
--- own actor in the list and about its cache, and about nothing else: so the list says of each actor which pieces its part is made of, in the order of its
--- acts, and puts the pieces of different actors in the order of the acts.
-abbrev pub Follows : Profile → List Act → Progress → Whole → List Record → Type 0
-Follows f [] p l rs = (l ≡ p.list) × (rs ≡ p.records)
-Follows f (MarksPhase n ∷ acts) p l rs = Follows f acts (with_records p (Record.Phase n ∷ [])) l rs
-Follows f (MarksClose ∷ acts) p l rs = Follows f acts (with_records p (Record.Close ∷ [])) l rs
-Follows f (Wakes k ∷ acts) p l rs = (epoch : ℕ) × Follows f acts (after_wake p k epoch) l rs
-Follows f (Operates op ∷ acts) p l rs = (a : Answer) × IsAnswered f op.actor op.what (having p.names (part op.actor p.list) (p.caches op.actor)) a × Follows f acts (after_answer p op.actor a) l rs
-Follows f (Settles k ∷ acts) p l rs = Follows f acts (after_settling p k) l rs
-Follows f (Ticks asked ∷ acts) p l rs = (answer : ℕ) × Follows f acts (after_tick p asked answer) l rs
-Follows f (MakesPass ∷ acts) p l rs = (epoch : ℕ) × (found : List (ℕ × Outcome)) × (steps : List Made) × PassSteps f 0 epoch found steps × Follows f acts (after_pass p epoch found steps) l rs
-Follows f (ReadsEpoch ∷ acts) p l rs = (epoch : ℕ) × Follows f acts (after_reading p epoch) l rs
-Follows f (StopsIdle k n ∷ acts) p l rs =
-    (IsIdleFor p k n × (steps : List Made) × (c : Cached) × IsStopped k (p.caches k) c steps × Follows f acts (after_stop p k steps c (stopped k)) l rs)
-    ⊎ ((IsIdleFor p k n → ⊥) × Follows f acts p l rs)
-Follows f (Ends k ∷ acts) p l rs = (steps : List Made) × (c : Cached) × IsStopped k (p.caches k) c steps × Follows f acts (after_stop p k steps c []) l rs

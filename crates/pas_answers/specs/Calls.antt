@@ -1,5 +1,5 @@
 -- What one operation asks and promises.
-use Rattle.std.specs.Prelude.{ℕ, ◌+◌, ◌-◌, ◌^◌, ◌<◌, ◌≤◌, ◌≡◌, true, false, List, [], ◌∷◌, ◌++◌, length, Option, None, Some, Result, Ok, Err, MatchResult}
+use Rattle.std.specs.Prelude.{ℕ, ◌+◌, ◌-◌, ◌^◌, ◌<◌, ◌≤◌, ◌≡◌, true, false, List, [], ◌∷◌, ◌++◌, length, Option, None, Some, MatchOption, option_and_then, Result, Ok, Err, MatchResult}
 use Rattle.pas_profile.specs.declared.profile.Profile.{Profile}
 use Rattle.pas_profile.specs.declared.name.Name.{Name}
 use Rattle.pas_steps.specs.Views.{View}
@@ -8,9 +8,10 @@ use Rattle.pas_steps.specs.Events.{events_by}
 use Rattle.pas_steps.specs.Lists.{Whole}
 use Rattle.pas_steps.specs.Desks.{Standing}
 use Rattle.pas_steps.specs.declared.step.Made.{Made}
+use Rattle.pas_trace.specs.Asked.{request_in, freed_in}
 use Rattle.pas_trace.specs.EveryPlan.{is_asked}
 use Rattle.pas_trace.specs.declared.plan.What.{What}
-use Rattle.pas_trace.specs.declared.plan.What.TheVariants.{Alloc, Free, Raw, Flush, Stop, Tick, Pass, Idle}
+use Rattle.pas_trace.specs.declared.item.Request.{Request}
 use Rattle.pas_report.specs.Rooms.{records_in, room_of, Records}
 use Rattle.pas_report.specs.declared.record.Said.{Said}
 use Rattle.pas_cache.specs.Caches.{Cached, AtRest}
@@ -23,7 +24,7 @@ use Rattle.pas_cache.specs.Serves.{Wanted, ServesRequest, IsBlockFor, MakesAtMos
 use Rattle.pas_steps.specs.Unknown.{unknown_pages}
 use Rattle.pas_answers.specs.Answers.{having, answer_of, Named, named, standing_for, IsFreed, IsAnswered, RefusalEnds, records_of, said_by}
 use Rattle.pas_answers.specs.Fit.{cost_of_what}
-use Rattle.pas_answers.specs.Names.{block_named, names_held}
+use Rattle.pas_answers.specs.Names.{block_named}
 use Rattle.pas_answers.specs.declared.names.Names.{Names}
 
 -- ---- the table of names
@@ -54,47 +55,23 @@ OnlyAsked asked names = (n : ℕ) → is_asked asked n ≡ false → standing_fo
 
 -- a name that is freed was asked for
 abbrev pub IsKnown : List Named → What → Type 0
-IsKnown names (Alloc name heap size align) = Unit {0}
-IsKnown names (Free name) = (block : Option Name) × (standing_for names name ≡ Some block)
-IsKnown names (Raw block) = Unit {0}
-IsKnown names Flush = Unit {0}
-IsKnown names Stop = Unit {0}
-IsKnown names (Tick epoch) = Unit {0}
-IsKnown names Pass = Unit {0}
-IsKnown names (Idle n) = Unit {0}
+IsKnown names what = MatchOption (freed_in what) (Unit {0}) (λ name. (block : Option Name) × (standing_for names name ≡ Some block))
 
 -- the name that the operation frees stands for this
 abbrev pub IsMeant : List Named → What → Option Name → Type 0
-IsMeant names (Alloc name heap size align) meant = Unit {0}
-IsMeant names (Free name) meant = block_behind (standing_for names name) ≡ meant
-IsMeant names (Raw block) meant = Unit {0}
-IsMeant names Flush meant = Unit {0}
-IsMeant names Stop meant = Unit {0}
-IsMeant names (Tick epoch) meant = Unit {0}
-IsMeant names Pass meant = Unit {0}
-IsMeant names (Idle n) meant = Unit {0}
+IsMeant names what meant = MatchOption (freed_in what) (Unit {0}) (λ name. block_behind (standing_for names name) ≡ meant)
 
 -- the name that the operation asks for, with what it came to
+abbrev pub named_with : Option Request → Option Name → List Named
+named_with None came = []
+named_with (Some request) came = named request.name came ∷ []
+
 abbrev pub named_by : What → Option Name → List Named
-named_by (Alloc name heap size align) came = named name came ∷ []
-named_by (Free name) came = []
-named_by (Raw block) came = []
-named_by Flush came = []
-named_by Stop came = []
-named_by (Tick epoch) came = []
-named_by Pass came = []
-named_by (Idle n) came = []
+named_by what came = named_with (request_in what) came
 
 -- what the name that the operation frees stands for, by what each name stands for
 abbrev pub freed_by : (ℕ → Option Name) → What → Option Name
-freed_by block (Alloc name heap size align) = None
-freed_by block (Free name) = block name
-freed_by block (Raw freed) = None
-freed_by block Flush = None
-freed_by block Stop = None
-freed_by block (Tick epoch) = None
-freed_by block Pass = None
-freed_by block (Idle n) = None
+freed_by block what = option_and_then block (freed_in what)
 
 -- ---- what is owed in the end
 -- The events that an actor may still make without another request: one for the deed of each page that it doesn't know, and one for each logged
@@ -113,25 +90,8 @@ pub record MayPerform (f : Profile) (c : Cached) (what : What) (spare : ℕ) (v 
   pub rest : AtRest f c v
   pub room : cost_of_what what + owed_events f c v ≤ spare
 
--- what an operation works on beside its desk: the table of names, and what the cache holds
-pub record Works : Type 0 where
-  pub table : Names
-  pub cache : Cached
-
-abbrev pub works : Names → Cached → Works
-works table c = record { table = table; cache = c }
-
--- The steps and what is said answer the operation, and the actor is at rest again. The events and what is said are paid for.
-pub record Performs (what : What) (before after : Works) (desk desk' : Standing) (said : Option Said) : Type 0 where
-  pub steps : List Made
-  pub calls : Rests before.cache after.cache desk desk' steps
-  pub few : (v : View) → AtRest desk.seat.profile before.cache v → Agreed desk.seat.profile v steps
-      → length (events_by desk.seat.actor v steps) + length (said_by desk.seat.actor said) + owed_events desk.seat.profile after.cache (steps ++ v) ≤ cost_of_what what + owed_events desk.seat.profile before.cache v
-  pub answered : (v : View) (l : Whole) → desk.stands v l → AtRest desk.seat.profile before.cache v → (names : List Named) → Tells before.table names → IsKnown names what
-      → (names' : List Named) × Tells after.table names' × IsAnswered desk.seat.profile desk.seat.actor what (having names v before.cache) (answer_of steps said names' after.cache)
-  pub held : names_held after.table ≡ names_held before.table
-
--- The same without a table: the name that the operation frees stands for `meant`, and the one that it asks for stands for `came` from then on.
+-- The steps and what is said answer the operation, of which the freed name stands for `meant`, and the asked one for `came` from then on. The actor is at
+-- rest again. The events and what is said are paid for.
 pub record PerformsMeant (what : What) (meant came : Option Name) (c c' : Cached) (desk desk' : Standing) (said : Option Said) : Type 0 where
   pub steps : List Made
   pub calls : Rests c c' desk desk' steps
@@ -169,15 +129,7 @@ pub record MayAnswer (f : Profile) (c : Cached) (what : What) (spare : ℕ) (out
   pub may : MayPerform f c what spare v
   pub records : length (records_in out) + (cost_of_what what + owed_events f c v) ≤ room_of out
 
--- the records of the events of the steps, and then what is said, come to the end
-pub record Answers (what : What) (before after : Works) (out out' : Records) (desk desk' : Standing) : Type 0 where
-  pub said : Option Said
-  pub performs : Performs what before after desk desk' said
-  pub pushed : (v : View) (l : Whole) → desk.stands v l → AtRest desk.seat.profile before.cache v
-      → records_in out' ≡ records_in out ++ (records_of (events_by desk.seat.actor v performs.steps) ++ said_by desk.seat.actor said)
-  pub room : room_of out' ≡ room_of out
-
--- .. without a table
+-- .. and the records of the events of the steps, and then what is said, come to the end
 pub record AnswersMeant (what : What) (meant came : Option Name) (c c' : Cached) (out out' : Records) (desk desk' : Standing) : Type 0 where
   pub said : Option Said
   pub performs : PerformsMeant what meant came c c' desk desk' said

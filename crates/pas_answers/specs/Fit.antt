@@ -1,39 +1,39 @@
 -- What the acts of a plan keep, one after the other, and how many events and records they may make.
-use Rattle.std.specs.Prelude.{ℕ, ◌+◌, ◌-◌, ◌^◌, ◌<◌, ◌≡◌, ◌==◌, true, false, if◌then◌else◌, List, [], ◌∷◌}
+use Rattle.std.specs.Prelude.{ℕ, ◌+◌, ◌^◌, ◌<◌, ◌≤◌, ◌≡◌, ◌==◌, false, if◌then◌else◌, List, [], ◌∷◌, Option, None, Some, MatchOption}
 use Rattle.pas_profile.specs.Profiles.{IsAdmitted}
 use Rattle.pas_profile.specs.declared.profile.Profile.{Profile}
-use Rattle.pas_trace.specs.EveryPlan.{is_asked, asked_after, IsThread}
+use Rattle.pas_trace.specs.Asked.{work_of, request_of, cost_of_task}
+use Rattle.pas_trace.specs.EveryPlan.{is_asked, asked_after, IsThread, IsSoundTask}
+pub use Rattle.pas_trace.specs.EveryPlan.{IsBelow, AreBelow}
 use Rattle.pas_trace.specs.declared.plan.What.{What}
-use Rattle.pas_trace.specs.declared.plan.What.TheVariants.{Alloc, Free, Raw, Flush, Stop, Tick, Pass, Idle}
+use Rattle.pas_trace.specs.declared.plan.Task.{Task}
+use Rattle.pas_trace.specs.declared.plan.Work.{Work}
 use Rattle.pas_trace.specs.declared.plan.Op.{Op}
-use Rattle.pas_answers.specs.Acts.{Act, Operates, Settles, Ticks, MakesPass, ReadsEpoch, StopsIdle, MarksPhase, Wakes, MarksClose, Ends}
-use Rattle.pas_trace.specs.Reasons.{cost_of_size}
+use Rattle.pas_answers.specs.Acts.{Act, Operates, Settles, Ticks, MakesPass, ReadsEpoch, StopsIdle, MarksPhase, Wakes, MarksClose, Ends, operation_in}
 
 -- A thread's operation can be replayed after those that asked for these names. A request has a new name below the limit, a free has one of those that were
 -- asked for, and a turn has a next one.
-abbrev pub IsFitWhat : Profile → ℕ → List ℕ → What → Type 0
-IsFitWhat f limit asked (Alloc name heap size align) = (name < limit) × IsAdmitted f size align heap × (is_asked asked name ≡ false)
-IsFitWhat f limit asked (Free name) = is_asked asked name ≡ true
-IsFitWhat f limit asked (Raw block) = block.turn < 2 ^ 40 - 1
-IsFitWhat f limit asked Flush = Unit {0}
-IsFitWhat f limit asked Stop = Unit {0}
-IsFitWhat f limit asked (Tick epoch) = ⊥
-IsFitWhat f limit asked Pass = ⊥
-IsFitWhat f limit asked (Idle n) = ⊥
+abbrev pub IsFitTask : Profile → ℕ → List ℕ → Task → Type 0
+IsFitTask f limit asked task = MatchOption (request_of task) (IsSoundTask f asked task) (λ r. (r.name < limit) × IsAdmitted f r.size r.align r.heap × (is_asked asked r.name ≡ false))
 
--- the acts can be done one after the other: each operation is of a thread, and fits; no epoch is asked for that a word can't hold
+abbrev pub IsFitWork : Profile → ℕ → List ℕ → Work → Type 0
+IsFitWork f limit asked (Work.Own task) = IsFitTask f limit asked task
+IsFitWork f limit asked (Work.Chore chore) = ⊥
+
+abbrev pub IsFitWhat : Profile → ℕ → List ℕ → What → Type 0
+IsFitWhat f limit asked what = IsFitWork f limit asked (work_of what)
+
+-- The acts can be done one after the other: each operation is of a thread, and fits; no epoch is asked for that a word can't hold. All others fit anywhere.
 abbrev pub AreFit : Profile → ℕ → List ℕ → List Act → Type 0
 AreFit f limit asked [] = Unit {0}
 AreFit f limit asked (Operates op ∷ acts) = IsThread f op.actor × IsFitWhat f limit asked op.what × AreFit f limit (asked_after op.what asked) acts
-AreFit f limit asked (Settles k ∷ acts) = AreFit f limit asked acts
 AreFit f limit asked (Ticks epoch ∷ acts) = (epoch < 2 ^ 40) × AreFit f limit asked acts
-AreFit f limit asked (MakesPass ∷ acts) = AreFit f limit asked acts
-AreFit f limit asked (ReadsEpoch ∷ acts) = AreFit f limit asked acts
-AreFit f limit asked (StopsIdle k n ∷ acts) = AreFit f limit asked acts
-AreFit f limit asked (MarksPhase n ∷ acts) = AreFit f limit asked acts
-AreFit f limit asked (Wakes k ∷ acts) = AreFit f limit asked acts
-AreFit f limit asked (MarksClose ∷ acts) = AreFit f limit asked acts
-AreFit f limit asked (Ends k ∷ acts) = AreFit f limit asked acts
+AreFit f limit asked (act ∷ acts) = AreFit f limit asked acts
+
+-- each operation among the acts is of one of so many threads
+abbrev pub AreOfThreads : ℕ → List Act → Type 0
+AreOfThreads threads [] = Unit {0}
+AreOfThreads threads (act ∷ acts) = MatchOption (operation_in act) (Unit {0}) (λ op. op.actor ≤ threads) × AreOfThreads threads acts
 
 -- ---- costs
 -- what acts cost together
@@ -42,15 +42,12 @@ sum_over cost [] = 0
 sum_over cost (act ∷ acts) = cost act + sum_over cost acts
 
 -- how many events an operation of a thread may make in the end, beside a deed; a free makes its one at a flush
+abbrev pub cost_of_work : Work → ℕ
+cost_of_work (Work.Own task) = cost_of_task task
+cost_of_work (Work.Chore chore) = 0
+
 abbrev pub cost_of_what : What → ℕ
-cost_of_what (Alloc name heap size align) = cost_of_size size
-cost_of_what (Free name) = 1
-cost_of_what (Raw block) = 1
-cost_of_what Flush = 0
-cost_of_what Stop = 0
-cost_of_what (Tick epoch) = 0
-cost_of_what Pass = 0
-cost_of_what (Idle n) = 0
+cost_of_what what = cost_of_work (work_of what)
 
 -- how many records an act may make in the end, beside deeds. A pass says its epoch, and then what it came to on each page.
 abbrev pub cost_of_act : Profile → Act → ℕ
@@ -69,52 +66,25 @@ abbrev pub costs_of : Profile → List Act → ℕ
 costs_of f acts = sum_over (cost_of_act f) acts
 
 -- how many events of thread k an act may make in the end, beside deeds
+abbrev pub own_cost_of : ℕ → Option Op → ℕ
+own_cost_of k None = 0
+own_cost_of k (Some op) = if op.actor == k then cost_of_what op.what else 0
+
 abbrev pub own_cost_of_act : ℕ → Act → ℕ
-own_cost_of_act k (Operates op) = if op.actor == k then cost_of_what op.what else 0
-own_cost_of_act k (Settles j) = 0
-own_cost_of_act k (Ticks epoch) = 0
-own_cost_of_act k MakesPass = 0
-own_cost_of_act k ReadsEpoch = 0
-own_cost_of_act k (StopsIdle j n) = 0
-own_cost_of_act k (MarksPhase n) = 0
-own_cost_of_act k (Wakes j) = 0
-own_cost_of_act k MarksClose = 0
-own_cost_of_act k (Ends j) = 0
+own_cost_of_act k act = own_cost_of k (operation_in act)
 
 abbrev pub own_costs_of : ℕ → List Act → ℕ
 own_costs_of k acts = sum_over (own_cost_of_act k) acts
 
--- .. and how many the scavenger: a pass unbacks each page once at most
+-- .. and how many the scavenger: a pass unbacks each page once at most, and nothing else unbacks one
 abbrev pub unbacks_of_act : Profile → Act → ℕ
-unbacks_of_act f (Operates op) = 0
-unbacks_of_act f (Settles k) = 0
-unbacks_of_act f (Ticks epoch) = 0
 unbacks_of_act f MakesPass = f.pages
-unbacks_of_act f ReadsEpoch = 0
-unbacks_of_act f (StopsIdle k n) = 0
-unbacks_of_act f (MarksPhase n) = 0
-unbacks_of_act f (Wakes k) = 0
-unbacks_of_act f MarksClose = 0
-unbacks_of_act f (Ends k) = 0
+unbacks_of_act f act = 0
 
 abbrev pub unbacks_of : Profile → List Act → ℕ
 unbacks_of f acts = sum_over (unbacks_of_act f) acts
 
--- ---- the names of the operations are below the limit
-abbrev pub IsBelow : ℕ → What → Type 0
-IsBelow limit (Alloc name heap size align) = name < limit
-IsBelow limit (Free name) = Unit {0}
-IsBelow limit (Raw block) = Unit {0}
-IsBelow limit Flush = Unit {0}
-IsBelow limit Stop = Unit {0}
-IsBelow limit (Tick epoch) = Unit {0}
-IsBelow limit Pass = Unit {0}
-IsBelow limit (Idle n) = Unit {0}
-
-abbrev pub AreBelow : ℕ → List Op → Type 0
-AreBelow limit [] = Unit {0}
-AreBelow limit (op ∷ ops) = IsBelow limit op.what × AreBelow limit ops
-
+-- ---- the names of the operations of all phases are below the limit
 abbrev pub AllBelow : ℕ → List (List Op) → Type 0
 AllBelow limit [] = Unit {0}
 AllBelow limit (phase ∷ phases) = AreBelow limit phase × AllBelow limit phases

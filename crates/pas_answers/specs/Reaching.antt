@@ -1,4 +1,4 @@
--- Acts that are answered one after the other, from wherever a replay stands.
+-- A REPLAY: acts that are answered one after the other, from wherever a replay stands.
 use Rattle.std.specs.Prelude.{ℕ, ◌≡◌, ◌⊎◌, List, [], ◌∷◌}
 use Rattle.pas_profile.specs.declared.profile.Profile.{Profile}
 use Rattle.pas_profile.specs.declared.event.Outcome.{Outcome}
@@ -10,7 +10,9 @@ use Rattle.pas_scavenger.specs.Passes.{PassSteps}
 use Rattle.pas_answers.specs.Acts.{Act, Operates, Settles, Ticks, MakesPass, ReadsEpoch, StopsIdle, MarksPhase, Wakes, MarksClose, Ends}
 use Rattle.pas_answers.specs.Answers.{Answer, having, IsAnswered, IsStopped, Progress, with_records, after_answer, after_settling, after_wake, after_reading, after_tick, after_pass, after_stop, stopped, IsIdleFor}
 
--- one act takes a replay from p to p'
+-- One act takes a replay from p to p'. Its steps go onto the list that those before it left, and its records to the end of the records: the events of the
+-- steps, and what is said. It is about the part of its own actor in the list and about its cache, and about nothing else: so the list says of each actor
+-- which pieces its part is made of, in the order of its acts, and puts the pieces of different actors in the order of the acts.
 abbrev pub Advances : Profile → Act → Progress → Progress → Type 0
 Advances f (MarksPhase n) p p' = p' ≡ with_records p (Record.Phase n ∷ [])
 Advances f MarksClose p p' = p' ≡ with_records p (Record.Close ∷ [])

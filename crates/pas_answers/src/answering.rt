@@ -4,17 +4,14 @@ ghost use Rattle.pas_trace.specs.declared.plan.What.TheVariants as TheWhat;
 ghost use Rattle.pas_report.specs.Rooms.{records_in, room_of};
 ghost use Rattle.pas_steps.specs.Desks.{CanCall};
 ghost use Rattle.pas_cache.specs.Caches.{cached};
-ghost use Rattle.pas_answers.specs.Answers.{Named, said_of_room};
+ghost use Rattle.pas_answers.specs.Answers.{said_of_room};
 ghost use Rattle.pas_answers.specs.Fit.{IsFitWhat};
-ghost use Rattle.pas_answers.specs.Names.{block_named, names_held};
 ghost use Rattle.pas_profile.specs.Profiles.{IsAdmitted};
-ghost use Rattle.pas_profile.specs.declared.profile.Profile.{Profile as TheProfile};
 ghost use Rattle.pas_profile.specs.declared.name.Name.{Name as TheName};
 ghost use Rattle.pas_trace.specs.Reasons.{cost_of_size};
 ghost use Rattle.pas_cache.specs.Serves.{wanted_for};
-ghost use Rattle.pas_answers.specs.Calls.{works, Tells, HasTurns, HasTurn, named_by, freed_by, MayPerform, MayServe, Serves, PerformsMeant, FreesOne, MayAnswer, Answers, AnswersMeant};
+ghost use Rattle.pas_answers.specs.Calls.{HasTurn, MayPerform, MayServe, Serves, PerformsMeant, FreesOne, MayAnswer, AnswersMeant};
 
-use crate::names::Names;
 use pas_cache::ThreadCache;
 use pas_large::NoIndex;
 use pas_profile::limits::MOST_BITFIT;
@@ -164,49 +161,4 @@ pub fn answer_meant<D: Desk>(
         out.push(Record::Said(desk.actor(), said));
     }
     came
-}
-
-/// What the name that the operation frees stands for.
-#[inline(always)]
-fn freed(names: &Names, what: What) -> Option<Name>
-    ensures { result ≡ freed_by (block_named names.now) what }
-{
-    match what {
-        What::Free { name } => names.get(name),
-        _ => None,
-    }
-}
-
-/// Keeps what the name that the operation asked for came to.
-#[inline(always)]
-fn keep(names: &mut Names, what: What, came: Option<Name>)
-    requires fit { (f : TheProfile) × (asked : List ℕ) × IsFitWhat f (names_held names.old) asked what }
-    ensures tells { (known : List Named) → Tells names.old known → Tells names.new (named_by what came ++ known) }
-    ensures turns { HasTurns names.old → HasTurn came → HasTurns names.new }
-    ensures held { names_held names.new ≡ names_held names.old }
-{
-    match what {
-        What::Alloc { name, .. } => names.set(name, came),
-        _ => {}
-    }
-}
-
-/// Performs a thread's operation, and adds its events and what is said to the records.
-pub fn answer<D: Desk>(
-    desk: &mut D,
-    cache: &mut ThreadCache,
-    names: &mut Names,
-    what: What,
-    out: &mut Records,
-)
-    requires fit { (asked : List ℕ) × IsFitWhat (D.standing desk.old).seat.profile (names_held names.old) asked what }
-    requires turns { HasTurns names.old }
-    requires can { CanCall (D.standing desk.old) (MayAnswer (D.standing desk.old).seat.profile (cached cache.old) what (D.spare_of desk.old) out.old) }
-    ensures answers { Answers what (works names.old (cached cache.old)) (works names.new (cached cache.new)) out.old out.new (D.standing desk.old) (D.standing desk.new) }
-    ensures turns { HasTurns names.new }
-    ensures home { D.home desk.new ≡ D.home desk.old }
-{
-    let meant = freed(names, what);
-    let came = answer_meant(desk, cache, what, meant, out);
-    keep(names, what, came);
 }

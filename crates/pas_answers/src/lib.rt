@@ -5,5 +5,5 @@ mod answering;
 mod idle;
 pub mod names;
 
-pub use answering::{answer, answer_meant};
+pub use answering::answer_meant;
 pub use idle::is_idle_for;

@@ -1,10 +1,11 @@
 -- The plan of a text that is read, made of its items.
-use Rattle.std.proofs.Common.{◌≡◌, ℕ, zero, suc, ◌+◌, ◌^◌, ◌<◌, ◌≤◌, List, [], ◌∷◌, ◌++◌, map, length, Some, Ok, refl, ap, subst, arith, length-append}
+use Rattle.std.proofs.Common.{◌≡◌, ℕ, zero, suc, ◌+◌, ◌^◌, ◌<◌, ◌≤◌, ◌||◌, Bool, true, inl, inr, List, [], ◌∷◌, ◌++◌, map, length, Some, Ok, refl, ap, sym, ◌∙◌, subst, arith, length-append}
 use Rattle.std.specs.Global.{Global, Vec}
+use Rattle.std.proofs.lemmas.Bool.{cases_eq, ne_eqb, false≢true}
 use Rattle.std.proofs.lemmas.List.{length-map}
 use denote.RawPtr.{null_ptr}
 use Rattle.pas_profile.specs.declared.profile.Profile.{Profile}
-use Rattle.pas_trace.specs.Reasons.{record_bound}
+use Rattle.pas_trace.specs.Reasons.{is_named, record_bound}
 use Rattle.pas_trace.specs.Plans.{parsed, shared_in, add_last, line_of_newest, phases_after, phases_in, bound_of, bounds_upto, ops_of, IsPlanOf}
 use Rattle.pas_trace.specs.declared.item.Item.{Item}
 use Rattle.pas_trace.specs.declared.item.Item.TheVariants.{Blank, Shares, NextPhase, Allocates, Frees, FreesRaw, Flushes, Stops, Ticks, Passes, Idles}
@@ -92,6 +93,20 @@ bounds-count : (f : Profile) (items : List Item) (n : ℕ) → length (bounds_up
 bounds-count f items zero = refl
 bounds-count f items (suc n) = omega (arith, bounds-count f items n, length-append (bounds_upto f items n) (bound_of f items n ∷ []))
 
+-- ---- a number above all names
+abbrev limit_in : List Item → ℕ
+limit_in [] = 0
+limit_in (Allocates t q ∷ items) = limit_in items + q.name + 1
+limit_in (i ∷ items) = limit_in items
+
+named_below : (items : List Item) (n : ℕ) → is_named items n ≡ true → n < limit_in items
+named_below [] n is = absurd (false≢true is)
+named_below (Allocates t q ∷ items) n is = elim (cases_eq q.name n) [
+  | inl same ↦ omega (arith, same)
+  | inr other ↦ let before = named_below items n (sym (ap (λ (t : Bool). t || is_named items n) (ne_eqb q.name n other)) ∙ is) in omega (arith, before)
+]
+named_below (i ∷ items) n is = named_below items n is
+
 -- ---- the plan
 pub plan-of : Global → (f : Profile) (items : List Item) → length items < 2 ^ 62 → f.threads < 2 ^ 62 → Plan
 plan-of heap f items few threads =
@@ -104,6 +119,7 @@ plan-of heap f items few threads =
       };
       bounds = record { bounds = holding heap (bounds_upto f items (f.threads + 1)) (omega (arith, bounds-count f items (f.threads + 1))) };
       total = record_bound f items;
+      names_limit = limit_in items;
     }
 
 pub has-plan : (heap : Global) (text : List ℕ) (f : Profile) (items : List Item) → parsed text ≡ Ok (record { header = f; items = items }) → length items < 2 ^ 62 → f.threads < 2 ^ 62 → (plan : Plan) × IsPlanOf text plan
@@ -118,5 +134,6 @@ has-plan heap text f items read few threads = (
     phases = held-back heap (length items) (omega arith) (phases_in items) (most-in items);
     bounds = refl;
     total = refl;
+    names = named_below items;
   },
 )

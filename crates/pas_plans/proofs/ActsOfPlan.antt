@@ -1,17 +1,18 @@
 -- The acts of a plan fit where its operations do, and cost no more than they, and one record for each phase and one for the close.
-use Rattle.std.proofs.Common.{◌≡◌, ℕ, zero, suc, ◌+◌, ◌*◌, ◌≤◌, ◌==◌, Bool, true, false, if◌then◌else◌, cond, List, [], ◌∷◌, ◌++◌, length, refl, ap, sym, subst, arith, append_assoc}
-use Rattle.std.specs.Prelude.{map, not}
+use Rattle.std.proofs.Common.{◌≡◌, ℕ, zero, suc, ◌+◌, ◌*◌, ◌<◌, ◌≤◌, ◌==◌, Bool, true, false, if◌then◌else◌, cond, List, [], ◌∷◌, ◌++◌, length, refl, ap, sym, subst, arith, append_assoc}
+use Rattle.std.specs.Prelude.{map, not, MatchOption}
 use Rattle.std.specs.List.{filter}
 use Rattle.std.proofs.lemmas.Bool.{eq-eqb}
 use Rattle.std.proofs.Math.Nat.{suc-mul}
 use Rattle.pas_profile.specs.declared.profile.Profile.{Profile}
-use Rattle.pas_trace.specs.EveryPlan.{all_ops, asked_after, IsThread, IsActorOf, IsSoundWhat, AreSound, records_of_what, records_of_ops, own_records}
-use Rattle.pas_trace.specs.Reasons.{cost_of_size}
-use Rattle.pas_trace.specs.declared.plan.What.{What}
-use Rattle.pas_trace.specs.declared.plan.What.TheVariants.{Alloc, Free, Raw, Flush, Stop, Tick, Pass, Idle}
+use Rattle.pas_trace.specs.EveryPlan.{all_ops, asked_with, asked_after, IsActorBy, IsActorOf, IsSoundTask, IsSoundWork, AreSound, records_of_chore, records_of_work, records_of_what, records_of_ops, own_records}
+use Rattle.pas_trace.specs.Asked.{work_of, of_task, request_of, cost_of_task}
+use Rattle.pas_trace.specs.declared.plan.Task.{Task}
+use Rattle.pas_trace.specs.declared.plan.Chore.{Chore}
+use Rattle.pas_trace.specs.declared.plan.Work.{Work}
 use Rattle.pas_trace.specs.declared.plan.Op.{Op}
-use Rattle.pas_answers.specs.Acts.{Act, Operates, StopsIdle, MarksPhase, MarksClose, Wakes, Ends, is_active, numbers_from, active_threads, idle_threads, idle_stops, acts_of_what, acts_of_op, acts_of_ops, phase_acts, close_acts, acts_from, acts_of}
-use Rattle.pas_answers.specs.Fit.{IsFitWhat, AreFit, cost_of_what, cost_of_act, costs_of, own_cost_of_act, own_costs_of, unbacks_of_act, unbacks_of, sum_over, IsBelow, AreBelow}
+use Rattle.pas_answers.specs.Acts.{Act, Operates, Settles, Ticks, MakesPass, ReadsEpoch, StopsIdle, MarksPhase, MarksClose, Wakes, Ends, is_active, numbers_from, active_threads, idle_threads, idle_stops, acts_of_chore, acts_of_work, acts_of_op, acts_of_ops, phase_acts, close_acts, acts_from, acts_of}
+use Rattle.pas_answers.specs.Fit.{IsFitTask, IsFitWork, AreFit, AreOfThreads, cost_of_work, cost_of_what, cost_of_act, costs_of, own_cost_of_act, own_costs_of, unbacks_of_act, unbacks_of, sum_over, AreBelow}
 
 -- ---- so many threads
 numbers_count : (k n : ℕ) → length (numbers_from k n) ≡ n
@@ -115,45 +116,39 @@ module _ (f : Profile) (cost : Act → ℕ) (most : Op → ℕ) (mark : ℕ) (ea
 
 -- ---- each operation
 -- records
-pub what_costs : (f : Profile) (idle : List ℕ) (op : Op) (what : What) → op.what ≡ what → length idle ≤ f.threads → costs_of f (acts_of_what idle op what) ≤ records_of_what f what
-what_costs f idle op (Alloc n h s a) is few = let cost = ap cost_of_what is in omega (arith, cost)
-what_costs f idle op (Free n) is few = let cost = ap cost_of_what is in omega (arith, cost)
-what_costs f idle op (Raw block) is few = let cost = ap cost_of_what is in omega (arith, cost)
-what_costs f idle op Flush is few = let cost = ap cost_of_what is in omega (arith, cost)
-what_costs f idle op Stop is few = let cost = ap cost_of_what is in omega (arith, cost)
-what_costs f idle op (Tick e) is few = omega arith
-what_costs f idle op Pass is few = omega arith
-what_costs f idle op (Idle n) is few = let stops = one_each (cost_of_act f) (λ k. StopsIdle k n) (λ k. refl) idle in omega (arith, stops, few)
+chore_costs : (f : Profile) (idle : List ℕ) (chore : Chore) → length idle ≤ f.threads → costs_of f (acts_of_chore idle chore) ≤ records_of_chore f chore
+chore_costs f idle (Chore.Tick e) few = omega arith
+chore_costs f idle Chore.Pass few = omega arith
+chore_costs f idle (Chore.Idle n) few = let stops = one_each (cost_of_act f) (λ k. StopsIdle k n) (λ k. refl) idle in omega (arith, stops, few)
+
+pub work_costs : (f : Profile) (idle : List ℕ) (op : Op) (work : Work) → work_of op.what ≡ work → length idle ≤ f.threads → costs_of f (acts_of_work idle op work) ≤ records_of_work f work
+work_costs f idle op (Work.Own task) is few = let cost = ap cost_of_work is in omega (arith, cost)
+work_costs f idle op (Work.Chore chore) is few = chore_costs f idle chore few
 
 -- events of thread k
 own_cost : (t : Bool) (a b : ℕ) → a ≡ b → (if t then a else 0) + 0 ≤ (if t then b else 0)
 own_cost true a b same = omega (arith, same)
 own_cost false a b same = omega arith
 
-what_owns : (f : Profile) (k : ℕ) (idle : List ℕ) (op : Op) (what : What) → op.what ≡ what → own_costs_of k (acts_of_what idle op what) ≤ (if op.actor == k then records_of_what f what else 0)
-what_owns f k idle op (Alloc n h s a) is = own_cost (op.actor == k) (cost_of_what op.what) (cost_of_size s) (ap cost_of_what is)
-what_owns f k idle op (Free n) is = own_cost (op.actor == k) (cost_of_what op.what) 1 (ap cost_of_what is)
-what_owns f k idle op (Raw block) is = own_cost (op.actor == k) (cost_of_what op.what) 1 (ap cost_of_what is)
-what_owns f k idle op Flush is = own_cost (op.actor == k) (cost_of_what op.what) 0 (ap cost_of_what is)
-what_owns f k idle op Stop is = own_cost (op.actor == k) (cost_of_what op.what) 0 (ap cost_of_what is)
-what_owns f k idle op (Tick e) is = omega arith
-what_owns f k idle op Pass is = omega arith
-what_owns f k idle op (Idle n) is = let stops = free_map (own_cost_of_act k) (λ j. StopsIdle j n) (λ j. refl) idle in omega (arith, stops)
+chore_owns : (k : ℕ) (idle : List ℕ) (chore : Chore) → own_costs_of k (acts_of_chore idle chore) ≡ 0
+chore_owns k idle (Chore.Tick e) = refl
+chore_owns k idle Chore.Pass = refl
+chore_owns k idle (Chore.Idle n) = let stops = free_map (own_cost_of_act k) (λ j. StopsIdle j n) (λ j. refl) idle in omega (arith, stops)
+
+work_owns : (f : Profile) (k : ℕ) (idle : List ℕ) (op : Op) (work : Work) → work_of op.what ≡ work → own_costs_of k (acts_of_work idle op work) ≤ (if op.actor == k then records_of_work f work else 0)
+work_owns f k idle op (Work.Own task) is = own_cost (op.actor == k) (cost_of_what op.what) (cost_of_task task) (ap cost_of_work is)
+work_owns f k idle op (Work.Chore chore) is = let none = chore_owns k idle chore in omega (arith, none)
 
 -- pages that the scavenger unbacks, which is actor 0
 its_own : (t : Bool) (n : ℕ) → t ≡ true → n ≤ (if t then 1 + n else 0)
 its_own true n is = omega arith
 its_own false n is = absurd (let bad : false ≡ true = is in cc)
 
-what_unbacks : (f : Profile) (idle : List ℕ) (op : Op) (what : What) → IsActorOf f what op.actor → unbacks_of f (acts_of_what idle op what) ≤ (if op.actor == 0 then records_of_what f what else 0)
-what_unbacks f idle op (Alloc n h s a) of = omega arith
-what_unbacks f idle op (Free n) of = omega arith
-what_unbacks f idle op (Raw block) of = omega arith
-what_unbacks f idle op Flush of = omega arith
-what_unbacks f idle op Stop of = omega arith
-what_unbacks f idle op (Tick e) of = omega arith
-what_unbacks f idle op Pass of = let own = its_own (op.actor == 0) f.pages (eq-eqb op.actor 0 of) in omega (arith, own)
-what_unbacks f idle op (Idle n) of = let stops = free_map (unbacks_of_act f) (λ j. StopsIdle j n) (λ j. refl) idle in omega (arith, stops)
+work_unbacks : (f : Profile) (idle : List ℕ) (op : Op) (work : Work) → IsActorBy f work op.actor → unbacks_of f (acts_of_work idle op work) ≤ (if op.actor == 0 then records_of_work f work else 0)
+work_unbacks f idle op (Work.Own task) of = omega arith
+work_unbacks f idle op (Work.Chore (Chore.Tick e)) of = omega arith
+work_unbacks f idle op (Work.Chore Chore.Pass) of = let own = its_own (op.actor == 0) f.pages (eq-eqb op.actor 0 of) in omega (arith, own)
+work_unbacks f idle op (Work.Chore (Chore.Idle n)) of = let stops = free_map (unbacks_of_act f) (λ j. StopsIdle j n) (λ j. refl) idle in omega (arith, stops)
 
 -- ---- the plan's own sums
 records_sum : (f : Profile) (ops : List Op) → sum_of_ops (λ op. records_of_what f op.what) ops ≡ records_of_ops f ops
@@ -166,19 +161,19 @@ own_sum f k (op ∷ ops) = ap (λ n. (if op.actor == k then records_of_what f op
 
 pub plan_costs : (f : Profile) (phases : List (List Op)) → ArePlanned f (all_ops phases) → costs_of f (acts_of f.threads phases) ≤ records_of_ops f (all_ops phases) + (length phases + 1)
 plan_costs f phases all =
-    let most = of_plan f (cost_of_act f) (λ op. records_of_what f op.what) 1 (λ idle op few is. what_costs f idle op op.what refl few) (λ k. refl) (λ k. refl) (λ n. refl) refl phases all in
+    let most = of_plan f (cost_of_act f) (λ op. records_of_what f op.what) 1 (λ idle op few is. work_costs f idle op (work_of op.what) refl few) (λ k. refl) (λ k. refl) (λ n. refl) refl phases all in
     let sum = records_sum f (all_ops phases) in
     omega (arith, most, sum)
 
 pub plan_owns : (f : Profile) (k : ℕ) (phases : List (List Op)) → ArePlanned f (all_ops phases) → own_costs_of k (acts_of f.threads phases) ≤ own_records f k (all_ops phases)
 plan_owns f k phases all =
-    let most = of_plan f (own_cost_of_act k) (λ op. if op.actor == k then records_of_what f op.what else 0) 0 (λ idle op few is. what_owns f k idle op op.what refl) (λ j. refl) (λ j. refl) (λ n. refl) refl phases all in
+    let most = of_plan f (own_cost_of_act k) (λ op. if op.actor == k then records_of_what f op.what else 0) 0 (λ idle op few is. work_owns f k idle op (work_of op.what) refl) (λ j. refl) (λ j. refl) (λ n. refl) refl phases all in
     let sum = own_sum f k (all_ops phases) in
     omega (arith, most, sum)
 
 pub plan_unbacks : (f : Profile) (phases : List (List Op)) → ArePlanned f (all_ops phases) → unbacks_of f (acts_of f.threads phases) ≤ own_records f 0 (all_ops phases)
 plan_unbacks f phases all =
-    let most = of_plan f (unbacks_of_act f) (λ op. if op.actor == 0 then records_of_what f op.what else 0) 0 (λ idle op few is. what_unbacks f idle op op.what is) (λ j. refl) (λ j. refl) (λ n. refl) refl phases all in
+    let most = of_plan f (unbacks_of_act f) (λ op. if op.actor == 0 then records_of_what f op.what else 0) 0 (λ idle op few is. work_unbacks f idle op (work_of op.what) is) (λ j. refl) (λ j. refl) (λ n. refl) refl phases all in
     let sum = own_sum f 0 (all_ops phases) in
     omega (arith, most, sum)
 
@@ -191,27 +186,27 @@ skip_stops : (f : Profile) (limit : ℕ) (asked : List ℕ) (n : ℕ) (idle : Li
 skip_stops f limit asked n [] more fit = fit
 skip_stops f limit asked n (k ∷ idle) more fit = skip_stops f limit asked n idle more fit
 
--- a thread's operation
-fits_thread : (f : Profile) (limit : ℕ) (asked : List ℕ) (op : Op) (what : What) (more : List Act) → op.what ≡ what → IsThread f op.actor → IsFitWhat f limit asked what → AreFit f limit (asked_after what asked) more → AreFit f limit asked (Operates op ∷ more)
-fits_thread f limit asked op what more is of fit rest =
-    (of, subst (IsFitWhat f limit asked) (sym is) fit, subst (λ (w : What). AreFit f limit (asked_after w asked) more) (sym is) rest)
+-- a request is below the limit besides
+fits_task : (f : Profile) (limit : ℕ) (asked : List ℕ) (task : Task) → MatchOption (request_of task) (Unit {0}) (λ r. r.name < limit) → IsSoundTask f asked task → IsFitTask f limit asked task
+fits_task f limit asked (Task.Request name heap size align) below sound = (below, sound.0, sound.1)
+fits_task f limit asked task below sound = sound
 
-fits : (f : Profile) (limit : ℕ) (asked : List ℕ) (op : Op) (what : What) (idle : List ℕ) (rest : List Op) (more : List Act) → op.what ≡ what → IsBelow limit what → IsActorOf f what op.actor → IsSoundWhat f asked what
-    → AreSound f (asked_after what asked) rest → Continues f limit rest more → AreFit f limit asked (acts_of_what idle op what ++ more)
-fits f limit asked op (Alloc n h s a) idle rest more is below of sound later go = fits_thread f limit asked op (Alloc n h s a) more is of (below, sound.0, sound.1) (go (n ∷ asked) later)
-fits f limit asked op (Free n) idle rest more is below of sound later go = fits_thread f limit asked op (Free n) more is of sound (go asked later)
-fits f limit asked op (Raw block) idle rest more is below of sound later go = fits_thread f limit asked op (Raw block) more is of sound (go asked later)
-fits f limit asked op Flush idle rest more is below of sound later go = fits_thread f limit asked op Flush more is of tt (go asked later)
-fits f limit asked op Stop idle rest more is below of sound later go = fits_thread f limit asked op Stop more is of tt (go asked later)
-fits f limit asked op (Tick e) idle rest more is below of sound later go = (sound, go asked later)
-fits f limit asked op Pass idle rest more is below of sound later go = go asked later
-fits f limit asked op (Idle n) idle rest more is below of sound later go = skip_stops f limit asked n idle more (go asked later)
+fits_chore : (f : Profile) (limit : ℕ) (asked : List ℕ) (chore : Chore) (idle : List ℕ) (more : List Act) → IsSoundWork f asked (Work.Chore chore) → AreFit f limit asked more → AreFit f limit asked (acts_of_chore idle chore ++ more)
+fits_chore f limit asked (Chore.Tick e) idle more sound fit = (sound, fit)
+fits_chore f limit asked Chore.Pass idle more sound fit = fit
+fits_chore f limit asked (Chore.Idle n) idle more sound fit = skip_stops f limit asked n idle more fit
+
+fits : (f : Profile) (limit : ℕ) (asked : List ℕ) (op : Op) (work : Work) (idle : List ℕ) (more : List Act) → work_of op.what ≡ work → MatchOption (of_task request_of work) (Unit {0}) (λ r. r.name < limit) → IsActorBy f work op.actor → IsSoundWork f asked work
+    → AreFit f limit (asked_with (of_task request_of work) asked) more → AreFit f limit asked (acts_of_work idle op work ++ more)
+fits f limit asked op (Work.Own task) idle more is below of sound fit =
+    (of, subst (IsFitWork f limit asked) (sym is) (fits_task f limit asked task below sound), subst (λ (w : Work). AreFit f limit (asked_with (of_task request_of w) asked) more) (sym is) fit)
+fits f limit asked op (Work.Chore chore) idle more is below of sound fit = fits_chore f limit asked chore idle more sound fit
 
 pub ops_fit : (f : Profile) (limit : ℕ) (idle : List ℕ) (ops rest : List Op) (more : List Act) → AreBelow limit (ops ++ rest) → Continues f limit rest more → Continues f limit (ops ++ rest) (acts_of_ops idle ops ++ more)
 ops_fit f limit idle [] rest more below go asked sound = go asked sound
 ops_fit f limit idle (op ∷ ops) rest more below go asked sound =
     subst (AreFit f limit asked) (sym (append_assoc (acts_of_op idle op) (acts_of_ops idle ops) more))
-    (fits f limit asked op op.what idle (ops ++ rest) (acts_of_ops idle ops ++ more) refl below.0 sound.0 sound.1 sound.2 (λ now later. ops_fit f limit idle ops rest more below.1 go now later))
+    (fits f limit asked op (work_of op.what) idle (acts_of_ops idle ops ++ more) refl below.0 sound.0 sound.1 (ops_fit f limit idle ops rest more below.1 go (asked_after op.what asked) sound.2))
 
 wakes_fit : (f : Profile) (limit : ℕ) (asked : List ℕ) (ks : List ℕ) (more : List Act) → AreFit f limit asked more → AreFit f limit asked (map Wakes ks ++ more)
 wakes_fit f limit asked [] more fit = fit
@@ -240,3 +235,17 @@ pub acts_fit : (f : Profile) (limit threads : ℕ) (phases : List (List Op)) →
 acts_fit f limit threads [] below sound = ends_fit f limit [] (numbers_from 1 threads)
 acts_fit f limit threads (p ∷ ps) below sound =
     phase_fit f limit threads p (all_ops ps) (acts_from threads 2 ps) below (later_fit f limit threads 2 ps (back_below limit p (all_ops ps) below)) [] sound
+
+-- ---- acts that fit are those of the profile's threads
+pub of_threads : (f : Profile) (limit : ℕ) (asked : List ℕ) (acts : List Act) → AreFit f limit asked acts → AreOfThreads f.threads acts
+of_threads f limit asked [] fit = tt
+of_threads f limit asked (Operates op ∷ acts) fit = (fit.0.1, of_threads f limit (asked_after op.what asked) acts fit.2)
+of_threads f limit asked (Settles k ∷ acts) fit = (tt, of_threads f limit asked acts fit)
+of_threads f limit asked (Ticks epoch ∷ acts) fit = (tt, of_threads f limit asked acts fit.1)
+of_threads f limit asked (MakesPass ∷ acts) fit = (tt, of_threads f limit asked acts fit)
+of_threads f limit asked (ReadsEpoch ∷ acts) fit = (tt, of_threads f limit asked acts fit)
+of_threads f limit asked (StopsIdle k n ∷ acts) fit = (tt, of_threads f limit asked acts fit)
+of_threads f limit asked (MarksPhase n ∷ acts) fit = (tt, of_threads f limit asked acts fit)
+of_threads f limit asked (Wakes k ∷ acts) fit = (tt, of_threads f limit asked acts fit)
+of_threads f limit asked (MarksClose ∷ acts) fit = (tt, of_threads f limit asked acts fit)
+of_threads f limit asked (Ends k ∷ acts) fit = (tt, of_threads f limit asked acts fit)

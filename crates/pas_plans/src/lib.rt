@@ -6,5 +6,5 @@ pub mod limits;
 pub mod parts;
 
 pub use awake::active;
-pub use limits::{names_limit, records_for};
+pub use limits::records_for;
 pub use parts::{caches_for, outcomes_from, rooms_of};

@@ -1,35 +1,59 @@
 -- The acts of a replay, one after the other.
-use Rattle.std.proofs.Common.{◌≡◌, ℕ, zero, suc, ◌+◌, ◌-◌, ◌<◌, ◌≤◌, Bool, true, false, if◌then◌else◌, not, List, [], ◌∷◌, ◌++◌, map, length, drop, get_or, slice_index_or, refl, ap, sym, ◌∙◌, subst, arith, append_assoc, drop_of_length-le}
-use Rattle.std.specs.List.{filter}
+use Rattle.std.proofs.Common.{◌≡◌, ℕ, zero, suc, ◌+◌, ◌-◌, ◌<◌, ◌≤◌, not, List, [], ◌∷◌, ◌++◌, map, length, drop, get_or, ap, sym, ◌∙◌, subst, arith, Option, length-append, append_assoc}
 use Rattle.std.proofs.lemmas.List.{drop_more}
 use Rattle.pas_profile.specs.declared.profile.Profile.{Profile}
 use Rattle.pas_steps.specs.Lists.{Whole}
-use Rattle.pas_trace.specs.Plans.{ops_of}
 use Rattle.pas_trace.specs.declared.plan.Op.{Op}
-use Rattle.pas_trace.specs.declared.plan.Phase.{Phase}
 use Rattle.pas_trace.specs.declared.plan.What.TheVariants.{Alloc}
 use Rattle.pas_report.specs.Rooms.{records_in, room_of, Records}
 use Rattle.pas_report.specs.declared.record.Record.{Record}
-use Rattle.pas_answers.specs.Acts.{Act, MarksPhase, Wakes, is_active, numbers_from, threads_where, active_threads, idle_threads, acts_of_op, acts_of_ops, phase_acts, close_acts, acts_from, acts_of}
-use Rattle.pas_answers.specs.Answers.{Progress, with_records, Follows}
-use Rattle.pas_answers.specs.Fit.{AreFit, cost_of_act, own_cost_of_act, unbacks_of_act}
+use Rattle.pas_answers.specs.Acts.{Act, MarksPhase, MarksClose, Wakes, is_active, numbers_from, active_threads, idle_threads, acts_of_op, acts_of_ops, phase_acts}
+use Rattle.pas_answers.specs.Answers.{Caches, Progress, with_records}
+use Rattle.pas_answers.specs.Reaching.{Advances}
+use Rattle.pas_plain.specs.declared.pass.PlainPass.{PlainPass}
+use Rattle.pas_answers.specs.Fit.{AreFit, cost_of_act}
 use Rattle.pas_answers.specs.Names.{names_held}
 use Rattle.pas_bits.specs.Masks.{is_set}
 use Rattle.pas_bits.specs.declared.mask.Mask4.{Mask4}
 use Rattle.pas_plans.specs.Awake.{awake_in, idle_in}
-use Rattle.pas_replay.specs.Sessions.{Hand, SoFar, HasRead}
-use Rattle.pas_replay.proofs.Acting.{idly}
+use Rattle.pas_replay.specs.Sessions.{own_events, ActorStands, Hand, SoFar, HasRead}
 use Rattle.pas_plans.proofs.ActsLeft.{number_next, number_last, threads_alike}
 
 -- ---- marks
-pub after_mark : {f : Profile} {all more : List Act} {act : Act} {h : Hand} (out' : Records) (mark : Record) → SoFar f all (act ∷ more) h → ((j : ℕ) → own_cost_of_act j act ≡ 0) → unbacks_of_act f act ≡ 0 → cost_of_act f act ≡ 1
-    → ((limit : ℕ) (asked : List ℕ) → AreFit f limit asked (act ∷ more) → AreFit f limit asked more)
-    → ((p : Progress) (l : Whole) (rs : List Record) → Follows f more (with_records p (mark ∷ [])) l rs → Follows f (act ∷ more) p l rs)
-    → records_in out' ≡ records_in h.out ++ mark ∷ [] → room_of out' ≡ room_of h.out → SoFar f all more (record h { out = out' })
-after_mark {f} {all} {more} {act} {h} out' mark (p, at) free none one fit follows pushed room =
-    let names = at.names in (
+-- no actor has a hand in a mark
+pub mark_free : (f : Profile) (n : ℕ) (more : List Act) (k : ℕ) → own_events f k (MarksPhase n ∷ more) ≡ own_events f k more
+mark_free f n more zero = omega arith
+mark_free f n more (suc i) = omega arith
+
+pub close_free : (f : Profile) (more : List Act) (k : ℕ) → own_events f k (MarksClose ∷ more) ≡ own_events f k more
+close_free f more zero = omega arith
+close_free f more (suc i) = omega arith
+
+still_stands : {f : Profile} {k : ℕ} {slot : Option PlainPass} {l : Whole} (caches : Caches) (acts more : List Act) → own_events f k acts ≡ own_events f k more → ActorStands f k caches slot l acts → ActorStands f k caches slot l more
+still_stands caches acts more same st = let room = st.room in record { pass = st.pass; present = st.present; actor = st.actor; stands = st.stands; rest = st.rest; room = omega (arith, room, same) }
+
+pub after_mark : {f : Profile} {all more : List Act} {act : Act} {h : Hand} (out' : Records) (mark : Record) → SoFar f all (act ∷ more) h → ((p : Progress) → Advances f act p (with_records p (mark ∷ []))) → ((k : ℕ) → own_events f k (act ∷ more) ≡ own_events f k more) → cost_of_act f act ≡ 1
+    → ((limit : ℕ) (asked : List ℕ) → AreFit f limit asked (act ∷ more) → AreFit f limit asked more) → records_in out' ≡ records_in h.out ++ mark ∷ [] → room_of out' ≡ room_of h.out → SoFar f all more (record h { out = out' })
+after_mark {f} {all} {more} {act} {h} out' mark (p, at) advances free one fit pushed room =
+    let names = at.names in
+    let long = ap (λ (rs : List Record). length rs) pushed ∙ length-append (records_in h.out) (mark ∷ []) in
+    let spare = at.spare in (
       with_records p (mark ∷ []),
-      idly out' (mark ∷ []) at free none record { asked = names.asked; fit = fit (names_held h.table) names.asked names.fit; tells = names.tells; turns = names.turns; known = names.known } (omega (arith, one)) pushed room (follows p),
+      record {
+        profile_is = at.profile_is;
+        actors = at.actors;
+        threads = at.threads;
+        operate = at.operate.1;
+        places = at.places;
+        stands = at.stands;
+        each = λ k le. still_stands p.caches (act ∷ more) more (free k) (at.each k le);
+        nobody = at.nobody;
+        names = record { asked = names.asked; fit = fit (names_held h.table) names.asked names.fit; tells = names.tells; turns = names.turns; known = names.known };
+        caches_are = at.caches_are;
+        records_are = pushed ∙ ap (λ (rs : List Record). rs ++ mark ∷ []) at.records_are;
+        spare = omega (arith, long, spare, room, one);
+        answers = λ q rest. at.answers q (with_records p (mark ∷ []), advances p, rest);
+      },
     )
 
 -- ---- the acts that are left

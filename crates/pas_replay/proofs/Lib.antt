@@ -1,11 +1,9 @@
-pub mod Threads
 pub mod Turns
-pub mod Sittings
-pub mod Acting
-pub mod Operations
-pub mod Scavenging
+pub mod Threads
+pub mod Turning
+pub mod ByActors
 pub mod ActsInOrder
-pub mod StartAndEnd
 pub mod Opening
+pub mod StartAndEnd
 pub mod PlansOfOne
 pub mod RecordsOfOne

@@ -1,21 +1,16 @@
 -- How a kit is made: the rooms, the passes and the caches.
-use Rattle.std.proofs.Common.{◌≡◌, ℕ, zero, suc, ◌+◌, ◌<◌, ◌≤◌, List, [], ◌∷◌, ◌++◌, map, length, reverse, All, slice_index, slice_index_or, inl, inr, Option, Some, None, refl, ap, sym, ◌∙◌, subst, arith, length-append}
-use Rattle.std.proofs.lemmas.Bool.{cases_lt}
-use Rattle.std.proofs.lemmas.List.{get_or_append_left, get_or-map}
-use Rattle.std.proofs.lemmas.List.Elements.{All-nil, All-push}
-use Rattle.std.proofs.Math.Seq.{get_or-append_seam}
+use Rattle.std.proofs.Common.{◌≡◌, ℕ, zero, suc, ◌+◌, ◌<◌, ◌≤◌, List, [], ◌∷◌, ◌++◌, map, length, reverse, All, slice_index, slice_index_or, Option, Some, None, refl, ap, sym, ◌∙◌, subst, arith}
+use Rattle.std.proofs.lemmas.List.{get_or-map}
 use Rattle.std.proofs.lemmas.Option.{same_Some}
-use Rattle.pas_profile.specs.Rooms.{shown, size_of_room, EventRoom}
+use Rattle.pas_profile.specs.Rooms.{EventRoom}
 use Rattle.pas_trace.specs.Plans.{bounds_of}
 use Rattle.pas_trace.specs.declared.plan.Plan.{Plan}
 use Rattle.pas_plain.specs.Plain.{PassStands, pass_for, passes_from}
 use Rattle.pas_plain.specs.declared.pass.PlainPass.{PlainPass}
-use Rattle.pas_cache.specs.Caches.{Cached, cached}
-use Rattle.pas_cache.specs.declared.cache.ThreadCache.{ThreadCache}
-use Rattle.pas_plans.specs.Parts.{AreRooms, AreUnused}
+use Rattle.pas_plans.specs.Parts.{AreRooms}
 use Rattle.pas_replay.specs.Kits.{IsFresh}
 use Rattle.pas_replay.specs.Sessions.{pass_in}
-use Rattle.pas_answers.specs.Replays.{empty_cache}
+use Rattle.pas_answers.specs.Replays.{region_of}
 
 -- ---- passes
 -- the passes that were placed, and those that are left, which stand the last one first
@@ -38,7 +33,7 @@ first_room (room ∷ rooms) some = room
 
 -- the actors, whose passes have the rooms, did nothing yet
 pub fresh_actor : (plan : Plan) (sizes : ℕ → Option ℕ) (count : ℕ) (rooms : List EventRoom) (passes : List PlainPass) (places : List (Option PlainPass)) → AreRooms sizes count rooms → ((k : ℕ) → k < count → sizes k ≡ Some (slice_index (bounds_of plan.bounds) k))
-    → passes ≡ passes_from 0 rooms → All (λ pass. PassStands plan.profile pass []) passes → places ≡ map Some passes → (k : ℕ) → k < count → IsFresh plan k (pass_in places k)
+    → passes ≡ passes_from 0 rooms → All (λ pass. PassStands (region_of plan) pass []) passes → places ≡ map Some passes → (k : ℕ) → k < count → IsFresh plan k (pass_in places k)
 fresh_actor plan sizes count rooms passes places are bounds is stand placed k lt =
     let all = are.many in
     let same = ap (λ (ps : List PlainPass). length ps) is in
@@ -51,6 +46,6 @@ fresh_actor plan sizes count rooms passes places are bounds is stand placed k lt
       pass = pass;
       present = ap (λ (ps : List (Option PlainPass)). slice_index_or ps k None) placed ∙ get_or-map (λ (p : PlainPass). Some p) passes k pass None (omega (arith, lt, all, same, long)) ∙ ap (λ (p : PlainPass). Some p) at;
       actor = refl;
-      stands = subst (λ (p : PlainPass). PassStands plan.profile p []) at (stand k pass (omega (arith, lt, all, same, long)));
+      stands = subst (λ (p : PlainPass). PassStands (region_of plan) p []) at (stand k pass (omega (arith, lt, all, same, long)));
       room = same_Some _ _ (sym (are.each k r (omega (arith, lt, all))) ∙ bounds k lt);
     }

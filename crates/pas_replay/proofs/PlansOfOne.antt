@@ -4,15 +4,16 @@ use Rattle.std.specs.Prelude.{map}
 use Rattle.std.specs.List.{AllByRecursion}
 use Rattle.std.proofs.lemmas.Bool.{eq-eqb}
 use Rattle.pas_profile.specs.declared.profile.Profile.{Profile}
-use Rattle.pas_trace.specs.EveryPlan.{all_ops, IsActorOf, records_of_what, own_records}
+use Rattle.pas_trace.specs.Asked.{work_of}
+use Rattle.pas_trace.specs.EveryPlan.{all_ops, IsActorBy, records_of_chore, records_of_work, records_of_what, own_records}
 use Rattle.pas_trace.specs.Plans.{IsPlanOf, bounds_of}
-use Rattle.pas_trace.specs.declared.plan.What.{What}
-use Rattle.pas_trace.specs.declared.plan.What.TheVariants.{Alloc, Free, Raw, Flush, Stop, Tick, Pass, Idle}
+use Rattle.pas_trace.specs.declared.plan.Chore.{Chore}
+use Rattle.pas_trace.specs.declared.plan.Work.{Work}
 use Rattle.pas_trace.specs.declared.plan.Op.{Op}
 use Rattle.pas_trace.specs.declared.plan.Plan.{Plan}
 use Rattle.pas_trace.proofs.EveryPlan.{every_plan}
-use Rattle.pas_answers.specs.Acts.{Act, Operates, Settles, Ticks, MakesPass, ReadsEpoch, StopsIdle, MarksPhase, Wakes, MarksClose, Ends, active_threads, idle_threads, acts_of_what, acts_of_op, acts_of_ops, phase_acts, acts_from, acts_of}
-use Rattle.pas_answers.specs.Replays.{phases_of}
+use Rattle.pas_answers.specs.Acts.{Act, Operates, Ticks, MakesPass, ReadsEpoch, StopsIdle, Wakes, Ends, active_threads, idle_threads, acts_of_work, acts_of_op, acts_of_ops, phase_acts, acts_from, acts_of}
+use Rattle.pas_answers.specs.Replays.{phases_of, threads_of}
 use Rattle.pas_replay.specs.OneThread.{IsOfOneThread}
 use Rattle.pas_plans.proofs.ActsOfPlan.{ArePlanned}
 use Rattle.pas_plans.proofs.PlanFacts.{plan_planned}
@@ -34,20 +35,19 @@ its_record : (t : Bool) (n : ℕ) → t ≡ true → 1 ≤ n → (if t then n el
 its_record true n is some none = omega (arith, some, none)
 its_record false n is some none = absurd (let bad : false ≡ true = is in cc)
 
-thread_or_record : (f : Profile) (k : ℕ) (what : What) → f.threads ≡ 1 → IsActorOf f what k → (if k == 0 then records_of_what f what else 0) ≡ 0 → k ≡ 1
-thread_or_record f k (Tick e) one of none = absurd (its_record (k == 0) 1 (eq-eqb k 0 of) (omega arith) none)
-thread_or_record f k Pass one of none = absurd (its_record (k == 0) (1 + f.pages) (eq-eqb k 0 of) (omega arith) none)
-thread_or_record f k (Idle n) one of none = absurd (its_record (k == 0) f.threads (eq-eqb k 0 of) (omega (arith, one)) none)
-thread_or_record f k (Alloc name heap size align) one of none = let some = of.0 in let most = of.1 in omega (arith, one, some, most)
-thread_or_record f k (Free name) one of none = let some = of.0 in let most = of.1 in omega (arith, one, some, most)
-thread_or_record f k (Raw block) one of none = let some = of.0 in let most = of.1 in omega (arith, one, some, most)
-thread_or_record f k Flush one of none = let some = of.0 in let most = of.1 in omega (arith, one, some, most)
-thread_or_record f k Stop one of none = let some = of.0 in let most = of.1 in omega (arith, one, some, most)
+chore_record : (f : Profile) (chore : Chore) → f.threads ≡ 1 → 1 ≤ records_of_chore f chore
+chore_record f (Chore.Tick e) one = omega arith
+chore_record f Chore.Pass one = omega arith
+chore_record f (Chore.Idle n) one = omega (arith, one)
+
+thread_or_record : (f : Profile) (k : ℕ) (work : Work) → f.threads ≡ 1 → IsActorBy f work k → (if k == 0 then records_of_work f work else 0) ≡ 0 → k ≡ 1
+thread_or_record f k (Work.Own task) one of none = let some = of.0 in let most = of.1 in omega (arith, one, some, most)
+thread_or_record f k (Work.Chore chore) one of none = absurd (its_record (k == 0) (records_of_chore f chore) (eq-eqb k 0 of) (chore_record f chore one) none)
 
 no_records : (f : Profile) (ops : List Op) → f.threads ≡ 1 → ArePlanned f ops → own_records f 0 ops ≡ 0 → AreOfOne ops
 no_records f [] one all none = tt
 no_records f (op ∷ ops) one all none =
-    (thread_or_record f op.actor op.what one all.0 (omega (arith, none)), no_records f ops one all.1 (omega (arith, none)))
+    (thread_or_record f op.actor (work_of op.what) one all.0 (omega (arith, none)), no_records f ops one all.1 (omega (arith, none)))
 
 one_records : (f : Profile) (ops : List Op) → AreOfOne ops → own_records f 0 ops ≡ 0
 one_records f [] all = refl
@@ -57,7 +57,7 @@ one_records f (op ∷ ops) all =
     omega (arith, this, rest)
 
 -- ---- what the bounds say
-pub bound_shows : {text : List ℕ} {plan : Plan} → IsPlanOf text plan → plan.profile.threads ≡ 1 → slice_index (bounds_of plan.bounds) 0 ≡ 0 → IsOfOneThread plan
+pub bound_shows : {text : List ℕ} {plan : Plan} → IsPlanOf text plan → threads_of plan ≡ 1 → slice_index (bounds_of plan.bounds) 0 ≡ 0 → IsOfOneThread plan
 bound_shows {text} {plan} is one none =
     record { threads = one; own = no_records plan.profile (all_ops (phases_of plan)) one (plan_planned is) (sym (every_plan is).scavenger ∙ none) }
 
@@ -68,15 +68,12 @@ one_shows {text} {plan} is alone = (every_plan is).scavenger ∙ one_records pla
 -- the act is thread 1's, or a mark
 abbrev pub IsActOfOne : Act → Type 0
 IsActOfOne (Operates op) = op.actor ≡ 1
-IsActOfOne (Settles k) = Unit {0}
 IsActOfOne (Ticks epoch) = ⊥
 IsActOfOne MakesPass = ⊥
 IsActOfOne ReadsEpoch = ⊥
 IsActOfOne (StopsIdle k n) = ⊥
-IsActOfOne (MarksPhase n) = Unit {0}
-IsActOfOne (Wakes k) = Unit {0}
-IsActOfOne MarksClose = Unit {0}
 IsActOfOne (Ends k) = k ≡ 1
+IsActOfOne act = Unit {0}
 
 abbrev pub AreActsOfOne : List Act → Type 0
 AreActsOfOne acts = AllByRecursion IsActOfOne acts
@@ -85,21 +82,15 @@ AreActsOfOne acts = AllByRecursion IsActOfOne acts
 not_first : {A : Type 0} (k : ℕ) → k ≡ 0 → k ≡ 1 → A
 not_first k none one = absurd (omega (arith, none, one))
 
-what_of_one : (f : Profile) (idle : List ℕ) (op : Op) (what : What) → IsActorOf f what op.actor → IsOfOne op → AreActsOfOne (acts_of_what idle op what)
-what_of_one f idle op (Tick e) of one = not_first op.actor of one
-what_of_one f idle op Pass of one = not_first op.actor of one
-what_of_one f idle op (Idle n) of one = not_first op.actor of one
-what_of_one f idle op (Alloc name heap size align) of one = (one, (tt, tt))
-what_of_one f idle op (Free name) of one = (one, (tt, tt))
-what_of_one f idle op (Raw block) of one = (one, (tt, tt))
-what_of_one f idle op Flush of one = (one, (tt, tt))
-what_of_one f idle op Stop of one = (one, (tt, tt))
+work_of_one : (f : Profile) (idle : List ℕ) (op : Op) (work : Work) → IsActorBy f work op.actor → IsOfOne op → AreActsOfOne (acts_of_work idle op work)
+work_of_one f idle op (Work.Own task) of one = (one, (tt, tt))
+work_of_one f idle op (Work.Chore chore) of one = not_first op.actor of one
 
 -- each phase takes the first operations, and its acts come before those that follow
 ops_of_one : (f : Profile) (idle : List ℕ) (ops : List Op) → ArePlanned f ops → AreOfOne ops → AreActsOfOne (acts_of_ops idle ops)
 ops_of_one f idle [] all own = tt
 ops_of_one f idle (op ∷ ops) all own =
-    all_both IsActOfOne (acts_of_op idle op) (acts_of_ops idle ops) (what_of_one f idle op op.what all.0 own.0) (ops_of_one f idle ops all.1 own.1)
+    all_both IsActOfOne (acts_of_op idle op) (acts_of_ops idle ops) (work_of_one f idle op (work_of op.what) all.0 own.0) (ops_of_one f idle ops all.1 own.1)
 
 wakes_of_one : (ks : List ℕ) → AreActsOfOne (map Wakes ks)
 wakes_of_one [] = tt
@@ -134,6 +125,6 @@ acts_of_one f (p ∷ ps) all own =
     let both = both_of f p (all_ops ps) all own in
     all_both IsActOfOne (phase_acts 1 p) (acts_from 1 2 ps) (phase_of_one f p both.planned both.own) (later_of_one f 2 ps both.planned_after both.own_after)
 
-pub plan_of_one : {text : List ℕ} {plan : Plan} → IsPlanOf text plan → IsOfOneThread plan → AreActsOfOne (acts_of plan.profile.threads (phases_of plan))
+pub plan_of_one : {text : List ℕ} {plan : Plan} → IsPlanOf text plan → IsOfOneThread plan → AreActsOfOne (acts_of (threads_of plan) (phases_of plan))
 plan_of_one {text} {plan} is alone =
     subst (λ (n : ℕ). AreActsOfOne (acts_of n (phases_of plan))) (sym alone.threads) (acts_of_one plan.profile (phases_of plan) (plan_planned is) alone.own)

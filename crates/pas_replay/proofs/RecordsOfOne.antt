@@ -9,13 +9,14 @@ use Rattle.pas_steps.specs.declared.state.State.{State}
 use Rattle.pas_trace.specs.Plans.{IsPlanOf}
 use Rattle.pas_trace.specs.declared.plan.Plan.{Plan}
 use Rattle.pas_report.specs.declared.record.Record.{Record}
-use Rattle.pas_answers.specs.Acts.{Act, Operates, Settles, Ticks, MakesPass, ReadsEpoch, StopsIdle, MarksPhase, Wakes, MarksClose, Ends, acts_of}
-use Rattle.pas_answers.specs.Answers.{Progress, Follows, with_records, after_answer, after_settling, after_wake, after_stop, records_of, said_by}
-use Rattle.pas_answers.specs.Replays.{at_start, phases_of, IsReplay, Shows}
+use Rattle.pas_answers.specs.Acts.{Act, Operates, Settles, MarksPhase, Wakes, MarksClose, Ends, acts_of}
+use Rattle.pas_answers.specs.Answers.{Progress, records_of, said_by}
+use Rattle.pas_answers.specs.Reaching.{Advances, Reaches}
+use Rattle.pas_answers.specs.Replays.{at_start, phases_of, IsReplay, Shows, region_of, threads_of}
 use Rattle.pas_answers.specs.Ways.{InOrder, OnThreads, is_of, EachOf, records_by, by_actors, by_phases, arranged}
 use Rattle.pas_answers.proofs.OwnRecords.{each_both, piece_of, all_by, none_by}
 use Rattle.pas_replay.specs.OneThread.{IsOfOneThread}
-use Rattle.pas_replay.proofs.PlansOfOne.{all_both, AreActsOfOne, plan_of_one}
+use Rattle.pas_replay.proofs.PlansOfOne.{all_both, IsActOfOne, AreActsOfOne, plan_of_one}
 
 -- ---- thread 1's own
 -- the record is its own, or a mark
@@ -38,24 +39,26 @@ own_or_marks (r ∷ rs) all = (all.0, own_or_marks rs all.1)
 more_own : (k : ℕ) (rs new : List Record) → k ≡ 1 → AreOwnOrMarks rs → EachOf k new → AreOwnOrMarks (rs ++ new)
 more_own k rs new one all more = all_both IsOwnOrMark rs new all (own_or_marks new (subst (λ (j : ℕ). EachOf j new) one more))
 
-own_records : (f : Profile) (acts : List Act) (p : Progress) (l : Whole) (rs : List Record) → AreActsOfOne acts → AreOwnOrMarks p.records → Follows f acts p l rs → AreOwnOrMarks rs
-own_records f [] p l rs own all follows = subst AreOwnOrMarks (sym follows.1) all
-own_records f (MarksPhase n ∷ acts) p l rs own all follows = own_records f acts (with_records p (Record.Phase n ∷ [])) l rs own.1 (all_both IsOwnOrMark p.records (Record.Phase n ∷ []) all (tt, tt)) follows
-own_records f (MarksClose ∷ acts) p l rs own all follows = own_records f acts (with_records p (Record.Close ∷ [])) l rs own.1 (all_both IsOwnOrMark p.records (Record.Close ∷ []) all (tt, tt)) follows
-own_records f (Wakes k ∷ acts) p l rs own all follows = own_records f acts (after_wake p k follows.0) l rs own.1 all follows.1
-own_records f (Operates op ∷ acts) p l rs own all follows =
+own_after : {p q : Progress} → q ≡ p → AreOwnOrMarks p.records → AreOwnOrMarks q.records
+own_after is all = subst (λ (r : Progress). AreOwnOrMarks r.records) (sym is) all
+
+own_one : (f : Profile) (act : Act) (p q : Progress) → IsActOfOne act → AreOwnOrMarks p.records → Advances f act p q → AreOwnOrMarks q.records
+own_one f (MarksPhase n) p q own all did = own_after did (all_both IsOwnOrMark p.records (Record.Phase n ∷ []) all (tt, tt))
+own_one f MarksClose p q own all did = own_after did (all_both IsOwnOrMark p.records (Record.Close ∷ []) all (tt, tt))
+own_one f (Wakes k) p q own all did = own_after did.1 all
+own_one f (Operates op) p q own all did =
     let v = part op.actor p.list in
-    let a = follows.0 in
-    own_records f acts (after_answer p op.actor a) l rs own.1
-    (more_own op.actor p.records (records_of (events_by op.actor v a.steps) ++ said_by op.actor a.said) own.0 all (piece_of op.actor v a.steps a.said)) follows.2
-own_records f (Settles k ∷ acts) p l rs own all follows = own_records f acts (after_settling p k) l rs own.1 all follows
-own_records f (Ends k ∷ acts) p l rs own all follows =
+    let a = did.0 in
+    own_after did.2 (more_own op.actor p.records (records_of (events_by op.actor v a.steps) ++ said_by op.actor a.said) own all (piece_of op.actor v a.steps a.said))
+own_one f (Settles k) p q own all did = own_after did all
+own_one f (Ends k) p q own all did =
     let v = part k p.list in
-    own_records f acts (after_stop p k follows.0 follows.1 []) l rs own.1 (more_own k p.records (records_of (events_by k v follows.0) ++ []) own.0 all (piece_of k v follows.0 None)) follows.3
-own_records f (Ticks asked ∷ acts) p l rs own all follows = absurd own.0
-own_records f (MakesPass ∷ acts) p l rs own all follows = absurd own.0
-own_records f (ReadsEpoch ∷ acts) p l rs own all follows = absurd own.0
-own_records f (StopsIdle k n ∷ acts) p l rs own all follows = absurd own.0
+    own_after did.3 (more_own k p.records (records_of (events_by k v did.0) ++ []) own all (piece_of k v did.0 None))
+own_one f act p q own all did = absurd own
+
+own_records : (f : Profile) (acts : List Act) (p q : Progress) → AreActsOfOne acts → AreOwnOrMarks p.records → Reaches f acts p q → AreOwnOrMarks q.records
+own_records f [] p q own all is = own_after is all
+own_records f (act ∷ acts) p q own all is = own_records f acts is.0 q own.1 (own_one f act p is.0 own.0 all is.1) is.2
 
 -- ---- actor by actor they stand in the same order
 by_one : (rs : List Record) → EachOf 1 rs → by_actors 0 2 rs ≡ rs
@@ -73,19 +76,18 @@ same_order since (Record.Said k said ∷ rs) own all =
     same_order (since ++ Record.Said k said ∷ []) rs (each_both 1 since (Record.Said k said ∷ []) own (all.0, tt)) all.1 ∙ append_assoc since (Record.Said k said ∷ []) rs
 
 -- ---- the replay
-arranged_same : {text : List ℕ} {plan : Plan} → IsPlanOf text plan → IsOfOneThread plan → (told : Whole) (said : List Record) → Follows plan.profile (acts_of plan.profile.threads (phases_of plan)) at_start told said
-    → arranged OnThreads plan.profile.threads said ≡ said
-arranged_same {text} {plan} is alone told said answers =
-    ap (λ (n : ℕ). arranged OnThreads n said) alone.threads
-    ∙ same_order [] said tt (own_records plan.profile (acts_of plan.profile.threads (phases_of plan)) at_start told said (plan_of_one is alone) tt answers)
+arranged_same : {text : List ℕ} {plan : Plan} → IsPlanOf text plan → IsOfOneThread plan → (reached : Progress) → Reaches (region_of plan) (acts_of (threads_of plan) (phases_of plan)) at_start reached
+    → arranged OnThreads (region_of plan).threads reached.records ≡ reached.records
+arranged_same {text} {plan} is alone reached answers =
+    ap (λ (n : ℕ). arranged OnThreads n reached.records) alone.threads
+    ∙ same_order [] reached.records tt (own_records (region_of plan) (acts_of (threads_of plan) (phases_of plan)) at_start reached (plan_of_one is alone) tt answers)
 
 replay_of_one : {text : List ℕ} {plan : Plan} {whole : Whole} {records : List Record} → IsPlanOf text plan → IsOfOneThread plan → IsReplay InOrder plan whole records → IsReplay OnThreads plan whole records
 replay_of_one {text} {plan} {whole} {records} is alone replay = record {
-  told = replay.told;
-  said = replay.said;
+  reached = replay.reached;
   answers = replay.answers;
   one_order = λ k. ap (λ (l : Whole). part k l) replay.one_order;
-  records_are = replay.records_are ∙ sym (arranged_same is alone replay.told replay.said replay.answers);
+  records_are = replay.records_are ∙ sym (arranged_same is alone replay.reached replay.answers);
   legal = replay.legal;
   nothing = replay.nothing;
   run = replay.run;

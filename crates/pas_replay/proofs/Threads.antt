@@ -1,66 +1,43 @@
--- The threads of a session, when an actor did something.
-use Rattle.std.proofs.Common.{◌≡◌, ◌≢◌, ℕ, zero, suc, ◌+◌, ◌-◌, ◌<◌, ◌≤◌, Bool, if◌then◌else◌, inl, inr, List, length, get_or, set, Option, refl, ap, sym, ◌∙◌, subst, arith}
-use Rattle.std.proofs.lemmas.Bool.{eq-eqb, ne_eqb, cases_eq}
+-- The caches of all threads, and what the threads owe, when an actor did something.
+use Rattle.std.proofs.Common.{◌≡◌, ◌≢◌, ℕ, zero, suc, ◌+◌, ◌-◌, ◌<◌, ◌≤◌, inl, inr, List, [], length, get_or, set, refl, ap, sym, ◌∙◌, arith}
+use Rattle.std.proofs.lemmas.Bool.{cases_eq}
 use Rattle.std.proofs.lemmas.List.{length-set, get_or-set_other}
 use Rattle.std.proofs.lemmas.Grind.{get_or-set_at}
 use Rattle.pas_profile.specs.declared.profile.Profile.{Profile}
 use Rattle.pas_steps.specs.Lists.{Whole, part}
 use Rattle.pas_steps.specs.Views.{View}
-use Rattle.pas_plain.specs.declared.pass.PlainPass.{PlainPass}
 use Rattle.pas_cache.specs.Caches.{Cached, cached}
 use Rattle.pas_cache.specs.declared.cache.ThreadCache.{ThreadCache}
-use Rattle.pas_answers.specs.Acts.{Act}
-use Rattle.pas_answers.specs.Answers.{Caches, with_cache}
+use Rattle.pas_answers.specs.Answers.{Caches}
 use Rattle.pas_answers.specs.Calls.{owed_events}
-use Rattle.pas_answers.specs.Fit.{own_costs_of}
-use Rattle.pas_replay.specs.Sessions.{Slots, pass_in, HasCache, ThreadStands, AllStand, AreCaches, owed_by}
-use Rattle.pas_replay.proofs.Turns.{put_there, put_elsewhere}
-use Rattle.pas_answers.proofs.SingleActs.{its_cache, other_cache}
+use Rattle.pas_replay.specs.Sessions.{AreCaches, owed_by}
 
--- ---- thread k
-pub stands_at : {f : Profile} {l : Whole} (caches : Caches) (passes : Slots) (acts : List Act) (k : ℕ) → 1 ≤ k → k ≤ f.threads → AllStand f l acts caches passes → ThreadStands f k (caches k) (pass_in passes k) l (own_costs_of k acts)
-stands_at caches passes acts zero some most all = absurd (omega (arith, some))
-stands_at caches passes acts (suc i) some most all = all i (omega (arith, most))
+-- ---- what their caches hold
+pub there_is : (caches : Caches) (list : List ThreadCache) (k : ℕ) (there : ThreadCache) → 1 ≤ k → k ≤ length list → AreCaches caches list → there ≡ get_or list (k - 1) there → caches k ≡ cached there
+there_is caches list zero there some most all is = absurd (omega (arith, some))
+there_is caches list (suc i) there some most all is =
+    let at : i ≡ suc i - 1 = omega arith in
+    all i there (omega (arith, most)) ∙ ap (λ (j : ℕ). cached (get_or list j there)) at ∙ ap cached (sym is)
 
--- what its cache holds
-pub cache_at : (caches : Caches) (list : List ThreadCache) (k : ℕ) → 1 ≤ k → k ≤ length list → AreCaches caches list → HasCache list k (caches k)
-cache_at caches list zero some most all = absurd (omega (arith, some))
-cache_at caches list (suc i) some most all = record { some = some; within = most; holds = λ d. let at : i ≡ suc i - 1 = omega arith in subst (λ (j : ℕ). caches (suc i) ≡ cached (get_or list j d)) at (all i d (omega (arith, most))) }
-
--- all threads but this one stand as before
-abbrev pub OthersStand : Profile → Whole → Whole → List Act → List Act → Caches → ℕ → Type 0
-OthersStand f l l' acts acts' caches k = (j : ℕ) (slot : Option PlainPass) → j ≢ k → ThreadStands f j (caches j) slot l (own_costs_of j acts) → ThreadStands f j (caches j) slot l' (own_costs_of j acts')
-
-pub set_stands : {f : Profile} {l l' : Whole} (caches : Caches) (passes : Slots) (acts acts' : List Act) (k : ℕ) (c' : Cached) (slot : Option PlainPass) → k < length passes → OthersStand f l l' acts acts' caches k
-    → ThreadStands f k c' slot l' (own_costs_of k acts') → AllStand f l acts caches passes → AllStand f l' acts' (with_cache caches k c') (set passes k slot)
-set_stands {f} {l} {l'} caches passes acts acts' k c' slot lt others this all i less = elim (cases_eq (suc i) k) [
-  | inl same ↦
-      subst (λ (m : ℕ). ThreadStands f m (with_cache caches k c' m) (pass_in (set passes k slot) m) l' (own_costs_of m acts')) (sym same)
-      (subst (λ (c : Cached). ThreadStands f k c (pass_in (set passes k slot) k) l' (own_costs_of k acts')) (sym (its_cache caches k c'))
-      (subst (λ (s : Option PlainPass). ThreadStands f k c' s l' (own_costs_of k acts')) (sym (put_there passes k slot lt)) this))
-  | inr other ↦
-      subst (λ (c : Cached). ThreadStands f (suc i) c (pass_in (set passes k slot) (suc i)) l' (own_costs_of (suc i) acts')) (sym (other_cache caches k (suc i) c' other))
-      (others (suc i) (pass_in (set passes k slot) (suc i)) other (subst (λ (s : Option PlainPass). ThreadStands f (suc i) (caches (suc i)) s l (own_costs_of (suc i) acts)) (sym (put_elsewhere passes k (suc i) slot other)) (all i less)))
-]
-
--- .. and none at all did something: the scavenger did
-pub keep_stands : {f : Profile} {l l' : Whole} (caches : Caches) (passes : Slots) (acts acts' : List Act) (slot : Option PlainPass) → OthersStand f l l' acts acts' caches 0 → AllStand f l acts caches passes → AllStand f l' acts' caches (set passes 0 slot)
-keep_stands {f} {l} {l'} caches passes acts acts' slot others all i less =
-    let other : suc i ≢ 0 = λ (e : suc i ≡ 0). omega (arith, e) in
-    others (suc i) (pass_in (set passes 0 slot) (suc i)) other (subst (λ (s : Option PlainPass). ThreadStands f (suc i) (caches (suc i)) s l (own_costs_of (suc i) acts)) (sym (put_elsewhere passes 0 (suc i) slot other)) (all i less))
-
-pub set_caches : (caches : Caches) (list : List ThreadCache) (k : ℕ) (cache : ThreadCache) → 1 ≤ k → k ≤ length list → AreCaches caches list → AreCaches (with_cache caches k (cached cache)) (set list (k - 1) cache)
-set_caches caches list k cache some most all i d less =
+pub set_caches : {caches caches' : Caches} (list : List ThreadCache) (k : ℕ) (cache : ThreadCache) → 1 ≤ k → k ≤ length list → caches' k ≡ cached cache → ((j : ℕ) → j ≢ k → caches' j ≡ caches j) → AreCaches caches list → AreCaches caches' (set list (k - 1) cache)
+set_caches {caches} {caches'} list k cache some most its others all i d less =
     let sized = length-set list (k - 1) cache in
     elim (cases_eq (suc i) k) [
       | inl same ↦
           let at : k - 1 ≡ i = omega (arith, same) in
-          subst (λ (m : ℕ). with_cache caches k (cached cache) m ≡ cached cache) (sym same) (its_cache caches k (cached cache))
-          ∙ ap cached (sym (get_or-set_at list (k - 1) i cache d (sym at) (omega (arith, some, most))))
+          ap (λ (m : ℕ). caches' m) same ∙ its ∙ ap cached (sym (get_or-set_at list (k - 1) i cache d (sym at) (omega (arith, some, most))))
       | inr other ↦
           let ne : i ≢ k - 1 = λ (e : i ≡ k - 1). other (omega (arith, e, some)) in
-          other_cache caches k (suc i) (cached cache) other ∙ all i d (omega (arith, less, sized)) ∙ ap cached (sym (get_or-set_other list (k - 1) i cache d ne))
+          others (suc i) other ∙ all i d (omega (arith, less, sized)) ∙ ap cached (sym (get_or-set_other list (k - 1) i cache d ne))
     ]
+
+-- those below the next place are empty
+pub empty_next : (caches caches' : List ThreadCache) (i : ℕ) (cache : ThreadCache) → caches' ≡ set caches i cache → i < length caches → ((j : ℕ) (d : ThreadCache) → j < i → (cached (get_or caches j d)).locals ≡ []) → (cached cache).locals ≡ []
+    → (j : ℕ) (d : ThreadCache) → j < i + 1 → (cached (get_or caches' j d)).locals ≡ []
+empty_next caches caches' i cache is lt before this j d less = elim (cases_eq i j) [
+  | inl same ↦ ap (λ (cs : List ThreadCache). (cached (get_or cs j d)).locals) is ∙ ap (λ (t : ThreadCache). (cached t).locals) (get_or-set_at caches i j cache d (sym same) lt) ∙ this
+  | inr other ↦ ap (λ (cs : List ThreadCache). (cached (get_or cs j d)).locals) is ∙ ap (λ (t : ThreadCache). (cached t).locals) (get_or-set_other caches i j cache d (λ e. other (sym e))) ∙ before j d (omega (arith, less, other))
+]
 
 -- ---- what they owe
 abbrev pub OthersKept : Whole → Whole → ℕ → Type 0

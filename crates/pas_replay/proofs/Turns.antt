@@ -1,14 +1,11 @@
 -- The one desk of a replay, at which the actors take turns.
-use Rattle.std.proofs.Common.{◌≡◌, ◌≢◌, ℕ, ◌-◌, ◌<◌, List, length, set, get_or, Option, Some, None, ap, sym, ◌∙◌, arith, get_or-set_same, get_or-set_other}
+use Rattle.std.proofs.Common.{◌≡◌, ◌≢◌, ℕ, ◌<◌, length, set, Option, Some, None, ap, sym, ◌∙◌, get_or-set_same, get_or-set_other}
 use Rattle.std.proofs.lemmas.List.{length-set, set-set, set_comm, set-get_or}
-use Rattle.pas_steps.specs.Desks.{Standing, Seat}
 use Rattle.pas_plain.specs.Plain.{actor_of}
-use Rattle.pas_plain.specs.Seats.{region_of, pass_of, standing_of}
+use Rattle.pas_plain.specs.Seats.{region_of, pass_of}
 use Rattle.pas_plain.specs.declared.pass.PlainPass.{PlainPass}
 use Rattle.pas_plain.specs.declared.desk.PlainDesk.{PlainDesk}
-use Rattle.pas_cache.specs.Caches.{Cached, cached}
-use Rattle.pas_cache.specs.declared.cache.ThreadCache.{ThreadCache}
-use Rattle.pas_replay.specs.Sessions.{HasCache, Slots, pass_in, risen, IsSeated, MayTakeSeat, TakesSeat, MayTakeTurn, TakesTurn}
+use Rattle.pas_replay.specs.Sessions.{Slots, pass_in, risen, MayTakeSeat, TakesSeat}
 
 -- ---- the places of the passes
 pub risen_length : (desk : PlainDesk) (passes : Slots) → length (risen desk passes) ≡ length passes
@@ -47,37 +44,3 @@ seat_taken {desk} {desk'} {passes} {q} k n slot is other has actor region pass =
       passes_are = ap (λ (r : PlainPass). set after (actor_of r) (Some r)) pass ∙ ap (λ (m : ℕ). set after m (Some q)) actor
           ∙ seats_change p q n k passes slot (λ (e : k ≡ n). other (sym (e ∙ is))) has ∙ ap (λ (m : ℕ). set passes m (Some p)) is;
     }
-
--- ---- a turn
--- the actor at the desk, once it has risen
-pub at_desk : {desk desk1 : PlainDesk} {passes passes1 : Slots} (k : ℕ) → k < length passes → TakesSeat desk desk1 passes passes1 k → IsSeated (region_of desk) (pass_in (risen desk passes) k) desk1
-at_desk {desk} {desk1} {passes} {passes1} k lt seat =
-    let sized = sym (risen_length desk1 passes1) ∙ ap (λ (xs : Slots). length xs) seat.passes_are ∙ risen_length desk passes in
-    record {
-      region_is = seat.region_is;
-      pass_is = ap (λ (xs : Slots). pass_in xs k) (sym seat.passes_are) ∙ ap (λ (m : ℕ). pass_in (set passes1 m (Some (pass_of desk1))) k) seat.actor_is ∙ put_there passes1 k (Some (pass_of desk1)) (omega (arith, sized, lt));
-    }
-
--- what it may do there
-pub may_there : {May : PlainDesk → Type 0} {desk desk1 : PlainDesk} {passes passes1 : Slots} (k : ℕ) → (may : MayTakeTurn desk passes k May) → TakesSeat desk desk1 passes passes1 k → May desk1
-may_there {desk1 = desk1} k may seat = may.may desk1 (at_desk k may.seat.place seat)
-
--- it did this
-pub turn_taken : {Did : Standing → Standing → Type 0} {desk desk1 desk2 : PlainDesk} {passes passes1 : Slots} (k : ℕ) → k < length passes → TakesSeat desk desk1 passes passes1 k
-    → (standing_of desk2).seat ≡ (standing_of desk1).seat → Did (standing_of desk1) (standing_of desk2) → TakesTurn desk desk2 passes passes1 k Did
-turn_taken {desk = desk} {desk1} {desk2} {passes} {passes1} k lt seat same did =
-    let p2 = pass_of desk2 in
-    let actor = ap (λ (s : Seat). s.actor) same ∙ seat.actor_is in
-    let sized = sym (risen_length desk1 passes1) ∙ ap (λ (xs : Slots). length xs) seat.passes_are ∙ risen_length desk passes in
-    record {
-      passes_are = ap (λ (m : ℕ). set passes1 m (Some p2)) actor
-          ∙ sym (ap (λ (xs : Slots). set xs k (Some p2)) (sym seat.passes_are) ∙ ap (λ (m : ℕ). set (set passes1 m (Some (pass_of desk1))) k (Some p2)) seat.actor_is ∙ set-set passes1 k (Some (pass_of desk1)) (Some p2));
-      taken = omega (arith, actor, sized, lt);
-      own = desk1;
-      seated = at_desk k lt seat;
-      did = did;
-    }
-
--- the cache of thread k that is there
-pub has_at : (caches : List ThreadCache) (k : ℕ) {c : Cached} (there : ThreadCache) → HasCache caches k c → there ≡ get_or caches (k - 1) there → c ≡ cached there
-has_at caches k there has value = has.holds there ∙ ap cached (sym value)

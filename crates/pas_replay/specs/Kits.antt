@@ -1,17 +1,14 @@
 -- A kit that nobody used, made for a plan.
-use Rattle.std.specs.Prelude.{ℕ, ◌+◌, ◌<◌, ◌≡◌, List, [], length, Option, Some, None, All, slice_index, slice_index_or}
-use Rattle.pas_profile.specs.Rooms.{shown, size_of_room, EventRoom}
+use Rattle.std.specs.Prelude.{ℕ, ◌+◌, ◌<◌, ◌≡◌, [], length, Option, Some, None, slice_index}
 use Rattle.pas_trace.specs.Plans.{bounds_of}
 use Rattle.pas_trace.specs.declared.plan.Plan.{Plan}
 use Rattle.pas_plain.specs.Plain.{profile_of, actor_of, room_of_pass, RegionStands, PassStands}
 use Rattle.pas_plain.specs.declared.pass.PlainPass.{PlainPass}
-use Rattle.pas_cache.specs.Caches.{cached}
 use Rattle.pas_answers.specs.Fit.{AllBelow}
 use Rattle.pas_answers.specs.Names.{block_named, names_held}
-use Rattle.pas_answers.specs.Replays.{phases_of, empty_cache}
+use Rattle.pas_answers.specs.Replays.{phases_of, region_of, threads_of}
 use Rattle.pas_replay.specs.declared.kit.PlainKit.{PlainKit}
 use Rattle.pas_utility.specs.Outcomes.{places_of}
-use Rattle.pas_cache.specs.declared.cache.ThreadCache.{ThreadCache}
 use Rattle.pas_replay.specs.Sessions.{pass_in}
 use Rattle.pas_plans.specs.Parts.{AreUnused}
 
@@ -20,16 +17,17 @@ pub record IsFresh (plan : Plan) (k : ℕ) (slot : Option PlainPass) : Type 0 wh
   pub pass : PlainPass
   pub present : slot ≡ Some pass
   pub actor : actor_of pass ≡ k
-  pub stands : PassStands plan.profile pass []
+  pub stands : PassStands (region_of plan) pass []
   pub room : room_of_pass pass ≡ slice_index (bounds_of plan.bounds) k
 
+-- a pass for each actor of the region, and a cache for each thread
 pub record IsKitOf (plan : Plan) (kit : PlainKit) : Type 0 where
-  pub profile : profile_of kit.region ≡ plan.profile
+  pub profile : profile_of kit.region ≡ region_of plan
   pub opening : RegionStands kit.region []
-  pub actors : length kit.actors.passes.items ≡ plan.profile.threads + 1
-  pub fresh : (k : ℕ) → k < plan.profile.threads + 1 → IsFresh plan k (pass_in kit.actors.passes.items k)
-  pub unused : AreUnused plan.profile.threads kit.actors.caches.items
-  pub places : places_of kit.actors.outcomes ≡ plan.profile.pages
+  pub actors : length kit.actors.passes.items ≡ (region_of plan).threads + 1
+  pub fresh : (k : ℕ) → k < (region_of plan).threads + 1 → IsFresh plan k (pass_in kit.actors.passes.items k)
+  pub unused : AreUnused (threads_of plan) kit.actors.caches.items
+  pub places : places_of kit.actors.outcomes ≡ (region_of plan).pages
   pub no_name : (name : ℕ) → block_named kit.names name ≡ None
   pub names : AllBelow (names_held kit.names) (phases_of plan)
   pub none_left : kit.passes.items ≡ []

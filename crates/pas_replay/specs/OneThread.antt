@@ -4,9 +4,10 @@ use Rattle.std.specs.List.{AllByRecursion}
 use Rattle.pas_trace.specs.EveryPlan.{operations_of}
 use Rattle.pas_trace.specs.declared.plan.Op.{Op}
 use Rattle.pas_trace.specs.declared.plan.Plan.{Plan}
+use Rattle.pas_answers.specs.Replays.{threads_of}
 
--- Its profile has one thread, and each operation of each phase is thread 1's. So the scavenger, which is actor 0, has none: no tick, no pass, and no
+-- It has one thread, and each operation of each phase is thread 1's. So the scavenger, which is actor 0, has none: no tick, no pass, and no
 -- idle operation.
 pub record IsOfOneThread (plan : Plan) : Type 0 where
-  pub threads : plan.profile.threads ≡ 1
+  pub threads : threads_of plan ≡ 1
   pub own : AllByRecursion (λ (op : Op). op.actor ≡ 1) (operations_of plan)

@@ -9,7 +9,7 @@ ghost use Rattle.pas_replay.specs.Kits.{IsKitOf};
 ghost use Rattle.pas_replay.specs.OneThread.{IsOfOneThread};
 
 use crate::kit::{PlainKit, in_order};
-use crate::seats::SCAVENGER;
+use pas_acts::at_desk::SCAVENGER;
 use pas_report::Records;
 use pas_steps::State;
 use pas_trace::Plan;

@@ -11,7 +11,7 @@ use crate::order::replay;
 use crate::seats::Actors;
 use pas_answers::names::Names;
 use pas_plain::{PlainPass, PlainRegion, close};
-use pas_plans::{caches_for, names_limit, outcomes_from, rooms_of};
+use pas_plans::{caches_for, outcomes_from, rooms_of};
 use pas_profile::NoMemory;
 use pas_report::Records;
 use pas_steps::State;
@@ -49,7 +49,7 @@ fn places_for(
 }
 
 impl PlainKit {
-    /// The kit of a plan. NoMemory where memory was wanting. Costs one pass over the words of the region and over the plan.
+    /// The kit of a plan. NoMemory where memory was wanting. Costs one pass over the words of the region and over the names.
     pub fn try_new(alloc: Global, plan: &Plan) -> Result<PlainKit, NoMemory>
         requires { (text : List ℕ) × IsPlanOf text plan.now }
         ensures { IfOk result (λ kit. IsKitOf plan.now kit) }
@@ -59,7 +59,7 @@ impl PlainKit {
         let (region, mut passes) = PlainRegion::try_new(alloc, plan.profile, rooms)?;
         let places = places_for(alloc, &mut passes)?;
         let caches = caches_for(alloc, &mut utility, plan.profile.threads)?;
-        let names = Names::try_new(alloc, names_limit(plan.phases.as_slice()))?;
+        let names = Names::try_new(alloc, plan.names_limit)?;
         let actors = Actors {
             passes: places,
             caches,

@@ -1,23 +1,21 @@
 //! The phases of a plan in order, and the close.
 ghost use Rattle.std.specs.Prelude.{◌≡◌, ◌+◌, ◌<◌, ◌≤◌, ◌^◌, map, length, [], ◌∷◌};
 ghost use Rattle.pas_trace.specs.Plans.{ops_of};
-ghost use Rattle.pas_answers.specs.Acts.{Wakes, ReadsEpoch, StopsIdle, Ends, numbers_from, idle_stops, acts_of_op, acts_of_ops, acts_of};
-ghost use Rattle.pas_replay.specs.Sessions.{SoFar, AreEmpty, MayGoOn, GoesOn, MayGoOnAt, GoesOnAt, Replays, hand_at, hand_of, IsTaken};
+ghost use Rattle.pas_answers.specs.Acts.{Wakes, ReadsEpoch, Ends, numbers_from, idle_stops, acts_of_op, acts_of_ops, acts_of};
+ghost use Rattle.pas_replay.specs.Sessions.{SoFar, AreEmpty, MayGoOn, GoesOn, Replays, hand_at, hand_of, IsTaken};
 ghost use Rattle.pas_plans.specs.Awake.{awake_in, idle_in};
 ghost use Rattle.pas_profile.specs.declared.profile.Profile.{Profile as TheProfile};
 ghost use Rattle.pas_report.specs.Rooms.{Records as TheRecords};
 ghost use Rattle.pas_answers.specs.declared.names.Names.{Names as TheNames};
 
-use crate::seats::{Actors, SCAVENGER, operate, pass, read_epoch, rise, sit, tick, wake};
-use pas_answers::is_idle_for;
+use crate::seats::{Actors, end, operate, pass, read_epoch, rise, sit, stop_if_idle, tick, wake};
+use pas_acts::at_desk::SCAVENGER;
 use pas_answers::names::Names;
 use pas_bits::Mask4;
-use pas_large::NoIndex;
 use pas_plain::{PlainDesk, PlainRegion};
 use pas_plans::active;
-use pas_report::{Record, Records, Said};
-use pas_steps::Desk;
-use pas_trace::{Op, Phase, What};
+use pas_report::{Record, Records};
+use pas_trace::{Chore, Op, Phase, Work};
 
 /// The number of the phase that begins without a mark.
 const UNMARKED: u32 = 1;
@@ -40,58 +38,33 @@ fn wake_all(desk: &mut PlainDesk, actors: &mut Actors, awake: Mask4)
     }
 }
 
-/// Stops the thread, where it was idle for so many epochs, now that it is this one, and says so.
-fn stop_if_idle(
-    desk: &mut PlainDesk,
-    actors: &mut Actors,
-    names: &mut Names,
-    actor: u8,
-    epochs: u64,
-    epoch: u64,
-    out: &mut Records,
-)
-    requires some { 1 ≤ actor }
-    requires thread { actor ≤ length actors.old.caches.items }
-    requires taken { IsTaken desk.old actors.old.passes.items }
-    requires so_far { MayGoOnAt epoch (StopsIdle actor epochs ∷ []) (hand_at desk.old actors.old names.old out.old) }
-    ensures taken { IsTaken desk.new actors.new.passes.items }
-    ensures threads { length actors.new.caches.items ≡ length actors.old.caches.items }
-    ensures so_far { GoesOnAt epoch (StopsIdle actor epochs ∷ []) (hand_at desk.old actors.old names.old out.old) (hand_at desk.new actors.new names.new out.new) }
-{
-    if is_idle_for(&actors.caches[actor as usize - 1], epochs, epoch) {
-        operate(desk, actors, names, actor, What::Stop, out);
-        out.push(Record::Said(SCAVENGER, Said::Stopped(actor)));
-    }
-}
-
 /// Stops each thread that is idle in the phase, in order, where it was idle for so many epochs, and says so.
 fn stop_idle(
     desk: &mut PlainDesk,
     actors: &mut Actors,
-    names: &mut Names,
     awake: Mask4,
     epochs: u64,
     out: &mut Records,
 )
     requires few { length actors.old.caches.items < 32 }
     requires taken { IsTaken desk.old actors.old.passes.items }
-    requires so_far { MayGoOn (ReadsEpoch ∷ idle_stops epochs (idle_in awake (length actors.old.caches.items))) (hand_at desk.old actors.old names.old out.old) }
+    requires so_far { (table : TheNames) × MayGoOn (ReadsEpoch ∷ idle_stops epochs (idle_in awake (length actors.old.caches.items))) (hand_at desk.old actors.old table out.old) }
     ensures taken { IsTaken desk.new actors.new.passes.items }
     ensures threads { length actors.new.caches.items ≡ length actors.old.caches.items }
-    ensures so_far { GoesOn (ReadsEpoch ∷ idle_stops epochs (idle_in awake (length actors.old.caches.items)))
-        (hand_at desk.old actors.old names.old out.old) (hand_at desk.new actors.new names.new out.new) }
+    ensures so_far { (table : TheNames) → GoesOn (ReadsEpoch ∷ idle_stops epochs (idle_in awake (length actors.old.caches.items)))
+        (hand_at desk.old actors.old table out.old) (hand_at desk.new actors.new table out.new) }
 {
+    let threads = actors.caches.len();
     let epoch = read_epoch(desk, actors);
-    for index in 0..actors.caches.len() {
+    for index in 0..threads {
         let actor = index as u8 + 1;
         if !awake.get(actor) {
-            stop_if_idle(desk, actors, names, actor, epochs, epoch, out);
+            stop_if_idle(desk, actors, actor, epochs, epoch, out);
         }
     }
 }
 
-/// Performs an operation, in a phase in which these threads have one. After a thread's operation the runs of large blocks that its cache noted are
-/// handed on.
+/// Performs an operation, in a phase in which these threads have one.
 #[inline(always)]
 fn perform(
     desk: &mut PlainDesk,
@@ -108,14 +81,11 @@ fn perform(
     ensures threads { length actors.new.caches.items ≡ length actors.old.caches.items }
     ensures so_far { GoesOn (acts_of_op (idle_in awake (length actors.old.caches.items)) op) (hand_at desk.old actors.old names.old out.old) (hand_at desk.new actors.new names.new out.new) }
 {
-    match op.what {
-        What::Tick(epoch) => tick(desk, actors, epoch, out),
-        What::Pass => pass(desk, actors, out),
-        What::Idle(epochs) => stop_idle(desk, actors, names, awake, epochs, out),
-        What::Alloc { .. } | What::Free { .. } | What::Raw { .. } | What::Flush | What::Stop => {
-            operate(desk, actors, names, op.actor, op.what, out);
-            actors.caches[op.actor as usize - 1].settle(&mut NoIndex);
-        }
+    match op.work() {
+        Work::Own(_) => operate(desk, actors, names, op, out),
+        Work::Chore(Chore::Tick(epoch)) => tick(desk, actors, epoch, out),
+        Work::Chore(Chore::Pass) => pass(desk, actors, out),
+        Work::Chore(Chore::Idle(epochs)) => stop_idle(desk, actors, awake, epochs, out),
     }
 }
 
@@ -141,17 +111,17 @@ fn perform_all(
 }
 
 /// Stops each thread, in order.
-fn stop_all(desk: &mut PlainDesk, actors: &mut Actors, names: &mut Names, out: &mut Records)
+fn stop_all(desk: &mut PlainDesk, actors: &mut Actors, out: &mut Records)
     requires few { length actors.old.caches.items < 32 }
     requires taken { IsTaken desk.old actors.old.passes.items }
-    requires so_far { MayGoOn (map Ends (numbers_from 1 (length actors.old.caches.items))) (hand_at desk.old actors.old names.old out.old) }
+    requires so_far { (table : TheNames) × MayGoOn (map Ends (numbers_from 1 (length actors.old.caches.items))) (hand_at desk.old actors.old table out.old) }
     ensures taken { IsTaken desk.new actors.new.passes.items }
     ensures threads { length actors.new.caches.items ≡ length actors.old.caches.items }
-    ensures so_far { GoesOn (map Ends (numbers_from 1 (length actors.old.caches.items))) (hand_at desk.old actors.old names.old out.old) (hand_at desk.new actors.new names.new out.new) }
+    ensures so_far { (table : TheNames) → GoesOn (map Ends (numbers_from 1 (length actors.old.caches.items))) (hand_at desk.old actors.old table out.old) (hand_at desk.new actors.new table out.new) }
     ensures empty { AreEmpty actors.new.caches.items }
 {
     for index in 0..actors.caches.len() {
-        operate(desk, actors, names, index as u8 + 1, What::Stop, out);
+        end(desk, actors, index as u8 + 1, out);
     }
 }
 
@@ -182,6 +152,6 @@ pub(crate) fn replay(
         perform_all(&mut desk, actors, names, awake, phase.as_slice(), out);
     }
     out.push(Record::Close);
-    stop_all(&mut desk, actors, names, out);
+    stop_all(&mut desk, actors, out);
     rise(desk, actors)
 }

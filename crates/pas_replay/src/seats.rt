@@ -1,34 +1,29 @@
 //! The actors' places at the region. One sits at the desk at a time.
-ghost use Rattle.std.specs.Prelude.{◌≡◌, ◌≢◌, ◌<◌, ◌+◌, ◌^◌, ◌≤◌, ℕ, List, length};
-ghost use Rattle.pas_profile.specs.declared.word.Word.TheVariants as TheWord;
-ghost use Rattle.pas_steps.specs.Clear.{HasNothing};
-ghost use Rattle.pas_steps.specs.Desks.{CanCall, Makes};
-ghost use Rattle.pas_steps.specs.declared.step.Step.TheVariants.{Look};
-ghost use Rattle.pas_plain.specs.Plain.{profile_of, actor_of};
-ghost use Rattle.pas_plain.specs.Seats.{region_of, pass_of, standing_of};
-ghost use Rattle.pas_cache.specs.Caches.{Cached, AtRest};
-ghost use Rattle.pas_cache.specs.Calls.{Begins};
-ghost use Rattle.pas_report.specs.Rooms.{records_in, room_of, Records as TheRecords};
-ghost use Rattle.pas_utility.specs.Outcomes.{places_of};
-ghost use Rattle.pas_passes.specs.Answers.{AnswersTick};
-ghost use Rattle.pas_answers.specs.Calls.{works, HasTurns, MayAnswer, Answers};
+ghost use Rattle.std.specs.Prelude.{◌≡◌, ◌≢◌, ◌<◌, ◌-◌, ◌≤◌, ◌++◌, ℕ, List, [], ◌∷◌, length, slice_set};
+ghost use Rattle.pas_profile.specs.declared.profile.Profile.{Profile as TheProfile};
+ghost use Rattle.pas_plain.specs.Plain.{actor_of};
+ghost use Rattle.pas_plain.specs.Seats.{pass_of};
+ghost use Rattle.pas_cache.specs.Caches.{cached};
+ghost use Rattle.pas_cache.specs.declared.cache.ThreadCache.{ThreadCache as TheCache};
+ghost use Rattle.pas_report.specs.Rooms.{Records as TheRecords};
+ghost use Rattle.pas_answers.specs.Acts.{Act, Operates, Settles, Ticks, MakesPass, ReadsEpoch, StopsIdle, Wakes, Ends};
+ghost use Rattle.pas_answers.specs.Answers.{Named};
+ghost use Rattle.pas_answers.specs.Calls.{Tells, HasTurn, HasTurns, freed_by, named_by};
 ghost use Rattle.pas_answers.specs.Fit.{IsFitWhat};
-ghost use Rattle.pas_answers.specs.Names.{names_held};
+ghost use Rattle.pas_answers.specs.Names.{block_named, names_held};
 ghost use Rattle.pas_answers.specs.declared.names.Names.{Names as TheNames};
-ghost use Rattle.pas_replay.specs.Sessions.{pass_in, hand_of, hand_at, IsTaken, MaySit, MayTakeSeat, TakesSeat, MayTakeTurn, TakesThreadTurn, Scavenges, MadePass, HasCache, spare_at};
+ghost use Rattle.pas_replay.specs.Sessions.{pass_in, hand_of, hand_at, IsTaken, MaySit, MayTakeSeat, TakesSeat, SoFar, MayGoOn, GoesOn, HasRead, MayGoOnAt, GoesOnAt};
 
-use pas_answers::answer;
+use pas_acts::at_desk::SCAVENGER;
+use pas_acts::{at_desk, turns};
 use pas_answers::names::Names;
 use pas_cache::ThreadCache;
 use pas_plain::{PlainDesk, PlainPass, PlainRegion};
-use pas_profile::Word;
-use pas_report::Records;
+use pas_profile::Name;
+use pas_report::{Record, Records, Said};
 use pas_steps::Desk;
-use pas_trace::What;
+use pas_trace::{Op, What};
 use pas_utility::Outcomes;
-
-/// The scavenger's number.
-pub(crate) const SCAVENGER: u8 = 0;
 
 /// What the actors have beside the region.
 #[derive(Drop)]
@@ -93,68 +88,141 @@ fn change_seats(desk: &mut PlainDesk, passes: &mut Vec<Option<PlainPass>>, actor
     passes[place] = Some(risen);
 }
 
-/// The thread of this number reads the epoch, as a phase begins in which it has an operation.
-pub(crate) fn wake(desk: &mut PlainDesk, actors: &mut Actors, actor: u8)
-    requires can { (c : Cached) × HasCache actors.old.caches.items actor c
-        × MayTakeTurn desk.old actors.old.passes.items actor (λ own. CanCall (standing_of own) (AtRest (profile_of (region_of desk.old)) c)) }
-    ensures { (c : Cached) → HasCache actors.old.caches.items actor c → TakesThreadTurn desk.old desk.new actors.old actors.new actor (Begins c) }
+/// What the name that the operation frees stands for.
+#[inline(always)]
+fn freed(names: &Names, what: What) -> Option<Name>
+    ensures { result ≡ freed_by (block_named names.now) what }
 {
-    take_seat(desk, &mut actors.passes, actor);
-    actors.caches[actor as usize - 1].begin(desk);
+    match what {
+        What::Free { name } => names.get(name),
+        _ => None,
+    }
 }
 
-/// The thread of this number performs the operation, and its events and what is said come to the records.
+/// Keeps what the name that the operation asked for came to.
+#[inline(always)]
+fn keep(names: &mut Names, what: What, came: Option<Name>)
+    requires fit { (f : TheProfile) × (asked : List ℕ) × IsFitWhat f (names_held names.old) asked what }
+    ensures tells { (known : List Named) → Tells names.old known → Tells names.new (named_by what came ++ known) }
+    ensures turns { HasTurns names.old → HasTurn came → HasTurns names.new }
+    ensures held { names_held names.new ≡ names_held names.old }
+{
+    match what {
+        What::Alloc { name, .. } => names.set(name, came),
+        _ => {}
+    }
+}
+
+/// The thread of this number reads the epoch, as a phase begins in which it has an operation.
+pub(crate) fn wake(desk: &mut PlainDesk, actors: &mut Actors, actor: u8)
+    requires some { 1 ≤ actor }
+    requires thread { actor ≤ length actors.old.caches.items }
+    requires taken { IsTaken desk.old actors.old.passes.items }
+    requires so_far { (table : TheNames) × (out : TheRecords) × MayGoOn (Wakes actor ∷ []) (hand_at desk.old actors.old table out) }
+    ensures taken { IsTaken desk.new actors.new.passes.items }
+    ensures threads { length actors.new.caches.items ≡ length actors.old.caches.items }
+    ensures so_far { (table : TheNames) (out : TheRecords) → GoesOn (Wakes actor ∷ []) (hand_at desk.old actors.old table out) (hand_at desk.new actors.new table out) }
+{
+    take_seat(desk, &mut actors.passes, actor);
+    let cache = &mut actors.caches[actor as usize - 1];
+    turns::begin(desk, cache);
+}
+
+/// The operation's thread performs it, and its events and what is said come to the records. The runs of large blocks that its cache noted are handed on.
 #[inline(always)]
 pub(crate) fn operate(
     desk: &mut PlainDesk,
     actors: &mut Actors,
     names: &mut Names,
-    actor: u8,
-    what: What,
+    op: Op,
     out: &mut Records,
 )
-    requires fit { (asked : List ℕ) × IsFitWhat (profile_of (region_of desk.old)) (names_held names.old) asked what }
-    requires turns { HasTurns names.old }
-    requires can { (c : Cached) × HasCache actors.old.caches.items actor c
-        × MayTakeTurn desk.old actors.old.passes.items actor (λ own. CanCall (standing_of own) (MayAnswer (profile_of (region_of desk.old)) c what (spare_at own) out.old)) }
-    ensures turn { (c : Cached) → HasCache actors.old.caches.items actor c
-        → TakesThreadTurn desk.old desk.new actors.old actors.new actor (λ c'. Answers what (works names.old c) (works names.new c') out.old out.new) }
-    ensures turns { HasTurns names.new }
+    requires some { 1 ≤ op.actor }
+    requires thread { op.actor ≤ length actors.old.caches.items }
+    requires taken { IsTaken desk.old actors.old.passes.items }
+    requires so_far { MayGoOn (Operates op ∷ (Settles op.actor ∷ [])) (hand_at desk.old actors.old names.old out.old) }
+    ensures taken { IsTaken desk.new actors.new.passes.items }
+    ensures threads { length actors.new.caches.items ≡ length actors.old.caches.items }
+    ensures so_far { GoesOn (Operates op ∷ (Settles op.actor ∷ [])) (hand_at desk.old actors.old names.old out.old) (hand_at desk.new actors.new names.new out.new) }
+{
+    take_seat(desk, &mut actors.passes, op.actor);
+    let cache = &mut actors.caches[op.actor as usize - 1];
+    let meant = freed(names, op.what);
+    let came = at_desk::operate(desk, cache, op, meant, out);
+    keep(names, op.what, came);
+}
+
+/// The thread of this number is stopped, as the replay closes. Its cache is empty then.
+pub(crate) fn end(desk: &mut PlainDesk, actors: &mut Actors, actor: u8, out: &mut Records)
+    requires some { 1 ≤ actor }
+    requires thread { actor ≤ length actors.old.caches.items }
+    requires taken { IsTaken desk.old actors.old.passes.items }
+    requires so_far { (table : TheNames) × MayGoOn (Ends actor ∷ []) (hand_at desk.old actors.old table out.old) }
+    ensures taken { IsTaken desk.new actors.new.passes.items }
+    ensures cache { (cache : TheCache) × (actors.new.caches.items ≡ slice_set actors.old.caches.items (actor - 1) cache) × ((cached cache).locals ≡ []) }
+    ensures so_far { (table : TheNames) → GoesOn (Ends actor ∷ []) (hand_at desk.old actors.old table out.old) (hand_at desk.new actors.new table out.new) }
 {
     take_seat(desk, &mut actors.passes, actor);
     let cache = &mut actors.caches[actor as usize - 1];
-    answer(desk, cache, names, what, out);
+    turns::end(desk, cache, out);
+}
+
+/// Stops the thread of this number, where it was idle for so many epochs, now that it is this one, and says so.
+pub(crate) fn stop_if_idle(
+    desk: &mut PlainDesk,
+    actors: &mut Actors,
+    actor: u8,
+    epochs: u64,
+    epoch: u64,
+    out: &mut Records,
+)
+    requires some { 1 ≤ actor }
+    requires thread { actor ≤ length actors.old.caches.items }
+    requires taken { IsTaken desk.old actors.old.passes.items }
+    requires so_far { (table : TheNames) × MayGoOnAt epoch (StopsIdle actor epochs ∷ []) (hand_at desk.old actors.old table out.old) }
+    ensures taken { IsTaken desk.new actors.new.passes.items }
+    ensures threads { length actors.new.caches.items ≡ length actors.old.caches.items }
+    ensures so_far { (table : TheNames) → GoesOnAt epoch (StopsIdle actor epochs ∷ []) (hand_at desk.old actors.old table out.old) (hand_at desk.new actors.new table out.new) }
+{
+    take_seat(desk, &mut actors.passes, actor);
+    let cache = &mut actors.caches[actor as usize - 1];
+    if at_desk::stop_if_idle(desk, cache, epochs, epoch, out) {
+        out.push(Record::Said(SCAVENGER, Said::Stopped(actor)));
+    }
 }
 
 /// The scavenger raises the epoch to at least this.
 pub(crate) fn tick(desk: &mut PlainDesk, actors: &mut Actors, epoch: u64, out: &mut Records)
-    requires epoch { epoch < 2 ^ 40 }
-    requires can { MayTakeTurn desk.old actors.old.passes.items 0 (λ own. CanCall (standing_of own) HasNothing) }
-    requires record { length (records_in out.old) < room_of out.old }
-    ensures ticks { Scavenges desk.old desk.new actors.old actors.new (λ σ σ'. AnswersTick epoch σ σ' (records_in out.old) (records_in out.new)) }
-    ensures room { room_of out.new ≡ room_of out.old }
+    requires taken { IsTaken desk.old actors.old.passes.items }
+    requires so_far { (table : TheNames) × MayGoOn (Ticks epoch ∷ []) (hand_at desk.old actors.old table out.old) }
+    ensures taken { IsTaken desk.new actors.new.passes.items }
+    ensures threads { length actors.new.caches.items ≡ length actors.old.caches.items }
+    ensures so_far { (table : TheNames) → GoesOn (Ticks epoch ∷ []) (hand_at desk.old actors.old table out.old) (hand_at desk.new actors.new table out.new) }
 {
     take_seat(desk, &mut actors.passes, SCAVENGER);
-    pas_passes::tick(desk, epoch, out);
+    at_desk::tick(desk, epoch, out);
 }
 
 /// The scavenger makes a pass.
 pub(crate) fn pass(desk: &mut PlainDesk, actors: &mut Actors, out: &mut Records)
-    requires can { MayTakeTurn desk.old actors.old.passes.items 0 (λ own. CanCall (standing_of own) HasNothing × ((profile_of (region_of desk.old)).pages ≤ spare_at own)) }
-    requires places { places_of actors.old.outcomes ≡ (profile_of (region_of desk.old)).pages }
-    requires records { length (records_in out.old) + (1 + (profile_of (region_of desk.old)).pages) ≤ room_of out.old }
-    ensures passes { Scavenges desk.old desk.new actors.old actors.new (MadePass (profile_of (region_of desk.old)).pages (records_in out.old) (records_in out.new)) }
-    ensures room { room_of out.new ≡ room_of out.old }
+    requires taken { IsTaken desk.old actors.old.passes.items }
+    requires so_far { (table : TheNames) × MayGoOn (MakesPass ∷ []) (hand_at desk.old actors.old table out.old) }
+    ensures taken { IsTaken desk.new actors.new.passes.items }
+    ensures threads { length actors.new.caches.items ≡ length actors.old.caches.items }
+    ensures so_far { (table : TheNames) → GoesOn (MakesPass ∷ []) (hand_at desk.old actors.old table out.old) (hand_at desk.new actors.new table out.new) }
 {
     take_seat(desk, &mut actors.passes, SCAVENGER);
-    pas_passes::pass(desk, &mut actors.outcomes, out);
+    at_desk::pass(desk, &mut actors.outcomes, out);
 }
 
 /// The scavenger reads the epoch.
 pub(crate) fn read_epoch(desk: &mut PlainDesk, actors: &mut Actors) -> u64
-    requires { MayTakeTurn desk.old actors.old.passes.items 0 (λ own. CanCall (standing_of own) HasNothing) }
-    ensures { Scavenges desk.old desk.new actors.old actors.new (λ σ σ'. Makes σ σ' (Look TheWord.Epoch) result) }
+    requires taken { IsTaken desk.old actors.old.passes.items }
+    requires so_far { (table : TheNames) × (out : TheRecords) × MayGoOn (ReadsEpoch ∷ []) (hand_at desk.old actors.old table out) }
+    ensures taken { IsTaken desk.new actors.new.passes.items }
+    ensures threads { length actors.new.caches.items ≡ length actors.old.caches.items }
+    ensures so_far { (table : TheNames) (out : TheRecords) (f : TheProfile) (all more : List Act) → SoFar f all (ReadsEpoch ∷ more) (hand_at desk.old actors.old table out) → HasRead result f all more (hand_at desk.new actors.new table out) }
 {
     take_seat(desk, &mut actors.passes, SCAVENGER);
-    desk.look(Word::Epoch)
+    at_desk::read_epoch(desk)
 }

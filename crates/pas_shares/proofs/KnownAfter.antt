@@ -1,11 +1,12 @@
 -- The names that were asked for stand for something after the acts too.
-use Rattle.std.proofs.Common.{◌≡◌, ℕ, inl, inr, List, [], ◌∷◌, sym, subst}
+use Rattle.std.proofs.Common.{◌≡◌, ℕ, List, [], ◌∷◌, sym, subst}
 use Rattle.pas_profile.specs.declared.profile.Profile.{Profile}
 use Rattle.pas_steps.specs.Lists.{part}
-use Rattle.pas_answers.specs.Acts.{Act, Operates, Settles, Ticks, MakesPass, ReadsEpoch, StopsIdle, MarksPhase, Wakes, MarksClose, Ends}
+use Rattle.pas_answers.specs.Acts.{Act, Operates}
 use Rattle.pas_answers.specs.Answers.{Progress}
 use Rattle.pas_answers.specs.Calls.{AreKnown}
 use Rattle.pas_answers.proofs.KnownNames.{known_after}
+use Rattle.pas_answers.proofs.Reached.{put_on}
 use Rattle.pas_answers.specs.Reaching.{Advances}
 use Rattle.pas_shares.specs.Shares.{asked_after_act, AreKnownAfter}
 
@@ -16,18 +17,7 @@ same_known asked is known = subst (λ (s : Progress). AreKnown asked s.names) (s
 known_one : (f : Profile) (act : Act) (asked : List ℕ) (p q : Progress) → Advances f act p q → AreKnown asked p.names → AreKnown (asked_after_act act asked) q.names
 known_one f (Operates op) asked p q did known = same_known (asked_after_act (Operates op) asked) did.2
     (known_after f op.actor op.what asked p.names did.0.names (part op.actor p.list) (p.caches op.actor) did.0.cache did.0.steps did.0.said did.1 known)
-known_one f (Settles k) asked p q did known = same_known asked did known
-known_one f (Ticks epoch) asked p q did known = same_known asked did.1 known
-known_one f MakesPass asked p q did known = same_known asked did.4 known
-known_one f ReadsEpoch asked p q did known = same_known asked did.1 known
-known_one f (StopsIdle k n) asked p q did known = elim did [
-  | inl so ↦ same_known asked so.4 known
-  | inr not_so ↦ same_known asked not_so.1 known
-]
-known_one f (MarksPhase n) asked p q did known = same_known asked did known
-known_one f (Wakes k) asked p q did known = same_known asked did.1 known
-known_one f MarksClose asked p q did known = same_known asked did known
-known_one f (Ends k) asked p q did known = same_known asked did.3 known
+known_one f act asked p q did known = subst (AreKnown asked) (sym (put_on f act p q did).2) known
 
 pub are_known : AreKnownAfter
 are_known f [] asked p q reaches known = same_known asked reaches known

@@ -7,7 +7,7 @@ use Rattle.pas_steps.specs.Views.{View}
 use Rattle.pas_steps.specs.declared.step.Made.{Made}
 use Rattle.pas_trace.specs.EveryPlan.{is_asked, asked_after}
 use Rattle.pas_trace.specs.declared.plan.What.{What}
-use Rattle.pas_trace.specs.declared.plan.What.TheVariants.{Alloc, Free, Raw, Flush, Stop, Tick, Pass, Idle}
+use Rattle.pas_trace.specs.declared.plan.What.TheVariants.{Alloc, Free, Raw, Flush, Stop}
 use Rattle.pas_report.specs.declared.record.Said.{Said}
 use Rattle.pas_cache.specs.Caches.{Cached}
 use Rattle.pas_answers.specs.Answers.{Named, named, name_of, standing_for, having, Answer, answer_of, IsFreedBy, IsAnswered}
@@ -73,6 +73,4 @@ retold f limit k (Free name) asked few names v c a among only fit answered = kee
 retold f limit k (Raw block) asked few names v c a among only fit answered = keeps_names f k (Raw block) asked few names v c a answered.1 among only (answered.0, refl)
 retold f limit k Flush asked few names v c a among only fit answered = keeps_names f k Flush asked few names v c a answered.2 among only (answered.0, answered.1, refl)
 retold f limit k Stop asked few names v c a among only fit answered = keeps_names f k Stop asked few names v c a answered.2 among only (answered.0, answered.1, refl)
-retold f limit k (Tick e) asked few names v c a among only fit answered = absurd answered
-retold f limit k Pass asked few names v c a among only fit answered = absurd answered
-retold f limit k (Idle n) asked few names v c a among only fit answered = absurd answered
+retold f limit k what asked few names v c a among only fit answered = absurd answered

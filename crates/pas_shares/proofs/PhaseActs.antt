@@ -1,28 +1,20 @@
 -- The acts of a phase are shared among its workers.
-use Rattle.std.proofs.Common.{◌≡◌, ◌≢◌, ℕ, ◌≤◌, ◌==◌, ◌||◌, not, Bool, true, false, if◌then◌else◌, inl, inr, List, [], ◌∷◌, ◌++◌, refl, ap, sym, ◌∙◌, subst, arith}
-use Rattle.std.specs.List.{filter}
-use Rattle.std.proofs.lemmas.Bool.{eq-eqb, ne_eqb, false≢true, cases_eq, or_parts}
+use Rattle.std.proofs.Common.{◌≡◌, ℕ, ◌≤◌, ◌==◌, ◌||◌, not, Bool, true, false, if◌then◌else◌, inl, inr, List, [], ◌∷◌, ◌++◌, refl, ap, sym, ◌∙◌, arith}
+use Rattle.std.specs.List.{AllByRecursion, filter}
+use Rattle.std.proofs.lemmas.Bool.{eq-eqb, ne_eqb, false≢true, cases_eq, or_left, or_right, or_parts}
 use Rattle.pas_profile.specs.declared.profile.Profile.{Profile}
-use Rattle.pas_trace.specs.EveryPlan.{AreSound, IsActorOf, asked_after}
-use Rattle.pas_trace.specs.declared.plan.What.{What}
-use Rattle.pas_trace.specs.declared.plan.What.TheVariants.{Alloc, Free, Raw, Flush, Stop, Tick, Pass, Idle}
+use Rattle.pas_trace.specs.Asked.{work_of}
+use Rattle.pas_trace.specs.EveryPlan.{AreSound, IsActorBy, asked_after}
+use Rattle.pas_trace.specs.declared.plan.Chore.{Chore}
+use Rattle.pas_trace.specs.declared.plan.Work.{Work}
 use Rattle.pas_trace.specs.declared.plan.Op.{Op}
-use Rattle.pas_answers.specs.Acts.{Act, Operates, Settles, Ticks, MakesPass, ReadsEpoch, StopsIdle, is_active, numbers_from, idle_threads, idle_stops, acts_of_what, acts_of_op, acts_of_ops, own_acts, scavenger_acts}
+use Rattle.pas_answers.specs.Acts.{Act, Operates, Settles, is_active, numbers_from, idle_threads, idle_stops, acts_of_chore, acts_of_work, acts_of_op, acts_of_ops, own_acts, scavenger_acts}
 use Rattle.pas_shares.specs.Shares.{Owners, actor_of_act, AreInHand, acts_by, owner_in, ActsAreShared}
 
 -- ---- who owns whom
 -- each operation's actor is its own worker
 abbrev OwnThemselves : Owners → List Op → Type 0
-OwnThemselves owner [] = Unit {0}
-OwnThemselves owner (op ∷ ops) = (owner op.actor ≡ op.actor) × OwnThemselves owner ops
-
-pub or_right : (s t : Bool) → t ≡ true → s || t ≡ true
-or_right true t is = refl
-or_right false t is = is
-
-or_left : (s t : Bool) → s ≡ true → s || t ≡ true
-or_left true t is = refl
-or_left false t is = absurd (false≢true is)
+OwnThemselves owner ops = AllByRecursion (λ op. owner op.actor ≡ op.actor) ops
 
 -- those that are active among some are so among all
 all_own : (all ops : List Op) → ((k : ℕ) → is_active ops k ≡ true → is_active all k ≡ true) → OwnThemselves (owner_in all) ops
@@ -37,20 +29,14 @@ zero_own true = refl
 zero_own false = refl
 
 -- who is active is a thread of the region, or the scavenger
-what_within : (f : Profile) (what : What) (k : ℕ) → IsActorOf f what k → k ≤ f.threads
-what_within f (Alloc name heap size align) k of = of.1
-what_within f (Free name) k of = of.1
-what_within f (Raw block) k of = of.1
-what_within f Flush k of = of.1
-what_within f Stop k of = of.1
-what_within f (Tick epoch) k of = omega (arith, of)
-what_within f Pass k of = omega (arith, of)
-what_within f (Idle n) k of = omega (arith, of)
+work_within : (f : Profile) (work : Work) (k : ℕ) → IsActorBy f work k → k ≤ f.threads
+work_within f (Work.Own task) k of = of.1
+work_within f (Work.Chore chore) k of = omega (arith, of)
 
 pub active_within : (f : Profile) (asked : List ℕ) (ops : List Op) (k : ℕ) → AreSound f asked ops → is_active ops k ≡ true → k ≤ f.threads
 active_within f asked [] k sound on = absurd (false≢true on)
 active_within f asked (op ∷ ops) k sound on = elim (cases_eq op.actor k) [
-  | inl is ↦ let within = what_within f op.what op.actor sound.0 in omega (arith, within, is)
+  | inl is ↦ let within = work_within f (work_of op.what) op.actor sound.0 in omega (arith, within, is)
   | inr other ↦ active_within f (asked_after op.what asked) ops k sound.2 (sym (ap (λ (t : Bool). t || is_active ops k) (ne_eqb op.actor k other)) ∙ on)
 ]
 
@@ -63,102 +49,57 @@ by_both : (owner : Owners) (w : ℕ) (xs ys : List Act) → acts_by owner w (xs 
 by_both owner w [] ys = refl
 by_both owner w (x ∷ xs) ys = if_both (owner (actor_of_act x) == w) x (acts_by owner w xs) (acts_by owner w ys) (acts_by owner w (xs ++ ys)) (by_both owner w xs ys)
 
-skips : (owner : Owners) (w : ℕ) (act : Act) (acts : List Act) → owner (actor_of_act act) ≢ w → acts_by owner w (act ∷ acts) ≡ acts_by owner w acts
-skips owner w act acts other = ap (λ (t : Bool). if t then act ∷ acts_by owner w acts else acts_by owner w acts) (ne_eqb (owner (actor_of_act act)) w other)
+-- the maker of each of these acts is actor j
+abbrev AreOf : ℕ → List Act → Type 0
+AreOf j acts = AllByRecursion (λ act. actor_of_act act ≡ j) acts
 
-takes : (owner : Owners) (w : ℕ) (act : Act) (acts : List Act) → owner (actor_of_act act) ≡ w → acts_by owner w (act ∷ acts) ≡ act ∷ acts_by owner w acts
-takes owner w act acts mine = ap (λ (t : Bool). if t then act ∷ acts_by owner w acts else acts_by owner w acts) (eq-eqb (owner (actor_of_act act)) w mine)
+stops_are_of : (j n : ℕ) (idle : List ℕ) → 0 ≡ j → AreOf j (idle_stops n idle)
+stops_are_of j n [] is = tt
+stops_are_of j n (k ∷ idle) is = (is, stops_are_of j n idle is)
 
-no_stops : (owner : Owners) (w n : ℕ) (idle : List ℕ) → owner 0 ≢ w → acts_by owner w (idle_stops n idle) ≡ []
-no_stops owner w n [] other = refl
-no_stops owner w n (k ∷ idle) other = skips owner w (StopsIdle k n) (idle_stops n idle) other ∙ no_stops owner w n idle other
+work_is_of : (f : Profile) (idle : List ℕ) (op : Op) (work : Work) → IsActorBy f work op.actor → AreOf op.actor (acts_of_work idle op work)
+work_is_of f idle op (Work.Own task) of = (refl, (refl, tt))
+work_is_of f idle op (Work.Chore (Chore.Tick epoch)) of = (sym of, tt)
+work_is_of f idle op (Work.Chore Chore.Pass) of = (sym of, tt)
+work_is_of f idle op (Work.Chore (Chore.Idle n)) of = (sym of, stops_are_of op.actor n idle (sym of))
 
--- the two acts of a thread's operation
-abbrev two : Op → List Act
-two op = Operates op ∷ (Settles op.actor ∷ [])
+none_if : (t : Bool) → ◌≡◌ {A = List Act} [] (if t then [] else [])
+none_if true = refl
+none_if false = refl
 
-two_mine : (owner : Owners) (op : Op) → owner op.actor ≡ op.actor → acts_by owner op.actor (two op) ≡ two op
-two_mine owner op own = takes owner op.actor (Operates op) (Settles op.actor ∷ []) own ∙ ap (λ (acts : List Act). Operates op ∷ acts) (takes owner op.actor (Settles op.actor) [] own)
+one_if : (t : Bool) (act : Act) (acts : List Act) → (if t then act ∷ (if t then acts else []) else (if t then acts else [])) ≡ (if t then act ∷ acts else [])
+one_if true act acts = refl
+one_if false act acts = refl
 
-two_other : (owner : Owners) (w : ℕ) (op : Op) → owner op.actor ≡ op.actor → op.actor ≢ w → acts_by owner w (two op) ≡ []
-two_other owner w op own other =
-    let ne : owner op.actor ≢ w = λ is. other (sym own ∙ is) in
-    skips owner w (Operates op) (Settles op.actor ∷ []) ne ∙ skips owner w (Settles op.actor) [] ne
-
--- the acts of an operation that are thread k's: its two, or none
-abbrev OfOne : Owners → ℕ → List ℕ → Op → What → Type 0
-OfOne owner k idle op what = acts_by owner k (acts_of_what idle op what) ≡ (if op.actor == k then two op else [])
-
-two_of : (owner : Owners) (k : ℕ) (op : Op) → owner op.actor ≡ op.actor → acts_by owner k (two op) ≡ (if op.actor == k then two op else [])
-two_of owner k op own = elim (cases_eq op.actor k) [
-  | inl same ↦ subst (λ (j : ℕ). acts_by owner j (two op) ≡ (if op.actor == j then two op else [])) same (two_mine owner op own ∙ sym (ap (λ (t : Bool). if t then two op else []) (eq-eqb op.actor op.actor refl)))
-  | inr other ↦ two_other owner k op own other ∙ sym (ap (λ (t : Bool). if t then two op else []) (ne_eqb op.actor k other))
-]
-
-none_of : (k : ℕ) (op : Op) (acts : List Act) → 1 ≤ k → op.actor ≡ 0 → acts ≡ [] → acts ≡ (if op.actor == k then two op else [])
-none_of k op acts some zero none = none ∙ sym (ap (λ (t : Bool). if t then two op else []) (ne_eqb op.actor k (λ is. omega (arith, some, zero, is))))
-
-of_one : (f : Profile) (owner : Owners) (k : ℕ) (idle : List ℕ) (op : Op) (what : What) → 1 ≤ k → owner 0 ≡ 0 → owner op.actor ≡ op.actor → IsActorOf f what op.actor → OfOne owner k idle op what
-of_one f owner k idle op (Alloc name heap size align) some zero own actor = two_of owner k op own
-of_one f owner k idle op (Free name) some zero own actor = two_of owner k op own
-of_one f owner k idle op (Raw block) some zero own actor = two_of owner k op own
-of_one f owner k idle op Flush some zero own actor = two_of owner k op own
-of_one f owner k idle op Stop some zero own actor = two_of owner k op own
-of_one f owner k idle op (Tick epoch) some zero own actor = none_of k op (acts_by owner k (Ticks epoch ∷ [])) some actor (skips owner k (Ticks epoch) [] (λ is. omega (arith, some, zero, is)))
-of_one f owner k idle op Pass some zero own actor = none_of k op (acts_by owner k (MakesPass ∷ [])) some actor (skips owner k MakesPass [] (λ is. omega (arith, some, zero, is)))
-of_one f owner k idle op (Idle n) some zero own actor = none_of k op (acts_by owner k (ReadsEpoch ∷ idle_stops n idle)) some actor
-    (skips owner k ReadsEpoch (idle_stops n idle) (λ is. omega (arith, some, zero, is)) ∙ no_stops owner k n idle (λ is. omega (arith, some, zero, is)))
-
-then_rest : (t : Bool) (op : Op) (rest : List Act) → (if t then two op else []) ++ rest ≡ (if t then Operates op ∷ (Settles op.actor ∷ rest) else rest)
-then_rest true op rest = refl
-then_rest false op rest = refl
-
-of_all : (f : Profile) (owner : Owners) (k : ℕ) (idle asked : List ℕ) (ops : List Op) → 1 ≤ k → owner 0 ≡ 0 → OwnThemselves owner ops → AreSound f asked ops → acts_by owner k (acts_of_ops idle ops) ≡ own_acts k ops
-of_all f owner k idle asked [] some zero own sound = refl
-of_all f owner k idle asked (op ∷ ops) some zero own sound =
-    by_both owner k (acts_of_op idle op) (acts_of_ops idle ops)
-    ∙ ap (λ (acts : List Act). acts ++ acts_by owner k (acts_of_ops idle ops)) (of_one f owner k idle op op.what some zero own.0 sound.0)
-    ∙ ap (λ (acts : List Act). (if op.actor == k then two op else []) ++ acts) (of_all f owner k idle (asked_after op.what asked) ops some zero own.1 sound.2)
-    ∙ then_rest (op.actor == k) op (own_acts k ops)
-
--- ---- the scavenger's acts
-abbrev OfScavenger : Owners → List ℕ → Op → What → Type 0
-OfScavenger owner idle op what = acts_by owner 0 (acts_of_what idle op what) ≡ (if op.actor == 0 then acts_of_what idle op what else [])
-
-threads_not : (owner : Owners) (op : Op) → owner op.actor ≡ op.actor → 1 ≤ op.actor → acts_by owner 0 (two op) ≡ (if op.actor == 0 then two op else [])
-threads_not owner op own some =
-    let ne : op.actor ≢ 0 = λ is. omega (arith, some, is) in
-    two_other owner 0 op own ne ∙ sym (ap (λ (t : Bool). if t then two op else []) (ne_eqb op.actor 0 ne))
-
-all_stops : (owner : Owners) (n : ℕ) (idle : List ℕ) → owner 0 ≡ 0 → acts_by owner 0 (idle_stops n idle) ≡ idle_stops n idle
-all_stops owner n [] zero = refl
-all_stops owner n (k ∷ idle) zero = takes owner 0 (StopsIdle k n) (idle_stops n idle) zero ∙ ap (λ (acts : List Act). StopsIdle k n ∷ acts) (all_stops owner n idle zero)
-
-all_of : (op : Op) (xs acts : List Act) → op.actor ≡ 0 → xs ≡ acts → xs ≡ (if op.actor == 0 then acts else [])
-all_of op xs acts is same = same ∙ sym (ap (λ (t : Bool). if t then acts else []) (eq-eqb op.actor 0 is))
-
-of_scavenger : (f : Profile) (owner : Owners) (idle : List ℕ) (op : Op) (what : What) → owner 0 ≡ 0 → owner op.actor ≡ op.actor → IsActorOf f what op.actor → OfScavenger owner idle op what
-of_scavenger f owner idle op (Alloc name heap size align) zero own actor = threads_not owner op own actor.0
-of_scavenger f owner idle op (Free name) zero own actor = threads_not owner op own actor.0
-of_scavenger f owner idle op (Raw block) zero own actor = threads_not owner op own actor.0
-of_scavenger f owner idle op Flush zero own actor = threads_not owner op own actor.0
-of_scavenger f owner idle op Stop zero own actor = threads_not owner op own actor.0
-of_scavenger f owner idle op (Tick epoch) zero own actor = all_of op (acts_by owner 0 (Ticks epoch ∷ [])) (Ticks epoch ∷ []) actor (takes owner 0 (Ticks epoch) [] zero)
-of_scavenger f owner idle op Pass zero own actor = all_of op (acts_by owner 0 (MakesPass ∷ [])) (MakesPass ∷ []) actor (takes owner 0 MakesPass [] zero)
-of_scavenger f owner idle op (Idle n) zero own actor = all_of op (acts_by owner 0 (ReadsEpoch ∷ idle_stops n idle)) (ReadsEpoch ∷ idle_stops n idle) actor
-    (takes owner 0 ReadsEpoch (idle_stops n idle) zero ∙ ap (λ (acts : List Act). ReadsEpoch ∷ acts) (all_stops owner n idle zero))
+-- acts of an actor that is its own worker are that worker's, and nobody else's
+all_or_none : (owner : Owners) (j k : ℕ) (acts : List Act) → owner j ≡ j → AreOf j acts → acts_by owner k acts ≡ (if j == k then acts else [])
+all_or_none owner j k [] own of = none_if (j == k)
+all_or_none owner j k (act ∷ acts) own of =
+    ap (λ (i : ℕ). if i == k then act ∷ acts_by owner k acts else acts_by owner k acts) (ap owner of.0 ∙ own)
+    ∙ ap (λ (more : List Act). if j == k then act ∷ more else more) (all_or_none owner j k acts own of.1) ∙ one_if (j == k) act acts
 
 then_others : (t : Bool) (acts rest : List Act) → (if t then acts else []) ++ rest ≡ (if t then acts ++ rest else rest)
 then_others true acts rest = refl
 then_others false acts rest = refl
 
-of_scavengers : (f : Profile) (owner : Owners) (idle asked : List ℕ) (ops : List Op) → owner 0 ≡ 0 → OwnThemselves owner ops → AreSound f asked ops → acts_by owner 0 (acts_of_ops idle ops) ≡ scavenger_acts idle ops
-of_scavengers f owner idle asked [] zero own sound = refl
-of_scavengers f owner idle asked (op ∷ ops) zero own sound =
-    by_both owner 0 (acts_of_op idle op) (acts_of_ops idle ops)
-    ∙ ap (λ (acts : List Act). acts ++ acts_by owner 0 (acts_of_ops idle ops)) (of_scavenger f owner idle op op.what zero own.0 sound.0)
-    ∙ ap (λ (acts : List Act). (if op.actor == 0 then acts_of_op idle op else []) ++ acts) (of_scavengers f owner idle (asked_after op.what asked) ops zero own.1 sound.2)
-    ∙ then_others (op.actor == 0) (acts_of_op idle op) (scavenger_acts idle ops)
+-- The acts of worker k are `whole` of the operations, where that has the acts of each operation of actor k.
+module _ (f : Profile) (owner : Owners) (k : ℕ) (idle : List ℕ) (whole : List Op → List Act) (none : whole [] ≡ [])
+    (next : (op : Op) (ops : List Op) → IsActorBy f (work_of op.what) op.actor → whole (op ∷ ops) ≡ (if op.actor == k then acts_of_op idle op ++ whole ops else whole ops)) where
+  of_ops : (asked : List ℕ) (ops : List Op) → OwnThemselves owner ops → AreSound f asked ops → acts_by owner k (acts_of_ops idle ops) ≡ whole ops
+  of_ops asked [] own sound = sym none
+  of_ops asked (op ∷ ops) own sound =
+      by_both owner k (acts_of_op idle op) (acts_of_ops idle ops)
+      ∙ ap (λ (acts : List Act). acts ++ acts_by owner k (acts_of_ops idle ops)) (all_or_none owner op.actor k (acts_of_op idle op) own.0 (work_is_of f idle op (work_of op.what) sound.0))
+      ∙ ap (λ (acts : List Act). (if op.actor == k then acts_of_op idle op else []) ++ acts) (of_ops (asked_after op.what asked) ops own.1 sound.2)
+      ∙ then_others (op.actor == k) (acts_of_op idle op) (whole ops) ∙ sym (next op ops sound.0)
+
+-- no operation of a thread is a chore
+own_next : (f : Profile) (k : ℕ) (idle : List ℕ) (op : Op) (work : Work) (rest : List Act) → 1 ≤ k → IsActorBy f work op.actor
+    → (if op.actor == k then Operates op ∷ (Settles op.actor ∷ rest) else rest) ≡ (if op.actor == k then acts_of_work idle op work ++ rest else rest)
+own_next f k idle op (Work.Own task) rest some of = refl
+own_next f k idle op (Work.Chore chore) rest some of =
+    let ne = ne_eqb op.actor k (λ is. omega (arith, some, of, is)) in
+    ap (λ (t : Bool). if t then Operates op ∷ (Settles op.actor ∷ rest) else rest) ne ∙ sym (ap (λ (t : Bool). if t then acts_of_chore idle chore ++ rest else rest) ne)
 
 pub none_own : (k : ℕ) (ops : List Op) → is_active ops k ≡ false → own_acts k ops ≡ []
 none_own k [] is = refl
@@ -173,26 +114,24 @@ hands_both owner (x ∷ xs) ys one two = (one.0, hands_both owner xs ys one.1 tw
 
 -- each of these is in the scavenger's hands
 abbrev AreIdle : Owners → List ℕ → Type 0
-AreIdle owner [] = Unit {0}
-AreIdle owner (k ∷ ks) = (owner k ≡ owner 0) × AreIdle owner ks
+AreIdle owner ks = AllByRecursion (λ k. owner k ≡ owner 0) ks
 
 hands_stops : (owner : Owners) (n : ℕ) (idle : List ℕ) → AreIdle owner idle → AreInHand owner (idle_stops n idle)
 hands_stops owner n [] all = tt
 hands_stops owner n (k ∷ idle) all = (all.0, hands_stops owner n idle all.1)
 
-hands_one : (owner : Owners) (idle : List ℕ) (op : Op) (what : What) → AreIdle owner idle → AreInHand owner (acts_of_what idle op what)
-hands_one owner idle op (Alloc name heap size align) all = (tt, (tt, tt))
-hands_one owner idle op (Free name) all = (tt, (tt, tt))
-hands_one owner idle op (Raw block) all = (tt, (tt, tt))
-hands_one owner idle op Flush all = (tt, (tt, tt))
-hands_one owner idle op Stop all = (tt, (tt, tt))
-hands_one owner idle op (Tick epoch) all = (tt, tt)
-hands_one owner idle op Pass all = (tt, tt)
-hands_one owner idle op (Idle n) all = (tt, hands_stops owner n idle all)
+hands_chore : (owner : Owners) (idle : List ℕ) (chore : Chore) → AreIdle owner idle → AreInHand owner (acts_of_chore idle chore)
+hands_chore owner idle (Chore.Tick epoch) all = (tt, tt)
+hands_chore owner idle Chore.Pass all = (tt, tt)
+hands_chore owner idle (Chore.Idle n) all = (tt, hands_stops owner n idle all)
+
+hands_one : (owner : Owners) (idle : List ℕ) (op : Op) (work : Work) → AreIdle owner idle → AreInHand owner (acts_of_work idle op work)
+hands_one owner idle op (Work.Own task) all = (tt, (tt, tt))
+hands_one owner idle op (Work.Chore chore) all = hands_chore owner idle chore all
 
 hands_all : (owner : Owners) (idle : List ℕ) (ops : List Op) → AreIdle owner idle → AreInHand owner (acts_of_ops idle ops)
 hands_all owner idle [] all = tt
-hands_all owner idle (op ∷ ops) all = hands_both owner (acts_of_op idle op) (acts_of_ops idle ops) (hands_one owner idle op op.what all) (hands_all owner idle ops all)
+hands_all owner idle (op ∷ ops) all = hands_both owner (acts_of_op idle op) (acts_of_ops idle ops) (hands_one owner idle op (work_of op.what) all) (hands_all owner idle ops all)
 
 idle_one : (ops : List Op) (k : ℕ) (t : Bool) (rest : List ℕ) → is_active ops k ≡ t → AreIdle (owner_in ops) rest → AreIdle (owner_in ops) (if not t then k ∷ rest else rest)
 idle_one ops k true rest is all = all
@@ -204,10 +143,12 @@ are_idle ops (k ∷ ks) = idle_one ops k (is_active ops k) (filter (λ k. not (i
 
 pub acts_are_shared : ActsAreShared
 acts_are_shared f threads asked ops sound =
+    let idle = idle_threads threads ops in
     let own = all_own ops ops (λ k is. is) in
-    let zero = zero_own (is_active ops 0) in (
-      hands_all (owner_in ops) (idle_threads threads ops) ops (are_idle ops (numbers_from 1 threads)),
-      λ k some active. of_all f (owner_in ops) k (idle_threads threads ops) asked ops some zero own sound,
-      λ k some idle. of_all f (owner_in ops) k (idle_threads threads ops) asked ops some zero own sound ∙ none_own k ops idle,
-      of_scavengers f (owner_in ops) (idle_threads threads ops) asked ops zero own sound,
+    let of_thread : (k : ℕ) → 1 ≤ k → acts_by (owner_in ops) k (acts_of_ops idle ops) ≡ own_acts k ops = λ k some.
+    of_ops f (owner_in ops) k idle (own_acts k) refl (λ op rest of. own_next f k idle op (work_of op.what) (own_acts k rest) some of) asked ops own sound in (
+      hands_all (owner_in ops) idle ops (are_idle ops (numbers_from 1 threads)),
+      λ k some active. of_thread k some,
+      λ k some inactive. of_thread k some ∙ none_own k ops inactive,
+      of_ops f (owner_in ops) 0 idle (scavenger_acts idle) refl (λ op rest of. refl) asked ops own sound,
     )

@@ -1,15 +1,16 @@
 -- What each worker does in a phase, apart from the others, and how the shares of all workers make up the whole phase.
-use Rattle.std.specs.Prelude.{ℕ, ◌+◌, ◌≤◌, ◌≡◌, ◌==◌, true, false, if◌then◌else◌, List, [], ◌∷◌, ◌++◌, Option, Some}
+use Rattle.std.specs.Prelude.{ℕ, ◌+◌, ◌≤◌, ◌≡◌, ◌==◌, true, false, if◌then◌else◌, List, [], ◌∷◌, ◌++◌, Option, Some, IsSomeAnd}
 use Rattle.pas_profile.specs.declared.profile.Profile.{Profile}
 use Rattle.pas_profile.specs.declared.name.Name.{Name}
-use Rattle.pas_steps.specs.Lists.{Whole, part}
-use Rattle.pas_trace.specs.EveryPlan.{asked_after, AreSound}
+use Rattle.pas_steps.specs.Lists.{part}
+use Rattle.pas_trace.specs.Asked.{request_in}
+use Rattle.pas_trace.specs.EveryPlan.{AreSound}
 use Rattle.pas_trace.specs.declared.plan.What.{What}
 use Rattle.pas_trace.specs.declared.plan.Op.{Op}
-use Rattle.pas_trace.specs.declared.plan.What.TheVariants.{Alloc, Free, Raw, Flush, Stop, Tick, Pass, Idle}
 use Rattle.pas_report.specs.declared.record.Record.{Record}
-use Rattle.pas_answers.specs.Acts.{Act, Operates, Settles, Ticks, MakesPass, ReadsEpoch, StopsIdle, MarksPhase, Wakes, MarksClose, Ends, is_active, idle_threads, acts_of_ops, own_acts, scavenger_acts}
-use Rattle.pas_answers.specs.Answers.{Named, standing_for, Progress, Follows}
+use Rattle.pas_answers.specs.Acts.{Act, Operates, Settles, Ticks, MakesPass, ReadsEpoch, StopsIdle, MarksPhase, Wakes, MarksClose, Ends, operation_in, is_active, idle_threads, acts_of_ops, own_acts, scavenger_acts}
+pub use Rattle.pas_answers.specs.Acts.{asked_after_act, asked_after_acts}
+use Rattle.pas_answers.specs.Answers.{Named, standing_for, Progress}
 use Rattle.pas_answers.specs.Calls.{AreKnown, OnlyAsked}
 use Rattle.pas_answers.specs.Reaching.{Reaches}
 use Rattle.pas_answers.specs.Fit.{AreFit}
@@ -36,16 +37,10 @@ actor_of_act (Ends k) = k
 
 -- the worker that makes the act has all that it changes in its hands
 abbrev pub IsInHand : Owners → Act → Type 0
-IsInHand owner (Operates op) = Unit {0}
-IsInHand owner (Settles k) = Unit {0}
-IsInHand owner (Ticks epoch) = Unit {0}
-IsInHand owner MakesPass = Unit {0}
-IsInHand owner ReadsEpoch = Unit {0}
 IsInHand owner (StopsIdle k n) = owner k ≡ owner 0
 IsInHand owner (MarksPhase n) = ⊥
-IsInHand owner (Wakes k) = Unit {0}
 IsInHand owner MarksClose = ⊥
-IsInHand owner (Ends k) = Unit {0}
+IsInHand owner act = Unit {0}
 
 abbrev pub AreInHand : Owners → List Act → Type 0
 AreInHand owner [] = Unit {0}
@@ -63,48 +58,15 @@ AreAmong few many = (n : ℕ) (block : Option Name) → standing_for few n ≡ S
 
 -- the operation asks for this name
 abbrev pub IsRequestOf : ℕ → What → Type 0
-IsRequestOf n (Alloc name heap size align) = name ≡ n
-IsRequestOf n (Free name) = ⊥
-IsRequestOf n (Raw block) = ⊥
-IsRequestOf n Flush = ⊥
-IsRequestOf n Stop = ⊥
-IsRequestOf n (Tick epoch) = ⊥
-IsRequestOf n Pass = ⊥
-IsRequestOf n (Idle m) = ⊥
+IsRequestOf n what = IsSomeAnd (request_in what) (λ request. request.name ≡ n)
 
 abbrev pub Asks : ℕ → Act → Type 0
-Asks n (Operates op) = IsRequestOf n op.what
-Asks n (Settles k) = ⊥
-Asks n (Ticks epoch) = ⊥
-Asks n MakesPass = ⊥
-Asks n ReadsEpoch = ⊥
-Asks n (StopsIdle k m) = ⊥
-Asks n (MarksPhase m) = ⊥
-Asks n (Wakes k) = ⊥
-Asks n MarksClose = ⊥
-Asks n (Ends k) = ⊥
+Asks n act = IsSomeAnd (operation_in act) (λ op. IsRequestOf n op.what)
 
 -- none of these acts asks for the name
 abbrev pub NoneAsks : ℕ → List Act → Type 0
 NoneAsks n [] = Unit {0}
 NoneAsks n (act ∷ acts) = (Asks n act → ⊥) × NoneAsks n acts
-
--- the names that were asked for, after an act and after several
-abbrev pub asked_after_act : Act → List ℕ → List ℕ
-asked_after_act (Operates op) asked = asked_after op.what asked
-asked_after_act (Settles k) asked = asked
-asked_after_act (Ticks epoch) asked = asked
-asked_after_act MakesPass asked = asked
-asked_after_act ReadsEpoch asked = asked
-asked_after_act (StopsIdle k n) asked = asked
-asked_after_act (MarksPhase n) asked = asked
-asked_after_act (Wakes k) asked = asked
-asked_after_act MarksClose asked = asked
-asked_after_act (Ends k) asked = asked
-
-abbrev pub asked_after_acts : List Act → List ℕ → List ℕ
-asked_after_acts [] asked = asked
-asked_after_acts (act ∷ acts) asked = asked_after_acts acts (asked_after_act act asked)
 
 -- ---- shares
 -- A worker's own progress is its share of how far the replay has come: of each actor in its hands it has the same part, cache and records, and what
@@ -136,9 +98,9 @@ AreWoven = (f : Profile) (owner : Owners) (limit : ℕ) (asked : List ℕ) (acts
     → AreFit f limit asked acts → AreInHand owner acts → OnlyAsked asked p.names → ((w : ℕ) → IsShareOf owner w (before w) p)
     → ((w : ℕ) → Reaches f (acts_by owner w acts) (before w) (after w)) → IsWoven f owner acts asked p after
 
--- What follows acts that were answered so follows the whole.
+-- Acts that were answered so, and others from there on, are answered together.
 abbrev pub AreJoined : Type 0
-AreJoined = (f : Profile) (acts more : List Act) (p p' : Progress) (l : Whole) (rs : List Record) → Reaches f acts p p' → Follows f more p' l rs → Follows f (acts ++ more) p l rs
+AreJoined = (f : Profile) (acts more : List Act) (p p' p'' : Progress) → Reaches f acts p p' → Reaches f more p' p'' → Reaches f (acts ++ more) p p''
 
 -- After acts that were answered so, the names that were asked for stand for something, those that the acts asked for too.
 abbrev pub AreKnownAfter : Type 0

@@ -1,8 +1,7 @@
 -- How a replay on threads goes from phase to phase, and to its end.
 use Rattle.std.proofs.Common.{◌≡◌, ℕ, ◌+◌, ◌<◌, ◌≤◌, List, [], ◌∷◌, ◌++◌, map, length, drop, slice_index_or, refl, ap, sym, ◌∙◌, subst, arith, drop_of_length-le}
-use Rattle.std.proofs.lemmas.List.{append-nil, drop_more}
+use Rattle.std.proofs.lemmas.List.{drop_more}
 use Rattle.pas_profile.specs.declared.profile.Profile.{Profile}
-use Rattle.pas_steps.specs.Lists.{Whole}
 use Rattle.pas_trace.specs.Plans.{ops_of}
 use Rattle.pas_trace.specs.declared.plan.Op.{Op}
 use Rattle.pas_trace.specs.declared.plan.Phase.{Phase}
@@ -11,17 +10,18 @@ use Rattle.pas_report.specs.declared.record.Record.{Record}
 use Rattle.pas_shared.specs.declared.region.SharedRegion.{SharedRegion}
 use Rattle.pas_answers.specs.Acts.{Act, Ends, numbers_from, phase_acts, acts_of}
 use Rattle.pas_answers.specs.Replays.{at_start}
-use Rattle.pas_answers.specs.Answers.{Progress, with_records, Follows}
+use Rattle.pas_answers.specs.Answers.{Progress, with_records}
+use Rattle.pas_answers.specs.Reaching.{Reaches}
+use Rattle.pas_answers.proofs.Reached.{reach_both}
 use Rattle.pas_plans.proofs.ActsLeft.{acts_left, close_left, first_phase, other_phase}
 use Rattle.pas_threads.specs.Sessions.{TeamAt, AreMarked, AreWritten, HasRoom, PhaseAt, PhaseDone, CloseDone, HasReplayed}
 use Rattle.pas_threads.specs.declared.phases.Team.{Team}
-use Rattle.pas_shares.proofs.Weaving.{joined}
 use Rattle.pas_threads.proofs.Marking.{are_none, none_written, phase_marked, close_marked, as_marked, written_whole}
 use Rattle.pas_threads.proofs.Staying.{team_at_records, room_after_mark, room_without_mark}
 
 -- what follows these acts from p on is a replay of all
 abbrev pub Leads : Profile → List (List Op) → List Act → Progress → Type 0
-Leads f all acts p = (l : Whole) (rs : List Record) → Follows f acts p l rs → Follows f (acts_of f.threads all) at_start l rs
+Leads f all acts p = (q : Progress) → Reaches f acts p q → Reaches f (acts_of f.threads all) at_start q
 
 -- After n phases of all: these are left. There is room for a mark before each of them, and for that of the close. Before the first phase there is no
 -- record.
@@ -41,7 +41,7 @@ no_phase {region} {f} {all} {team} {out} {marks} empty is at room = record {
   written = none_written f.threads refl empty;
   room = subst (λ (m : ℕ). HasRoom f all m out at_start) is room;
   none = λ zero. (refl, empty);
-  leads = λ l rs follows. follows;
+  leads = λ q reaches. reaches;
 }
 
 -- what is left begins with the next phase, or is nothing
@@ -78,7 +78,6 @@ module _ {region : SharedRegion} {f : Profile} {all : List (List Op)} {n : ℕ} 
 
   pub other_begins : {out' : Records} → 1 ≤ n → records_in out' ≡ records_in out ++ Record.Phase (n + 1) ∷ [] → room_of out' ≡ room_of out → BeforePhase region f all n ops rest team out'
   other_begins {out'} some pushed size =
-      let marked : Leads f all (acts_left f.threads n (ops ∷ rest)) so.p = so.leads in
       record {
         p = with_records so.p (Record.Phase (n + 1) ∷ []);
         at = record {
@@ -86,7 +85,7 @@ module _ {region : SharedRegion} {f : Profile} {all : List (List Op)} {n : ℕ} 
           marked = as_marked f.threads (so.p.records ++ Record.Phase (n + 1) ∷ []) pushed (phase_marked (n + 1) so.written);
           room = room_after_mark f (ops ∷ rest) (length rest + 1) out out' so.p (Record.Phase (n + 1)) pushed size (one_more out so.p so.room);
         };
-        leads = λ l rs follows. (subst (λ (acts : List Act). Leads f all acts so.p) (other_phase f.threads n ops rest some) marked) l rs follows;
+        leads = λ q reaches. (subst (λ (acts : List Act). Leads f all acts so.p) (other_phase f.threads n ops rest some) so.leads) q (with_records so.p (Record.Phase (n + 1) ∷ []), refl, reaches);
       }
 
 pub phase_ends : {region : SharedRegion} {f : Profile} {all : List (List Op)} {n : ℕ} {ops : List Op} {rest : List (List Op)} {team team' : Team} {out out' : Records} (so : BeforePhase region f all n ops rest team out)
@@ -97,7 +96,7 @@ phase_ends {region} {f} {all} {n} {ops} {rest} {team} {team'} {out} {out'} so di
   written = did.written;
   room = did.room;
   none = λ zero. absurd (omega (arith, zero));
-  leads = λ l rs follows. so.leads l rs (joined f (phase_acts f.threads ops) (acts_left f.threads (n + 1) rest) so.p did.reached l rs did.reaches follows);
+  leads = λ q reaches. so.leads q (reach_both f (phase_acts f.threads ops) (acts_left f.threads (n + 1) rest) so.p did.reached q did.reaches reaches);
 }
 
 -- ---- the close
@@ -119,17 +118,14 @@ module _ {region : SharedRegion} {f : Profile} {all : List (List Op)} {n : ℕ} 
     team_at = team_at_records (Record.Close ∷ []) so.team_at;
     marked = as_marked f.threads (so.p.records ++ Record.Close ∷ []) pushed (close_marked so.written);
     room = room_after_mark f [] 0 out out' so.p Record.Close pushed size so.room;
-    leads = λ l rs follows. (subst (λ (acts : List Act). Leads f all acts so.p) (close_left f.threads n) so.leads) l rs follows;
+    leads = λ q reaches. (subst (λ (acts : List Act). Leads f all acts so.p) (close_left f.threads n) so.leads) q (with_records so.p (Record.Close ∷ []), refl, reaches);
   }
 
 pub close_ends : {region : SharedRegion} {f : Profile} {all : List (List Op)} {team team' : Team} {out : Records} {written : List Record} (so : BeforeClose region f all team out) → CloseDone region f team' written so.p → HasReplayed region f all team' written
-close_ends {region} {f} {all} {team} {team'} {out} {written} so did =
-    let ends = map Ends (numbers_from 1 f.threads) in
-    record {
-      end = did.reached;
-      answers = so.leads did.reached.list did.reached.records
-          (subst (λ (acts : List Act). Follows f acts so.p did.reached.list did.reached.records) (append-nil ends) (joined f ends [] so.p did.reached did.reached.list did.reached.records did.reaches (refl, refl)));
-      stands = did.team_at;
-      written_are = written_whole did.written_so;
-      empty = did.empty;
-    }
+close_ends {region} {f} {all} {team} {team'} {out} {written} so did = record {
+  end = did.reached;
+  answers = so.leads did.reached did.reaches;
+  stands = did.team_at;
+  written_are = written_whole did.written_so;
+  empty = did.empty;
+}

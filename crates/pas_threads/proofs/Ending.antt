@@ -59,7 +59,7 @@ module _ {region : SharedRegion} {f : Profile} {team : Team} {end : Progress} (s
   -- all passes are back
   pub all_back : AreAllBack team
   all_back = All-cons IsBackAt team.scavenger.pass (map (λ (w : Worker). w.pass) team.threads.items) (stands.scavenger.has.pass, stands.scavenger.has.present)
-      (All-map IsBackAt (λ (w : Worker). w.pass) team.threads.items (λ i d lt. let has = (stands.workers i d lt).has in (has.pass, has.present)))
+      (All-map IsBackAt (λ (w : Worker). w.pass) team.threads.items (λ i d lt. let has = (stands.workers i d lt).here.has in (has.pass, has.present)))
 
   module _ (passes : List SharedPass) (back : map (λ (pass : SharedPass). Some pass) passes ≡ slots_of team) where
     count : length passes ≡ f.threads + 1
@@ -73,7 +73,7 @@ module _ {region : SharedRegion} {f : Profile} {team : Team} {end : Progress} (s
     -- the pass at number k is that of actor k
     own : (k : ℕ) (d : SharedPass) → k < length passes → IsOwn region end.list k (get_or passes k d)
     own zero d lt =
-        let sits = stands.scavenger.at.sits in
+        let sits = stands.scavenger.at.stands.sits in
         let at = ap (λ (slots : List (Option SharedPass)). get_or slots 0 None) (sym back) ∙ get_or-map (λ (pass : SharedPass). Some pass) passes 0 d None lt in
         own_at region end.list 0 team.scavenger.pass stands.scavenger.has (get_or passes 0 d) at sits.actor sits.stood
     own (suc i) d lt =
@@ -84,7 +84,7 @@ module _ {region : SharedRegion} {f : Profile} {team : Team} {end : Progress} (s
         let rests = stands.workers i w below in
         let at = sym (get_or-map (λ (w : Worker). w.pass) team.threads.items i w None below) ∙ ap (λ (slots : List (Option SharedPass)). get_or slots (suc i) None) (sym back)
         ∙ get_or-map (λ (pass : SharedPass). Some pass) passes (suc i) d None lt in
-        own_at region end.list (suc i) (get_or team.threads.items i w).pass rests.has (get_or passes (suc i) d) at rests.sits.actor rests.sits.stood
+        own_at region end.list (suc i) (get_or team.threads.items i w).pass rests.here.has (get_or passes (suc i) d) at rests.here.rests.sits.actor rests.here.rests.sits.stood
 
     pub all_of_region : All (IsPassOf region) passes
     all_of_region k d lt = (own k d lt).of_region
@@ -107,12 +107,12 @@ module _ {region : SharedRegion} {f : Profile} {team : Team} {end : Progress} (s
       let many = stands.many in
       let below : i < length team.threads.items = omega (arith, lt, many) in
       let d = some_worker team.threads.items i below in
-      let rest = (stands.workers i d below).sits.rest in
+      let rest = (stands.workers i d below).here.rests.sits.rest in
       let none = no_slots (cached (get_or team.threads.items i d).cache).locals (empty i d below) in
       record { grains = λ g. rest.locals.grains g ∙ (none g).0; rights = λ page. rest.locals.rights page ∙ (none page).1; clear = rest.locals.clear }
 
   pub bare_at : ((i : ℕ) (d : Worker) → i < length team.threads.items → (cached (get_or team.threads.items i d).cache).locals ≡ []) → (k : ℕ) → HasNothing (part k end.list)
-  bare_at empty zero = stands.scavenger.at.sits.rest
+  bare_at empty zero = stands.scavenger.at.stands.sits.rest
   bare_at empty (suc i) = elim (cases_lt i f.threads) [
     | inl within ↦ thread_bare empty i within
     | inr past ↦ subst HasNothing (sym (stands.nobody (suc i) (omega (arith, past)))) nothing
@@ -127,7 +127,7 @@ shows {plan} {region} {team} passes {written} {state} valid of_profile replayed 
     let same = same_parts replayed.stands passes back after.whole after.legal after.parts in
     record {
       whole = after.whole;
-      replay = replays OnThreads plan end.list after.whole end.records written valid replayed.answers same replayed.written_are after.legal
+      replay = replays OnThreads plan end after.whole written valid replayed.answers same replayed.written_are after.legal
           (λ k. subst HasNothing (sym (same k)) (bare_at replayed.stands replayed.empty k)) tt;
       profile = closed.profile;
       words = after.words;

@@ -1,9 +1,7 @@
 -- How the workers of a team are equipped, one after the other, and how their passes are handed back.
-use Rattle.std.proofs.Common.{◌≡◌, ℕ, suc, ◌+◌, ◌<◌, inl, inr, List, [], ◌∷◌, ◌++◌, length, get_or, slice_index, All, Option, Some, None, refl, ap, sym, ◌∙◌, subst, arith}
+use Rattle.std.proofs.Common.{◌≡◌, ℕ, suc, ◌+◌, ◌<◌, List, [], ◌∷◌, ◌++◌, length, get_or, slice_index, All, Option, Some, None, refl, ap, sym, ◌∙◌, subst, arith}
 use Rattle.std.proofs.Math.ListN.{set}
-use Rattle.std.proofs.lemmas.Bool.{cases_eq}
-use Rattle.std.proofs.lemmas.Grind.{get_or-set_at}
-use Rattle.std.proofs.lemmas.List.{get_or-map, get_or-set_other, length-map, length-set}
+use Rattle.std.proofs.lemmas.List.{get_or-map, length-map, length-set}
 use Rattle.std.proofs.lemmas.List.Elements.{All-set}
 use Rattle.pas_profile.specs.Rooms.{shown, size_of_room, EventRoom}
 use Rattle.pas_plans.specs.Parts.{AreRooms}
@@ -11,6 +9,7 @@ use Rattle.pas_shared.specs.declared.pass.SharedPass.{SharedPass}
 use Rattle.pas_threads.specs.Kits.{IsEquipped, AreEquipped, AreAllBack}
 use Rattle.pas_threads.specs.declared.workers.Worker.{Worker}
 use Rattle.pas_threads.specs.declared.phases.Team.{Team}
+use Rattle.pas_threads.proofs.TakingTurns.{set_each}
 
 -- ---- equipping
 pub equipped_more : (bounds : List ℕ) (k n : ℕ) (passes : List SharedPass) (workers : List Worker) (pass : SharedPass) (worker : Worker) → AreEquipped bounds k passes workers → n ≡ k + length workers
@@ -32,12 +31,8 @@ pub one_moved : (sizes : ℕ → Option ℕ) (count : ℕ) (rooms : List EventRo
     → AreRooms sizes count rooms → AreRooms sizes count (set rooms i new)
 one_moved sizes count rooms i old new lt is size none are = record {
   many = length-set rooms i new ∙ are.many;
-  each = λ k d within. elim (cases_eq k i) [
-    | inl same ↦
-        let at : get_or (set rooms i new) k d ≡ new = get_or-set_at rooms i k new d same lt in
-        are.each k old within ∙ ap (λ (n : ℕ). Some (size_of_room (get_or rooms n old))) same ∙ ap (λ (room : EventRoom). Some (size_of_room room)) (sym is) ∙ ap Some (sym size) ∙ ap (λ (room : EventRoom). Some (size_of_room room)) (sym at)
-    | inr other ↦ are.each k d within ∙ ap (λ (room : EventRoom). Some (size_of_room room)) (sym (get_or-set_other rooms i k new d other))
-  ];
+  each = λ k d within. let many = are.many in set_each (λ (m : ℕ) (room : EventRoom). sizes m ≡ Some (size_of_room room)) rooms i new d k lt
+      (are.each i old (omega (arith, many, lt)) ∙ ap (λ (room : EventRoom). Some (size_of_room room)) (sym is) ∙ ap Some (sym size)) (λ ne. are.each k d within);
   empty = All-set (λ (room : EventRoom). shown room ≡ []) rooms i new none are.empty;
 }
 

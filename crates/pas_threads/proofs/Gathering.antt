@@ -1,12 +1,11 @@
 -- What workers said comes to the end of other records, one worker after the other.
-use Rattle.std.proofs.Common.{◌≡◌, ◌≢◌, ℕ, ◌+◌, ◌<◌, ◌≤◌, inl, inr, List, ◌++◌, length, drop, set, get_or, refl, ap, sym, ◌∙◌, subst, arith, append_assoc, drop_of_length-le}
+use Rattle.std.proofs.Common.{◌≡◌, ◌≢◌, ℕ, ◌+◌, ◌<◌, ◌≤◌, List, ◌++◌, length, drop, set, get_or, refl, ap, sym, ◌∙◌, subst, arith, append_assoc, drop_of_length-le}
 use Rattle.std.proofs.lemmas.List.{append-nil, drop_more, get_or-set_other, get_or_default}
-use Rattle.std.proofs.lemmas.Grind.{get_or-set_at}
-use Rattle.std.proofs.lemmas.Bool.{cases_eq}
 use Rattle.pas_report.specs.Rooms.{records_in}
 use Rattle.pas_report.specs.declared.record.Record.{Record}
 use Rattle.pas_threads.specs.Turns.{said_by_all, IsGathered}
 use Rattle.pas_threads.specs.declared.workers.Worker.{Worker}
+use Rattle.pas_threads.proofs.TakingTurns.{set_each}
 
 -- Of these workers those before place i are gathered, and the others are as they were. What they say still comes after what was gathered.
 pub record AreGathered (i : ℕ) (old now : List Worker) (before said : List Record) : Type 0 where
@@ -27,12 +26,8 @@ pub gather_goes_on : {i : ℕ} {old now : List Worker} {before said said' : List
     → said' ≡ said ++ records_in (get_or now i d).out → IsGathered (get_or now i d) w → AreGathered (i + 1) old (set now i w) before said'
 gather_goes_on {i} {old} {now} {before} {said} {said'} d w lt many so added one = record {
   said_are = ap (λ (rs : List Record). rs ++ said_by_all (drop (i + 1) old)) added ∙ append_assoc said (records_in (get_or now i d).out) (said_by_all (drop (i + 1) old)) ∙ next_said i old now before said d lt so;
-  done = λ j e less within. elim (cases_eq j i) [
-    | inl same ↦
-        let was : get_or now i d ≡ get_or old j e = so.left i d (omega arith) ∙ get_or_default old i d e lt ∙ ap (λ (m : ℕ). get_or old m e) (sym same) in
-        subst (λ (x : Worker). IsGathered (get_or old j e) x) (sym (get_or-set_at now i j w e same (omega (arith, lt, many)))) (subst (λ (x : Worker). IsGathered x w) was one)
-    | inr other ↦ subst (λ (x : Worker). IsGathered (get_or old j e) x) (sym (get_or-set_other now i j w e other)) (so.done j e (omega (arith, less, other)) within)
-  ];
+  done = λ j e less within. set_each (λ (m : ℕ) (x : Worker). IsGathered (get_or old m e) x) now i w e j (omega (arith, lt, many))
+      (subst (λ (x : Worker). IsGathered x w) (so.left i d (omega arith) ∙ get_or_default old i d e lt) one) (λ ne. so.done j e (omega (arith, less, ne)) within);
   left = λ j e from. let ne : j ≢ i = λ (is : j ≡ i). omega (arith, is, from) in get_or-set_other now i j w e ne ∙ so.left j e (omega (arith, from));
 }
 

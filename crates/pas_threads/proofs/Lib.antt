@@ -4,8 +4,8 @@ pub mod ByLent
 pub mod ByCrew
 pub mod Dealt
 pub mod Acted
-pub mod Waking
-pub mod Stopping
+pub mod TakingTurns
+pub mod ThreadTurns
 pub mod Gathering
 pub mod NamesOfPhases
 pub mod PhaseRooms

@@ -1,21 +1,26 @@
 -- What the book says of the names after a phase.
-use Rattle.std.proofs.Common.{◌≡◌, ℕ, ◌<◌, ◌≤◌, ◌==◌, ◌||◌, ◌⊎◌, Bool, true, false, if◌then◌else◌, inl, inr, List, [], ◌∷◌, ◌++◌, length, get_or, refl, ap, sym, ◌∙◌, subst}
-use Rattle.std.proofs.lemmas.Bool.{eq-eqb, false≢true}
+use Rattle.std.proofs.Common.{◌≡◌, ℕ, ◌<◌, ◌≤◌, ◌==◌, ◌||◌, ◌⊎◌, Bool, true, false, if◌then◌else◌, inl, inr, List, [], ◌∷◌, ◌++◌, length, get_or, Option, Some, None, refl, ap, sym, ◌∙◌, subst}
+use Rattle.std.proofs.lemmas.Bool.{eq-eqb, false≢true, or_right}
 use Rattle.pas_profile.specs.declared.profile.Profile.{Profile}
 use Rattle.pas_steps.specs.Desks.{Standing}
-use Rattle.pas_trace.specs.EveryPlan.{is_asked, asked_after, asked_by, AreSound, IsActorOf}
+use Rattle.pas_trace.specs.Asked.{work_of, of_task, request_of, request_in}
+use Rattle.pas_trace.specs.EveryPlan.{is_asked, asked_with, asked_after, asked_by, AreSound, IsActorOf}
 use Rattle.pas_trace.specs.declared.plan.What.{What}
-use Rattle.pas_trace.specs.declared.plan.What.TheVariants.{Alloc, Free, Raw, Flush, Stop, Tick, Pass, Idle}
+use Rattle.pas_trace.specs.declared.plan.What.TheVariants.{Alloc}
+use Rattle.pas_trace.specs.declared.item.Request.{Request}
+use Rattle.pas_trace.specs.declared.plan.Chore.{Chore}
+use Rattle.pas_trace.specs.declared.plan.Work.{Work}
 use Rattle.pas_trace.specs.declared.plan.Op.{Op}
-use Rattle.pas_answers.specs.Acts.{Act, Operates, Settles, Ticks, MakesPass, ReadsEpoch, StopsIdle, MarksPhase, Wakes, MarksClose, Ends, is_active, idle_threads, idle_stops, acts_of_what, acts_of_op, acts_of_ops, own_acts}
+use Rattle.pas_answers.specs.Acts.{Act, operation_in, asked_after_operation, is_active, idle_threads, idle_stops, acts_of_chore, acts_of_work, acts_of_op, acts_of_ops, own_acts}
 use Rattle.pas_answers.specs.Answers.{Named, standing_for, Progress}
 use Rattle.pas_answers.specs.Calls.{block_behind, HasTurn, AreKnown, OnlyAsked}
 use Rattle.pas_answers.specs.Fit.{IsBelow, AreBelow}
 use Rattle.pas_answers.specs.Names.{block_named, names_held}
 use Rattle.pas_answers.specs.declared.names.Names.{Names}
+use Rattle.pas_trace.proofs.OperationsOfItems.{kept_with}
 use Rattle.pas_plans.proofs.ActsOfPlan.{back_below}
 use Rattle.pas_shares.specs.Shares.{owner_in, IsWoven, AreAmong, IsRequestOf, NoneAsks, asked_after_act, asked_after_acts}
-use Rattle.pas_acts.specs.NameBooks.{requests_in, name_asked, name_asked_by, names_asked, names_of, AreWithin, NamesAt}
+use Rattle.pas_acts.specs.NameBooks.{requests_in, name_asked, names_asked, names_of, AreWithin, NamesAt}
 use Rattle.pas_threads.specs.Taken.{HasRequest, HasTaken, HandsOver}
 use Rattle.pas_acts.specs.Works.{Later, Works}
 use Rattle.pas_threads.specs.Hands.{kept_by}
@@ -24,7 +29,6 @@ use Rattle.pas_threads.specs.declared.workers.Worker.{Worker}
 use Rattle.pas_shares.proofs.KnownAfter.{are_known}
 use Rattle.pas_acts.proofs.Noting.{asks, asks_more}
 use Rattle.pas_acts.proofs.NamesBefore.{sound_front, sound_back}
-use Rattle.pas_shares.proofs.PhaseActs.{or_right}
 use Rattle.pas_threads.proofs.Ranks.{some_worker}
 
 -- ---- what acts ask for
@@ -34,61 +38,29 @@ or_either true t is = inl refl
 or_either false t is = inr is
 
 -- a name that was asked for stays so
-kept_what : (what : What) (asked : List ℕ) (n : ℕ) → is_asked asked n ≡ true → is_asked (asked_after what asked) n ≡ true
-kept_what (Alloc name heap size align) asked n is = or_right (name == n) (is_asked asked n) is
-kept_what (Free name) asked n is = is
-kept_what (Raw block) asked n is = is
-kept_what Flush asked n is = is
-kept_what Stop asked n is = is
-kept_what (Tick epoch) asked n is = is
-kept_what Pass asked n is = is
-kept_what (Idle m) asked n is = is
-
-kept_act : (act : Act) (asked : List ℕ) (n : ℕ) → is_asked asked n ≡ true → is_asked (asked_after_act act asked) n ≡ true
-kept_act (Operates op) asked n is = kept_what op.what asked n is
-kept_act (Settles k) asked n is = is
-kept_act (Ticks epoch) asked n is = is
-kept_act MakesPass asked n is = is
-kept_act ReadsEpoch asked n is = is
-kept_act (StopsIdle k m) asked n is = is
-kept_act (MarksPhase m) asked n is = is
-kept_act (Wakes k) asked n is = is
-kept_act MarksClose asked n is = is
-kept_act (Ends k) asked n is = is
+kept_after : (o : Option Op) (asked : List ℕ) (n : ℕ) → is_asked asked n ≡ true → is_asked (asked_after_operation o asked) n ≡ true
+kept_after None asked n is = is
+kept_after (Some op) asked n is = kept_with (request_in op.what) asked n is
 
 kept_acts : (acts : List Act) (asked : List ℕ) (n : ℕ) → is_asked asked n ≡ true → is_asked (asked_after_acts acts asked) n ≡ true
 kept_acts [] asked n is = is
-kept_acts (act ∷ acts) asked n is = kept_acts acts (asked_after_act act asked) n (kept_act act asked n is)
+kept_acts (act ∷ acts) asked n is = kept_acts acts (asked_after_act act asked) n (kept_after (operation_in act) asked n is)
 
 -- the names that acts ask for were asked for after them
-new_what : (what : What) (asked ns : List ℕ) (n : ℕ) → is_asked (name_asked what ++ ns) n ≡ true → (is_asked (asked_after what asked) n ≡ true) ⊎ (is_asked ns n ≡ true)
-new_what (Alloc name heap size align) asked ns n is = elim (or_either (name == n) (is_asked ns n) is) [
+new_with : (request : Option Request) (asked ns : List ℕ) (n : ℕ) → is_asked (asked_with request [] ++ ns) n ≡ true → (is_asked (asked_with request asked) n ≡ true) ⊎ (is_asked ns n ≡ true)
+new_with None asked ns n is = inr is
+new_with (Some r) asked ns n is = elim (or_either (r.name == n) (is_asked ns n) is) [
   | inl here ↦ inl (ap (λ (t : Bool). t || is_asked asked n) here)
   | inr later ↦ inr later
 ]
-new_what (Free name) asked ns n is = inr is
-new_what (Raw block) asked ns n is = inr is
-new_what Flush asked ns n is = inr is
-new_what Stop asked ns n is = inr is
-new_what (Tick epoch) asked ns n is = inr is
-new_what Pass asked ns n is = inr is
-new_what (Idle m) asked ns n is = inr is
 
-new_act : (act : Act) (asked ns : List ℕ) (n : ℕ) → is_asked (name_asked_by act ++ ns) n ≡ true → (is_asked (asked_after_act act asked) n ≡ true) ⊎ (is_asked ns n ≡ true)
-new_act (Operates op) asked ns n is = new_what op.what asked ns n is
-new_act (Settles k) asked ns n is = inr is
-new_act (Ticks epoch) asked ns n is = inr is
-new_act MakesPass asked ns n is = inr is
-new_act ReadsEpoch asked ns n is = inr is
-new_act (StopsIdle k m) asked ns n is = inr is
-new_act (MarksPhase m) asked ns n is = inr is
-new_act (Wakes k) asked ns n is = inr is
-new_act MarksClose asked ns n is = inr is
-new_act (Ends k) asked ns n is = inr is
+new_after : (o : Option Op) (asked ns : List ℕ) (n : ℕ) → is_asked (asked_after_operation o [] ++ ns) n ≡ true → (is_asked (asked_after_operation o asked) n ≡ true) ⊎ (is_asked ns n ≡ true)
+new_after None asked ns n is = inr is
+new_after (Some op) asked ns n is = new_with (request_in op.what) asked ns n is
 
 asked_then : (acts : List Act) (asked : List ℕ) (n : ℕ) → is_asked (names_asked acts) n ≡ true → is_asked (asked_after_acts acts asked) n ≡ true
 asked_then [] asked n is = absurd (false≢true is)
-asked_then (act ∷ acts) asked n is = elim (new_act act asked (names_asked acts) n is) [
+asked_then (act ∷ acts) asked n is = elim (new_after (operation_in act) asked (names_asked acts) n is) [
   | inl here ↦ kept_acts acts (asked_after_act act asked) n here
   | inr later ↦ asked_then acts (asked_after_act act asked) n later
 ]
@@ -102,20 +74,19 @@ after_stops : (m : ℕ) (idle asked : List ℕ) → asked_after_acts (idle_stops
 after_stops m [] asked = refl
 after_stops m (k ∷ idle) asked = after_stops m idle asked
 
-after_op : (idle : List ℕ) (op : Op) (what : What) (asked : List ℕ) → op.what ≡ what → asked_after_acts (acts_of_what idle op what) asked ≡ asked_after what asked
-after_op idle op (Alloc name heap size align) asked is = ap (λ (w : What). asked_after w asked) is
-after_op idle op (Free name) asked is = ap (λ (w : What). asked_after w asked) is
-after_op idle op (Raw block) asked is = ap (λ (w : What). asked_after w asked) is
-after_op idle op Flush asked is = ap (λ (w : What). asked_after w asked) is
-after_op idle op Stop asked is = ap (λ (w : What). asked_after w asked) is
-after_op idle op (Tick epoch) asked is = refl
-after_op idle op Pass asked is = refl
-after_op idle op (Idle m) asked is = after_stops m idle asked
+after_chore : (idle : List ℕ) (chore : Chore) (asked : List ℕ) → asked_after_acts (acts_of_chore idle chore) asked ≡ asked
+after_chore idle (Chore.Tick epoch) asked = refl
+after_chore idle Chore.Pass asked = refl
+after_chore idle (Chore.Idle m) asked = after_stops m idle asked
+
+after_work : (idle : List ℕ) (op : Op) (work : Work) (asked : List ℕ) → work_of op.what ≡ work → asked_after_acts (acts_of_work idle op work) asked ≡ asked_with (of_task request_of work) asked
+after_work idle op (Work.Own task) asked is = ap (λ (w : Work). asked_with (of_task request_of w) asked) is
+after_work idle op (Work.Chore chore) asked is = after_chore idle chore asked
 
 after_ops : (idle : List ℕ) (ops : List Op) (asked : List ℕ) → asked_after_acts (acts_of_ops idle ops) asked ≡ asked_by asked ops
 after_ops idle [] asked = refl
 after_ops idle (op ∷ ops) asked = after_both (acts_of_op idle op) (acts_of_ops idle ops) asked
-    ∙ ap (λ (ns : List ℕ). asked_after_acts (acts_of_ops idle ops) ns) (after_op idle op op.what asked refl) ∙ after_ops idle ops (asked_after op.what asked)
+    ∙ ap (λ (ns : List ℕ). asked_after_acts (acts_of_ops idle ops) ns) (after_work idle op (work_of op.what) asked refl) ∙ after_ops idle ops (asked_after op.what asked)
 
 -- ---- none of them asks for a name that no thread asks for
 none_both : (n : ℕ) (xs ys : List Act) → NoneAsks n xs → NoneAsks n ys → NoneAsks n (xs ++ ys)
@@ -126,26 +97,19 @@ none_stops : (n m : ℕ) (idle : List ℕ) → NoneAsks n (idle_stops m idle)
 none_stops n m [] = tt
 none_stops n m (k ∷ idle) = (λ bad. bad, none_stops n m idle)
 
-none_op : (n : ℕ) (idle : List ℕ) (op : Op) (what : What) → (IsRequestOf n op.what → ⊥) → NoneAsks n (acts_of_what idle op what)
-none_op n idle op (Alloc name heap size align) none = (none, (λ bad. bad, tt))
-none_op n idle op (Free name) none = (none, (λ bad. bad, tt))
-none_op n idle op (Raw block) none = (none, (λ bad. bad, tt))
-none_op n idle op Flush none = (none, (λ bad. bad, tt))
-none_op n idle op Stop none = (none, (λ bad. bad, tt))
-none_op n idle op (Tick epoch) none = (λ bad. bad, tt)
-none_op n idle op Pass none = (λ bad. bad, tt)
-none_op n idle op (Idle m) none = (λ bad. bad, none_stops n m idle)
+none_chore : (n : ℕ) (idle : List ℕ) (chore : Chore) → NoneAsks n (acts_of_chore idle chore)
+none_chore n idle (Chore.Tick epoch) = (λ bad. bad, tt)
+none_chore n idle Chore.Pass = (λ bad. bad, tt)
+none_chore n idle (Chore.Idle m) = (λ bad. bad, none_stops n m idle)
+
+none_work : (n : ℕ) (idle : List ℕ) (op : Op) (work : Work) → (IsRequestOf n op.what → ⊥) → NoneAsks n (acts_of_work idle op work)
+none_work n idle op (Work.Own task) none = (none, (λ bad. bad, tt))
+none_work n idle op (Work.Chore chore) none = none_chore n idle chore
 
 -- who asks for a name is a thread, and has it among its own
 asks_own : (f : Profile) (n k : ℕ) (what : What) → IsActorOf f what k → IsRequestOf n what → (1 ≤ k) × (is_asked (name_asked what) n ≡ true)
 asks_own f n k (Alloc name heap size align) actor is = (actor.0, ap (λ (t : Bool). t || false) (eq-eqb name n is))
-asks_own f n k (Free name) actor is = absurd is
-asks_own f n k (Raw block) actor is = absurd is
-asks_own f n k Flush actor is = absurd is
-asks_own f n k Stop actor is = absurd is
-asks_own f n k (Tick epoch) actor is = absurd is
-asks_own f n k Pass actor is = absurd is
-asks_own f n k (Idle m) actor is = absurd is
+asks_own f n k what actor is = absurd is
 
 front_asked : (ms ns : List ℕ) (n : ℕ) → is_asked ms n ≡ true → is_asked (ms ++ ns) n ≡ true
 front_asked [] ns n is = absurd (false≢true is)
@@ -163,7 +127,7 @@ none_ask f n idle asked [] sound none = tt
 none_ask f n idle asked (op ∷ ops) sound none =
     let first = λ (k : ℕ). if op.actor == k then name_asked op.what else [] in
     none_both n (acts_of_op idle op) (acts_of_ops idle ops)
-    (none_op n idle op op.what (λ is.
+    (none_work n idle op (work_of op.what) (λ is.
     let k = op.actor in
     let own = asks_own f n k op.what sound.0 is in
     let mine = ap (λ (t : Bool). if t then name_asked op.what else []) (eq-eqb k k refl) in
@@ -204,13 +168,7 @@ hands_nothing {phase} {book} {k} worker names none idle = record {
 -- the names of its requests are below the limit
 within_if : (t : Bool) (limit : ℕ) (what : What) (ns : List ℕ) → IsBelow limit what → AreWithin limit ns → AreWithin limit ((if t then name_asked what else []) ++ ns)
 within_if true limit (Alloc name heap size align) ns below within = (below, within)
-within_if true limit (Free name) ns below within = within
-within_if true limit (Raw block) ns below within = within
-within_if true limit Flush ns below within = within
-within_if true limit Stop ns below within = within
-within_if true limit (Tick epoch) ns below within = within
-within_if true limit Pass ns below within = within
-within_if true limit (Idle m) ns below within = within
+within_if true limit what ns below within = within
 within_if false limit what ns below within = within
 
 pub names_within : (limit k : ℕ) (phase : List Op) → AreBelow limit phase → AreWithin limit (names_asked (own_acts k phase))

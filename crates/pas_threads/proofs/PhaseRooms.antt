@@ -2,37 +2,31 @@
 use Rattle.std.proofs.Common.{◌≡◌, ◌≢◌, ℕ, zero, suc, ◌+◌, ◌<◌, ◌≤◌, ◌==◌, Bool, true, false, if◌then◌else◌, inl, inr, List, [], ◌∷◌, ◌++◌, length, get_or, refl, ap, ◌∙◌, arith, length-append}
 use Rattle.std.proofs.lemmas.Bool.{eq-eqb, ne_eqb, cases_eq}
 use Rattle.pas_profile.specs.declared.profile.Profile.{Profile}
-use Rattle.pas_trace.specs.EveryPlan.{records_of_what, records_of_ops, own_records}
-use Rattle.pas_trace.specs.declared.plan.What.{What}
-use Rattle.pas_trace.specs.declared.plan.What.TheVariants.{Alloc, Free, Raw, Flush, Stop, Tick, Pass, Idle}
+use Rattle.pas_trace.specs.Asked.{work_of}
+use Rattle.pas_trace.specs.EveryPlan.{records_of_work, records_of_what, records_of_ops, own_records}
+use Rattle.pas_trace.specs.declared.plan.Work.{Work}
 use Rattle.pas_trace.specs.declared.plan.Op.{Op}
 use Rattle.pas_report.specs.Rooms.{records_in}
 use Rattle.pas_report.specs.declared.record.Record.{Record}
 use Rattle.pas_answers.specs.Acts.{Act, Operates, Settles, acts_of_op, own_acts, scavenger_acts}
 use Rattle.pas_answers.specs.Answers.{Progress}
-use Rattle.pas_answers.specs.Fit.{cost_of_what, cost_of_act, costs_of, own_costs_of}
+use Rattle.pas_answers.specs.Fit.{cost_of_work, cost_of_what, cost_of_act, costs_of, own_costs_of}
 use Rattle.pas_answers.specs.Ways.{records_by, by_actors}
-use Rattle.pas_plans.proofs.ActsOfPlan.{sum_both, what_costs}
+use Rattle.pas_plans.proofs.ActsOfPlan.{sum_both, work_costs}
 use Rattle.pas_threads.specs.Sessions.{owed_by}
 use Rattle.pas_threads.specs.Turns.{owed_at, said_by_all}
 use Rattle.pas_threads.specs.declared.workers.Worker.{Worker}
 
 -- ---- a thread
-cost_le : (f : Profile) (what : What) → cost_of_what what ≤ records_of_what f what
-cost_le f (Alloc name heap size align) = omega arith
-cost_le f (Free name) = omega arith
-cost_le f (Raw block) = omega arith
-cost_le f Flush = omega arith
-cost_le f Stop = omega arith
-cost_le f (Tick epoch) = omega arith
-cost_le f Pass = omega arith
-cost_le f (Idle n) = omega arith
+cost_le : (f : Profile) (work : Work) → cost_of_work work ≤ records_of_work f work
+cost_le f (Work.Own task) = omega arith
+cost_le f (Work.Chore chore) = omega arith
 
 own_if : (t : Bool) (f : Profile) (k : ℕ) (op : Op) (acts : List Act) (most : ℕ) → (op.actor == k) ≡ t → own_costs_of k acts ≤ most
     → own_costs_of k (if t then Operates op ∷ (Settles op.actor ∷ acts) else acts) ≤ (if t then records_of_what f op.what else 0) + most
 own_if true f k op acts most is few =
     let one = ap (λ (t : Bool). if t then cost_of_what op.what else 0) is in
-    let le = cost_le f op.what in
+    let le = cost_le f (work_of op.what) in
     omega (arith, few, one, le)
 own_if false f k op acts most is few = omega (arith, few)
 
@@ -46,7 +40,7 @@ scavenger_if : (t : Bool) (f : Profile) (idle : List ℕ) (op : Op) (acts : List
     → costs_of f (if t then acts_of_op idle op ++ acts else acts) ≤ (if t then records_of_what f op.what else 0) + most
 scavenger_if true f idle op acts most few rest =
     let both = sum_both (cost_of_act f) (acts_of_op idle op) acts in
-    let one = what_costs f idle op op.what refl few in
+    let one = work_costs f idle op (work_of op.what) refl few in
     omega (arith, both, one, rest)
 scavenger_if false f idle op acts most few rest = omega (arith, rest)
 
@@ -135,9 +129,12 @@ all_paid f ops said p q (suc n) few =
     let last = by_last 1 n said in
     omega (arith, rest, this, same, last)
 
-pub owed_alike : (f : Profile) (p q : Progress) (n : ℕ) → ((k : ℕ) → owed_at f k q ≡ owed_at f k p) → owed_by f q n ≡ owed_by f p n
-owed_alike f p q zero same = refl
-owed_alike f p q (suc n) same = let rest = owed_alike f p q n same in let this = same (suc n) in omega (arith, rest, this)
+pub owed_less : (f : Profile) (p q : Progress) (n : ℕ) → ((i : ℕ) → i < n → owed_at f (suc i) q ≤ owed_at f (suc i) p) → owed_by f q n ≤ owed_by f p n
+owed_less f p q zero less = omega arith
+owed_less f p q (suc n) less =
+    let rest = owed_less f p q n (λ i lt. less i (omega (arith, lt))) in
+    let this = less n (omega arith) in
+    omega (arith, rest, this)
 
 -- ---- workers that said what is theirs
 pub said_in_order : (k : ℕ) (workers : List Worker) (said : List Record) → ((i : ℕ) (d : Worker) → i < length workers → records_in (get_or workers i d).out ≡ records_by (k + i) said) → said_by_all workers ≡ by_actors k (length workers) said

@@ -5,7 +5,6 @@ use Rattle.std.proofs.lemmas.List.{with_items_is}
 use Rattle.pas_bits.specs.declared.mask.Mask4.{Mask4}
 use Rattle.pas_profile.specs.declared.profile.Profile.{Profile}
 use Rattle.pas_steps.specs.Clear.{HasNothing}
-use Rattle.pas_steps.specs.Desks.{Standing}
 use Rattle.pas_steps.specs.Lists.{part}
 use Rattle.pas_steps.specs.Views.{View}
 use Rattle.pas_trace.specs.EveryPhase.{FreesItsOwn}
@@ -33,6 +32,8 @@ use Rattle.pas_threads.specs.declared.scavenger.Scavenger.{Scavenger}
 use Rattle.pas_threads.specs.declared.workers.Worker.{Worker}
 use Rattle.pas_acts.proofs.NamesBefore.{names_before, sound_front}
 use Rattle.pas_threads.proofs.PhaseRooms.{own_costs, scavenger_costs}
+use Rattle.pas_acts.proofs.AtDesk.{sits_for}
+use Rattle.pas_threads.proofs.ThreadTurns.{woke_rest}
 
 -- ---- rooms
 -- what the worker at this place has room for
@@ -54,10 +55,6 @@ spare_beside f ops team q (suc i) = room_at team.threads.items i - (owed_at f (s
 abbrev pub later_beside : Profile → List Op → List Op → Team → Progress → ℕ → Later
 later_beside f ops left team q k = record { events = own_records f k left; records = spare_beside f ops team q k }
 
--- who has room for so much has it for less
-pub sits_less : {f : Profile} {k : ℕ} {Rest : View → Type 0} {σ : Standing} {v : View} {need most : ℕ} → need ≤ most → Sits f k Rest σ v most → Sits f k Rest σ v need
-sits_less few s = let room = s.room in record { actor = s.actor; profile = s.profile; beside = s.beside; stood = s.stood; rest = s.rest; room = omega (arith, few, room) }
-
 -- ---- a thread
 module _ {region : SharedRegion} {f : Profile} {k : ℕ} {worker : Worker} {q : Progress} (ops left : List Op) (rests : WorkerRests region f k worker (own_records f k (ops ++ left)) q) where
   abbrev pub owed : ℕ
@@ -67,7 +64,7 @@ module _ {region : SharedRegion} {f : Profile} {k : ℕ} {worker : Worker} {q : 
   cost = own_costs_of k (own_acts k ops)
 
   pub owed_is : owed_at f k q ≡ owed
-  owed_is = ap (λ (c : Cached). owed_events f c (part k q.list)) rests.cache
+  owed_is = ap (λ (c : Cached). owed_events f c (part k q.list)) rests.here.rests.cache
 
   -- its acts cost no more than was set apart for them
   pub cost_fits : cost + own_records f k left ≤ own_records f k (ops ++ left)
@@ -78,14 +75,14 @@ module _ {region : SharedRegion} {f : Profile} {k : ℕ} {worker : Worker} {q : 
   worker_ready {book} {p} book1 later at some frees same placed are events records =
       let fits = cost_fits in
       let is = owed_is in
-      let spare = rests.spare in
+      let spare = rests.here.rests.spare in
       let requests = rests.requests in
       let none = ap (λ (rs : List Record). length rs) rests.said in
       record {
-        has = rests.has;
+        has = rests.here.has;
         stands = record {
-          sits = sits_less (omega (arith, fits, events)) rests.sits;
-          cache = rests.cache;
+          sits = sits_for rests.here.rests.sits (omega (arith, fits, events));
+          cache = rests.here.rests.cache;
           spare = omega (arith, fits, is, spare, none, records);
           names = names_before k ops left book1 worker.requests at some frees same placed rests.asked (omega (arith, fits, requests)) are;
         };
@@ -98,24 +95,26 @@ scavenger_ready {region} {f} {scavenger} {p} {q} ops left later rests parts even
     let few = scavenger_costs f (idle_threads f.threads ops) ops (idle_few f.threads ops) in
     let both = own_both f 0 ops left in
     let none = ap (λ (rs : List Record). length rs) rests.said in
-    let spare = rests.at.spare in
+    let spare = rests.at.stands.spare in
     record {
       has = rests.has;
       at = record {
-        sits = subst (λ (v : View). Sits f 0 HasNothing (standing_of_pass rests.has.pass) v (costs_of f (scavenger_acts (idle_threads f.threads ops) ops) + later.events)) (sym parts) (sits_less (omega (arith, few, both, events)) rests.at.sits);
+        stands = record {
+          sits = subst (λ (v : View). Sits f 0 HasNothing (standing_of_pass rests.has.pass) v (costs_of f (scavenger_acts (idle_threads f.threads ops) ops) + later.events)) (sym parts) (sits_for rests.at.stands.sits (omega (arith, few, both, events)));
+          spare = omega (arith, few, both, none, spare, records);
+        };
         has_places = rests.at.has_places;
-        spare = omega (arith, few, both, none, spare, records);
       };
       none = rests.none;
     }
 
 -- ---- the team
-pub team_ready : {region : SharedRegion} {f : Profile} {awake : Mask4} {team : Team} {p : Progress} (ops : List Op) (rest : List (List Op)) (team1 : Team) (at : TeamAt region f (ops ∷ rest) team p)
-    → (woke : WokeAll region f awake team.threads.items team1.threads.items (λ k. own_records f k (all_ops (ops ∷ rest))) p) → length team1.threads.items ≡ length team.threads.items → team1.scavenger ≡ team.scavenger
-    → team1.book.names ≡ team.book.names → ((k : ℕ) → ArePlaced team1.book 0 (names_asked (own_acts k ops))) → HasPlaces f.threads team1 → IsReady region f ops team1 (later_beside f ops (all_ops rest) team1 woke.reached) woke.reached
-team_ready {region} {f} {awake} {team} {p} ops rest team1 at woke many scavenger names placed places =
+pub team_ready : {region : SharedRegion} {f : Profile} (awake : Mask4) {team : Team} {p : Progress} (ops : List Op) (rest : List (List Op)) (team1 : Team) (at : TeamAt region f (ops ∷ rest) team p)
+    → (woke : WokeAll region f awake team.threads.items team1.threads.items (λ k. own_records f k (all_ops (ops ∷ rest))) p) → AreResting region f team1.threads.items (λ k. own_records f k (all_ops (ops ∷ rest))) woke.turns.came.reached → length team1.threads.items ≡ length team.threads.items → team1.scavenger ≡ team.scavenger
+    → team1.book.names ≡ team.book.names → ((k : ℕ) → ArePlaced team1.book 0 (names_asked (own_acts k ops))) → HasPlaces f.threads team1 → IsReady region f ops team1 (later_beside f ops (all_ops rest) team1 woke.turns.came.reached) woke.turns.came.reached
+team_ready {region} {f} awake {team} {p} ops rest team1 at woke rests many scavenger names placed places =
     let left = all_ops rest in
-    let q = woke.reached in
+    let q = woke.turns.came.reached in
     let few = at.few_threads in
     record {
       asked = at.names.asked;
@@ -124,9 +123,9 @@ team_ready {region} {f} {awake} {team} {p} ops rest team1 at woke many scavenger
       few = omega (arith, few);
       workers = λ i d lt.
           let room = room_is team1.threads.items i d lt in
-          worker_ready ops left (woke.rests i d lt) team1.book (later_beside f ops left team1 q (suc i)) at.names (omega arith) (at.frees.0 (suc i)) names (placed (suc i)) woke.leaves.names refl
+          worker_ready ops left (rests i d lt) team1.book (later_beside f ops left team1 q (suc i)) at.names (omega arith) (at.frees.0 (suc i)) names (placed (suc i)) woke.turns.leaves.names refl
           (ap (λ (n : ℕ). n - (owed_at f (suc i) q + own_costs_of (suc i) (own_acts (suc i) ops))) room);
-      scavenger = scavenger_ready ops left (later_beside f ops left team1 q 0) (subst (λ (s : Scavenger). ScavengerRests region f s (own_records f 0 (ops ++ left)) p) (sym scavenger) at.scavenger) woke.leaves.scavenger refl refl;
+      scavenger = scavenger_ready ops left (later_beside f ops left team1 q 0) (subst (λ (s : Scavenger). ScavengerRests region f s (own_records f 0 (ops ++ left)) p) (sym scavenger) at.scavenger) (woke.turns.leaves.parts 0 (λ i lt is. omega (arith, is))) refl refl;
       places = places;
     }
 
@@ -138,10 +137,11 @@ team_with team workers book = record team { threads = with_items team.threads wo
 -- its threads read the epoch and its names are noted: all hands are ready
 pub record HasBegun (region : SharedRegion) (f : Profile) (awake : Mask4) (ops : List Op) (rest : List (List Op)) (team team1 : Team) (p : Progress) : Type 0 where
   pub woke : WokeAll region f awake team.threads.items team1.threads.items (λ k. own_records f k (all_ops (ops ∷ rest))) p
+  pub rests : AreResting region f team1.threads.items (λ k. own_records f k (all_ops (ops ∷ rest))) woke.turns.came.reached
   pub many : length team1.threads.items ≡ length team.threads.items
   pub scavenger : team1.scavenger ≡ team.scavenger
   pub names : team1.book.names ≡ team.book.names
-  pub ready : IsReady region f ops team1 (later_beside f ops (all_ops rest) team1 woke.reached) woke.reached
+  pub ready : IsReady region f ops team1 (later_beside f ops (all_ops rest) team1 woke.turns.came.reached) woke.turns.came.reached
 
 -- (`given` are the team's workers, as they are handed to what wakes them, and `now` what they are afterwards)
 pub has_begun : {region : SharedRegion} {f : Profile} {awake : Mask4} {team : Team} {p : Progress} {given now : List Worker} {book : NameBook} (ops : List Op) (rest : List (List Op)) → TeamAt region f (ops ∷ rest) team p → given ≡ team.threads.items → length given ≡ team.threads.len
@@ -155,4 +155,5 @@ has_begun {region} {f} {awake} {team} {p} {given} {now} {book} ops rest at value
     let woke : WokeAll region f awake team.threads.items team1.threads.items later p = subst (λ (ws : List Worker). WokeAll region f awake team.threads.items ws later p) (sym new) (subst (λ (ws : List Worker). WokeAll region f awake ws now later p) value (wakes f later p resting)) in
     let all = ap (λ (ws : List Worker). length ws) new ∙ many ∙ ap (λ (ws : List Worker). length ws) value in
     let places : HasPlaces f.threads team1 = record { workers = at.places.workers; hands = at.places.hands; lent = at.places.lent; free = at.places.free } in
-    record { woke = woke; many = all; scavenger = refl; names = names; ready = team_ready ops rest team1 at woke all refl names placed places }
+    let rests = woke_rest all at.workers woke in
+    record { woke = woke; rests = rests; many = all; scavenger = refl; names = names; ready = team_ready awake ops rest team1 at woke rests all refl names placed places }

@@ -1,5 +1,6 @@
 -- A phase of the team: what all its workers did and said is put together.
 use Rattle.std.proofs.Common.{◌≡◌, ℕ, zero, suc, ◌+◌, ◌-◌, ◌<◌, ◌≤◌, All, List, [], ◌∷◌, ◌++◌, map, length, get_or, refl, ap, sym, ◌∙◌, subst, arith, append_assoc, length-append}
+use Rattle.std.proofs.lemmas.List.{append-nil}
 use Rattle.pas_bits.specs.Masks.{is_set}
 use Rattle.pas_bits.specs.declared.mask.Mask4.{Mask4}
 use Rattle.pas_profile.specs.declared.profile.Profile.{Profile}
@@ -34,10 +35,10 @@ use Rattle.pas_acts.proofs.NamesBefore.{sound_front, below_front}
 use Rattle.pas_threads.proofs.NamesOfPhases.{names_then, names_within}
 use Rattle.pas_shares.proofs.PhaseActs.{active_within, zero_own}
 use Rattle.pas_threads.proofs.PhaseEnds.{phase_woven, has_said, has_paid, rests_after, handed, scavenger_said, scavenger_paid, scavenger_rests}
-use Rattle.pas_threads.proofs.PhaseRooms.{own_all, all_paid, owed_alike, said_in_order, by_first}
+use Rattle.pas_threads.proofs.PhaseRooms.{own_all, all_paid, owed_less, said_in_order, by_first}
 use Rattle.pas_threads.proofs.Ranks.{some_worker}
 use Rattle.pas_threads.proofs.PhaseStarts.{room_is, later_beside, HasBegun}
-use Rattle.pas_acts.proofs.Working.{reach_both}
+use Rattle.pas_answers.proofs.Reached.{reach_both}
 
 -- ---- the threads of a phase
 number_at : (k n i : ℕ) → i < n → get_or (numbers_from k n) i 0 ≡ k + i
@@ -47,12 +48,12 @@ number_at k (suc n) (suc i) lt = number_at (k + 1) n i (omega (arith, lt)) ∙ (
 
 -- ---- the team, once all hands did their operations
 module _ {region : SharedRegion} {f : Profile} {awake : Mask4} {team team1 team2 : Team} {p : Progress} (ops : List Op) (rest : List (List Op)) (at : TeamAt region f (ops ∷ rest) team p) (begun : HasBegun region f awake ops rest team team1 p)
-    (done : IsDone region f ops team1 team2 (later_beside f ops (all_ops rest) team1 begun.woke.reached) begun.woke.reached) where
+    (done : IsDone region f ops team1 team2 (later_beside f ops (all_ops rest) team1 begun.woke.turns.came.reached) begun.woke.turns.came.reached) where
   abbrev pub left : List Op
   left = all_ops rest
 
-  pub woven : IsWoven f (owner_in ops) (acts_of_ops (idle_threads f.threads ops) ops) at.names.asked begun.woke.reached done.own
-  woven = phase_woven ops left at.names begun.woke.reached done.own begun.woke.leaves.names done.reaches
+  pub woven : IsWoven f (owner_in ops) (acts_of_ops (idle_threads f.threads ops) ops) at.names.asked begun.woke.turns.came.reached (λ w. (done.own w).reached)
+  woven = phase_woven ops left at.names begun.woke.turns.came.reached (λ w. (done.own w).reached) begun.woke.turns.leaves.names (λ w. (done.own w).reaches)
 
   abbrev pub reached : Progress
   reached = woven.reached
@@ -60,18 +61,18 @@ module _ {region : SharedRegion} {f : Profile} {awake : Mask4} {team team1 team2
   abbrev pub said : List Record
   said = woven.said
 
-  room_set : (i : ℕ) (d : Worker) → i < length team1.threads.items → (later_beside f ops left team1 begun.woke.reached (suc i)).records ≡ room_of (get_or team1.threads.items i d).out - (owed_at f (suc i) begun.woke.reached + own_costs_of (suc i) (own_acts (suc i) ops))
-  room_set i d lt = ap (λ (n : ℕ). n - (owed_at f (suc i) begun.woke.reached + own_costs_of (suc i) (own_acts (suc i) ops))) (room_is team1.threads.items i d lt)
+  room_set : (i : ℕ) (d : Worker) → i < length team1.threads.items → (later_beside f ops left team1 begun.woke.turns.came.reached (suc i)).records ≡ room_of (get_or team1.threads.items i d).out - (owed_at f (suc i) begun.woke.turns.came.reached + own_costs_of (suc i) (own_acts (suc i) ops))
+  room_set i d lt = ap (λ (n : ℕ). n - (owed_at f (suc i) begun.woke.turns.came.reached + own_costs_of (suc i) (own_acts (suc i) ops))) (room_is team1.threads.items i d lt)
 
   thread_said : (i : ℕ) (d : Worker) → i < length team1.threads.items → records_in (get_or team2.threads.items i d).out ≡ records_by (suc i) said
   thread_said i d lt =
       let share = woven.shares (owner_in ops (suc i)) in
-      has_said ops left said reached (begun.woke.rests i d lt) (done.each i d lt) (share.parts (suc i) refl) (share.caches (suc i) refl) (share.records (suc i) refl) woven.records_are refl (room_set i d lt)
+      has_said ops left said reached (begun.rests i d lt) (done.own (owner_in ops (suc i))) (done.each i d lt) (share.parts (suc i) refl) (share.caches (suc i) refl) (share.records (suc i) refl) woven.records_are refl (room_set i d lt)
 
-  thread_paid : (i : ℕ) (d : Worker) → i < length team1.threads.items → length (records_by (suc i) said) + owed_at f (suc i) reached ≤ owed_at f (suc i) begun.woke.reached + own_records f (suc i) ops
+  thread_paid : (i : ℕ) (d : Worker) → i < length team1.threads.items → length (records_by (suc i) said) + owed_at f (suc i) reached ≤ owed_at f (suc i) begun.woke.turns.came.reached + own_records f (suc i) ops
   thread_paid i d lt =
       let share = woven.shares (owner_in ops (suc i)) in
-      has_paid ops left said reached (begun.woke.rests i d lt) (done.each i d lt) (share.parts (suc i) refl) (share.caches (suc i) refl) (share.records (suc i) refl) woven.records_are refl (room_set i d lt)
+      has_paid ops left said reached (begun.rests i d lt) (done.own (owner_in ops (suc i))) (done.each i d lt) (share.parts (suc i) refl) (share.caches (suc i) refl) (share.records (suc i) refl) woven.records_are refl (room_set i d lt)
 
   own_rests : ScavengerRests region f team1.scavenger (own_records f 0 (ops ++ left)) p
   own_rests = subst (λ (s : Scavenger). ScavengerRests region f s (own_records f 0 (ops ++ left)) p) (sym begun.scavenger) at.scavenger
@@ -83,12 +84,12 @@ module _ {region : SharedRegion} {f : Profile} {awake : Mask4} {team team1 team2
   told : records_in team2.scavenger.out ≡ records_by 0 said
   told =
       let share = woven.shares 0 in
-      scavenger_said ops left said reached own_rests done.scavenger (share.parts 0 its_hands) (share.records 0 its_hands) woven.records_are refl refl
+      scavenger_said ops left said reached own_rests (done.own 0) done.scavenger (share.parts 0 its_hands) (share.records 0 its_hands) woven.records_are refl refl
 
   told_few : length (records_by 0 said) ≤ own_records f 0 ops
   told_few =
       let share = woven.shares 0 in
-      scavenger_paid ops left said reached own_rests done.scavenger (share.parts 0 its_hands) (share.records 0 its_hands) woven.records_are refl refl
+      scavenger_paid ops left said reached own_rests (done.own 0) done.scavenger (share.parts 0 its_hands) (share.records 0 its_hands) woven.records_are refl refl
 
   -- ---- what is gathered
   counted : length team1.threads.items ≡ f.threads
@@ -103,9 +104,12 @@ module _ {region : SharedRegion} {f : Profile} {awake : Mask4} {team team1 team2
   paid : length (records_by 0 said) + length (by_actors 1 f.threads said) + owed_by f reached f.threads ≤ owed_by f p f.threads + records_of_ops f ops
   paid =
       let count = counted in
-      let threads = all_paid f ops said begun.woke.reached reached f.threads (λ i lt. let less : i < length team1.threads.items = omega (arith, lt, count) in thread_paid i (some_worker team1.threads.items i less) less) in
+      let threads = all_paid f ops said begun.woke.turns.came.reached reached f.threads (λ i lt. let less : i < length team1.threads.items = omega (arith, lt, count) in thread_paid i (some_worker team1.threads.items i less) less) in
       let own = own_all f ops f.threads in
-      let owed = owed_alike f p begun.woke.reached f.threads begun.woke.owed in
+      let owed = owed_less f p begun.woke.turns.came.reached f.threads (λ i lt.
+      let less : i < length team.threads.items = (let many = at.many in omega (arith, lt, many)) in
+      let due = (begun.woke.turns.stand i (some_worker team.threads.items i less) less).paid in
+      omega (arith, due)) in
       let few = told_few in
       omega (arith, threads, own, owed, few)
 
@@ -151,7 +155,7 @@ module _ {region : SharedRegion} {f : Profile} {awake : Mask4} {team team1 team2
           said = said;
           marked = marked;
           spoken = woven.spoken;
-          records_are = woven.records_are ∙ ap (λ (rs : List Record). rs ++ said) begun.woke.records;
+          records_are = woven.records_are ∙ ap (λ (rs : List Record). rs ++ said) (begun.woke.turns.came.records_are ∙ ap (λ (rs : List Record). p.records ++ rs) begun.woke.silent ∙ append-nil p.records);
           written_are = gathered ∙ ap (λ (rs : List Record). rs ++ said_by_all team2.threads.items) added ∙ append_assoc (records_in out) (records_in team2.scavenger.out) (said_by_all team2.threads.items)
               ∙ ap (λ (rs : List Record). records_in out ++ (rs ++ said_by_all team2.threads.items)) told ∙ ap (λ (rs : List Record). records_in out ++ (records_by 0 said ++ rs)) all_said
               ∙ ap (λ (rs : List Record). records_in out ++ rs) (sym (by_first f.threads said));
@@ -162,8 +166,8 @@ module _ {region : SharedRegion} {f : Profile} {awake : Mask4} {team team1 team2
   reaches alike =
       let threads = length team.threads.items in
       let wakes : awake_in awake threads ≡ active_threads f.threads ops = threads_alike (is_set awake) (is_active ops) threads alike ∙ ap (λ (n : ℕ). active_threads n ops) at.many in
-      reach_both f (map Wakes (active_threads f.threads ops)) (acts_of_ops (idle_threads f.threads ops) ops) p begun.woke.reached reached
-      (subst (λ (ks : List ℕ). Reaches f (map Wakes ks) p begun.woke.reached) wakes begun.woke.reaches) woven.reaches
+      reach_both f (map Wakes (active_threads f.threads ops)) (acts_of_ops (idle_threads f.threads ops) ops) p begun.woke.turns.came.reached reached
+      (subst (λ (ks : List ℕ). Reaches f (map Wakes ks) p begun.woke.turns.came.reached) wakes begun.woke.turns.came.reaches) woven.reaches
 
   -- ---- the workers, once what they said is gathered
   module _ (workers : List Worker) (gathered : (i : ℕ) (d : Worker) → i < length team2.threads.items → IsGathered (get_or team2.threads.items i d) (get_or workers i d)) (size : length workers ≡ length team2.threads.items) where
@@ -174,7 +178,7 @@ module _ {region : SharedRegion} {f : Profile} {awake : Mask4} {team team1 team2
     hands i d lt =
         let within = sized in
         let here : i < length team1.threads.items = omega (arith, lt, within) in
-        handed (gathered i d (omega (arith, lt, size))) ((done.each i d here).hands_over (begun.woke.rests i d here).asked reached.names (woven.shares (owner_in ops (suc i))).names)
+        handed (gathered i d (omega (arith, lt, size))) ((done.each i d here).hands_over (begun.rests i d here).asked reached.names (woven.shares (owner_in ops (suc i))).names)
 
     pub may_take : All (IsWithin (names_held team2.book.names)) workers
     may_take i d lt =
@@ -192,7 +196,7 @@ module _ {region : SharedRegion} {f : Profile} {awake : Mask4} {team team1 team2
         let few = at.few in
         let both = length-append ops left in
         let sound = sound_front f at.names.asked ops left at.names.sound in
-        let names = names_then f.threads ops left team1.book team3.book (numbers_from 1 f.threads) workers at.names begun.woke.leaves.names woven begun.names
+        let names = names_then f.threads ops left team1.book team3.book (numbers_from 1 f.threads) workers at.names begun.woke.turns.leaves.names woven begun.names
         (λ i d lt. subst (λ (k : ℕ). HandsOver ops team1.book k (get_or workers i d) reached.names) (let is : suc i ≡ 1 + i = omega arith in is ∙ sym (number_at 1 f.threads i (omega (arith, lt, within, count)))) (hands i d lt))
         (λ k some is.
         let le = active_within f at.names.asked ops k sound is in
@@ -207,10 +211,10 @@ module _ {region : SharedRegion} {f : Profile} {awake : Mask4} {team team1 team2
               let here : i < length workers = omega (arith, lt, size3) in
               let first : i < length team1.threads.items = omega (arith, here, within) in
               let share = woven.shares (owner_in ops (suc i)) in
-              rests_after ops left said reached (begun.woke.rests i d first) (done.each i d first) (share.parts (suc i) refl) (share.caches (suc i) refl) (share.records (suc i) refl) woven.records_are refl (room_set i d first)
+              rests_after ops left said reached (begun.rests i d first) (done.own (owner_in ops (suc i))) (done.each i d first) (share.parts (suc i) refl) (share.caches (suc i) refl) (share.records (suc i) refl) woven.records_are refl (room_set i d first)
               (gathered i d (omega (arith, here, size))) (emptied i d here);
           scavenger = scavenger;
-          nobody = λ k far. part_stays f k (acts_of_ops (idle_threads f.threads ops) ops) begun.woke.reached reached (apart_beyond f k at.names.asked ops far sound) woven.reaches ∙ begun.woke.leaves.beyond k (let n = at.many in omega (arith, far, n)) ∙ at.nobody k far;
+          nobody = λ k far. part_stays f k (acts_of_ops (idle_threads f.threads ops) ops) begun.woke.turns.came.reached reached (apart_beyond f k at.names.asked ops far sound) woven.reaches ∙ begun.woke.turns.leaves.parts k (λ i lt same. let n = at.many in omega (arith, far, n, lt, same)) ∙ at.nobody k far;
           names = names.0;
           frees = subst (λ (ns : List ℕ). FreeTheirOwn ns rest) (sym names.1) at.frees.1;
           places = places;
@@ -220,7 +224,7 @@ module _ {region : SharedRegion} {f : Profile} {awake : Mask4} {team team1 team2
       → ScavengerRests region f after (own_records f 0 left) reached
   scavenger_after after pass outcomes none empty size =
       let share = woven.shares 0 in
-      scavenger_rests ops left said reached own_rests done.scavenger (share.parts 0 its_hands) (share.records 0 its_hands) woven.records_are refl refl after pass (ap places_of outcomes) none empty size
+      scavenger_rests ops left said reached own_rests (done.own 0) done.scavenger (share.parts 0 its_hands) (share.records 0 its_hands) woven.records_are refl refl after pass (ap places_of outcomes) none empty size
 
 -- ---- all together
 -- what these workers said came to the end of the records
@@ -238,7 +242,7 @@ pub record WereTaken (old new : List Worker) (book book' : NameBook) : Type 0 wh
   pub many : length new ≡ length old
 
 pub phase_done : {region : SharedRegion} {f : Profile} {awake : Mask4} {team team1 team2 : Team} {p : Progress} {marks : ℕ} {out out1 out2 : Records} {workers last : List Worker} (ops : List Op) (rest : List (List Op)) (at : PhaseAt region f ops rest marks team out p)
-    (begun : HasBegun region f awake ops rest team team1 p) (done : IsDone region f ops team1 team2 (later_beside f ops (all_ops rest) team1 begun.woke.reached) begun.woke.reached) → ((k : ℕ) → is_set awake k ≡ is_active ops k)
+    (begun : HasBegun region f awake ops rest team team1 p) (done : IsDone region f ops team1 team2 (later_beside f ops (all_ops rest) team1 begun.woke.turns.came.reached) begun.woke.turns.came.reached) → ((k : ℕ) → is_set awake k ≡ is_active ops k)
     → records_in out1 ≡ records_in out ++ records_in team2.scavenger.out → room_of out1 ≡ room_of out → WereGathered team2.threads.items workers out1 out2 → (team3 : Team) → WereTaken workers last team2.book team3.book → team3.threads.items ≡ last
     → team3.scavenger.pass ≡ team2.scavenger.pass → team3.scavenger.outcomes ≡ team2.scavenger.outcomes → team3.scavenger.lent.items ≡ [] → records_in team3.scavenger.out ≡ [] → room_of team3.scavenger.out ≡ room_of team2.scavenger.out
     → HasPlaces f.threads team3 → PhaseDone region f ops rest marks team3 out out2 p

@@ -59,19 +59,24 @@ starts_at region f k bound later pass worker of_profile within unused has =
     let room = unused.room in
     let requests = has.requests in
     let records = has.records in
+    let none = ap (λ (rs : List Record). length rs) has.said in
     record {
-      has = record { pass = pass; present = has.present; of = unused.of_region };
-      sits = record {
-        actor = unused.actor;
-        profile = unused.of_region.1 ∙ of_profile;
-        beside = [];
-        stood = unused.no_step;
-        rest = rests_empty f (cached worker.cache) [] (ap (λ (c : Cached). c.locals) has.cache) (ap (λ (c : Cached). c.log) has.cache) nothing;
-        room = omega (arith, owed, room, within);
+      here = record {
+        has = record { pass = pass; present = has.present; of = unused.of_region };
+        rests = record {
+          sits = record {
+            actor = unused.actor;
+            profile = unused.of_region.1 ∙ of_profile;
+            beside = [];
+            stood = unused.no_step;
+            rest = rests_empty f (cached worker.cache) [] (ap (λ (c : Cached). c.locals) has.cache) (ap (λ (c : Cached). c.log) has.cache) nothing;
+            room = omega (arith, owed, room, within);
+          };
+          cache = sym has.cache;
+          spare = omega (arith, owed, records, within, none);
+        };
       };
-      cache = sym has.cache;
       said = has.said;
-      spare = omega (arith, owed, records, within);
       asked = has.asked;
       requests = omega (arith, requests, within);
     }
@@ -97,9 +102,11 @@ scavenger_starts region f bound later pass scavenger of_profile within unused re
     record {
       has = record { pass = pass; present = ready.present; of = unused.of_region };
       at = record {
-        sits = record { actor = unused.actor; profile = unused.of_region.1 ∙ of_profile; beside = []; stood = unused.no_step; rest = nothing; room = omega (arith, room, within) };
+        stands = record {
+          sits = record { actor = unused.actor; profile = unused.of_region.1 ∙ of_profile; beside = []; stood = unused.no_step; rest = nothing; room = omega (arith, room, within) };
+          spare = omega (arith, none, records, within);
+        };
         has_places = ready.places;
-        spare = omega (arith, none, records, within);
       };
       said = ready.said;
       none = ready.none;

@@ -14,11 +14,11 @@ use Rattle.pas_acts.specs.Works.{Sits}
 use Rattle.pas_threads.specs.Hands.{standing_of_pass}
 use Rattle.pas_acts.specs.NameBooks.{NamesAt}
 use Rattle.pas_threads.specs.Sessions.{ScavengerRests, TeamAt, HasRoom}
-use Rattle.pas_threads.proofs.PhaseRooms.{owed_alike}
+use Rattle.pas_threads.proofs.PhaseRooms.{owed_less}
 use Rattle.pas_acts.specs.declared.names.NameBook.{NameBook}
 use Rattle.pas_threads.specs.declared.scavenger.Scavenger.{Scavenger}
 use Rattle.pas_threads.specs.declared.phases.Team.{Team}
-use Rattle.pas_threads.proofs.Waking.{same_rests}
+use Rattle.pas_threads.proofs.ThreadTurns.{same_rests}
 
 -- ---- another progress
 -- the scavenger rests at each progress of which it has the same part
@@ -26,9 +26,8 @@ pub scavenger_rests : {region : SharedRegion} {f : Profile} {scavenger : Scaveng
 scavenger_rests {region} {f} {scavenger} {later} {p} {q} same at = record {
   has = at.has;
   at = record {
-    sits = subst (λ (v : View). Sits f 0 HasNothing (standing_of_pass at.has.pass) v (0 + later)) (sym same) at.at.sits;
+    stands = record { sits = subst (λ (v : View). Sits f 0 HasNothing (standing_of_pass at.has.pass) v (0 + later)) (sym same) at.at.stands.sits; spare = at.at.stands.spare };
     has_places = at.at.has_places;
-    spare = at.at.spare;
   };
   said = at.said;
   none = at.none;
@@ -67,7 +66,7 @@ pub room_after_mark : (f : Profile) (phases : List (List Op)) (marks : ℕ) (out
 room_after_mark f phases marks out out' p mark pushed size room =
     let grown = ap (λ (rs : List Record). length rs) pushed in
     let one = length-append (records_in out) (mark ∷ []) in
-    let same = owed_alike f p (with_records p (mark ∷ [])) f.threads (λ k. refl) in
+    let same = owed_less f p (with_records p (mark ∷ [])) f.threads (λ i lt. omega arith) in
     omega (arith, grown, one, same, size, room)
 
 -- .. and no mark took none

@@ -1,17 +1,16 @@
 -- The requests of all workers are taken over, one worker after the other.
-use Rattle.std.proofs.Common.{◌≡◌, ℕ, zero, suc, ◌+◌, ◌<◌, ◌==◌, ◌||◌, ◌⊎◌, inl, inr, Bool, true, false, if◌then◌else◌, List, [], ◌∷◌, map, drop, set, length, get_or, Option, Some, None, refl, ap, sym, ◌∙◌, subst, arith}
-use Rattle.std.proofs.lemmas.List.{drop_more, get_or_default, get_or-set_other}
-use Rattle.std.proofs.lemmas.Grind.{get_or-set_at}
+use Rattle.std.proofs.Common.{◌≡◌, ℕ, ◌+◌, ◌<◌, ◌==◌, ◌||◌, ◌⊎◌, inl, inr, Bool, true, false, if◌then◌else◌, List, [], ◌∷◌, set, length, get_or, Option, Some, None, refl, ap, sym, ◌∙◌, subst, arith}
+use Rattle.std.proofs.lemmas.List.{get_or_default}
 use Rattle.std.proofs.lemmas.Bool.{cases_eq, false≢true}
 use Rattle.pas_profile.specs.declared.name.Name.{Name}
 use Rattle.pas_trace.specs.EveryPlan.{is_asked}
 use Rattle.pas_answers.specs.Answers.{Named, standing_for}
-use Rattle.pas_answers.specs.Names.{name_in, block_named}
-use Rattle.pas_acts.specs.NameBooks.{requests_in, room_for, named_of, names_of, AreWithin, came_to, known_in, Requests}
-use Rattle.pas_acts.specs.declared.names.Request.{Request}
+use Rattle.pas_answers.specs.Names.{block_named}
+use Rattle.pas_acts.specs.NameBooks.{requests_in, room_for, names_of, came_to, known_in, Requests}
 use Rattle.pas_acts.specs.declared.names.NameBook.{NameBook}
 use Rattle.pas_threads.specs.declared.workers.Worker.{Worker}
 use Rattle.pas_threads.specs.Taken.{HasRequest, IsEmptied}
+use Rattle.pas_threads.proofs.TakingTurns.{set_each}
 
 -- ---- all workers, one after the other
 -- a request of these has the name, and what it came to is the same whatever else is said; or none has it
@@ -58,17 +57,14 @@ with_requests w rs = record { pass = w.pass; cache = w.cache; requests = rs; out
 
 pub emptied_more : (old now : List Worker) (i : ℕ) (e : Worker) (rs : Requests) → i < length now → get_or now i e ≡ get_or old i e → i < length old → requests_in rs ≡ [] → room_for rs ≡ room_for (get_or now i e).requests
     → ((j : ℕ) (d : Worker) → j < i → IsEmptied (get_or old j d) (get_or now j d)) → (j : ℕ) (d : Worker) → j < i + 1 → IsEmptied (get_or old j d) (get_or (set now i (with_requests (get_or now i e) rs)) j d)
-emptied_more old now i e rs lt left lt' none room so j d low = elim (cases_eq j i) [
-  | inl here ↦
-      let new = with_requests (get_or now i e) rs in
-      let was = left ∙ get_or_default old i e d lt' in
-      let one : IsEmptied (get_or old i d) new = record {
-        pass = ap (λ (w : Worker). w.pass) was;
-        cache = ap (λ (w : Worker). w.cache) was;
-        out = ap (λ (w : Worker). w.out) was;
-        empty = none;
-        room = room ∙ ap (λ (w : Worker). room_for w.requests) was;
-      } in
-      subst (λ (w : Worker). IsEmptied (get_or old j d) w) (sym (get_or-set_at now i j new d here lt)) (subst (λ (m : ℕ). IsEmptied (get_or old m d) new) (sym here) one)
-  | inr other ↦ subst (λ (w : Worker). IsEmptied (get_or old j d) w) (sym (get_or-set_other now i j (with_requests (get_or now i e) rs) d other)) (so j d (omega (arith, low, other)))
-]
+emptied_more old now i e rs lt left lt' none room so j d low =
+    let was = left ∙ get_or_default old i e d lt' in
+    set_each (λ (m : ℕ) (w : Worker). IsEmptied (get_or old m d) w) now i (with_requests (get_or now i e) rs) d j lt
+    (record {
+      pass = ap (λ (w : Worker). w.pass) was;
+      cache = ap (λ (w : Worker). w.cache) was;
+      out = ap (λ (w : Worker). w.out) was;
+      empty = none;
+      room = room ∙ ap (λ (w : Worker). room_for w.requests) was;
+    })
+    (λ ne. so j d (omega (arith, low, ne)))

@@ -1,5 +1,5 @@
 -- What a worker of the shared region has in hand while it doesn't sit at the region, before and after its acts of a phase.
-use Rattle.std.specs.Prelude.{ℕ, ◌≡◌, List, [], Option, Some}
+use Rattle.std.specs.Prelude.{ℕ, ◌+◌, ◌≡◌, List, [], Option, Some}
 use Rattle.pas_profile.specs.declared.profile.Profile.{Profile}
 use Rattle.pas_steps.specs.Desks.{Standing}
 use Rattle.pas_trace.specs.declared.plan.Op.{Op}
@@ -9,10 +9,17 @@ use Rattle.pas_shared.specs.declared.region.SharedRegion.{SharedRegion}
 use Rattle.pas_shared.specs.declared.pass.SharedPass.{SharedPass}
 use Rattle.pas_answers.specs.Acts.{Act, own_acts}
 use Rattle.pas_answers.specs.Answers.{Progress}
+use Rattle.pas_answers.specs.Fit.{costs_of}
+use Rattle.pas_report.specs.Rooms.{Records}
+use Rattle.pas_acts.specs.AtDesks.{HasRoomAt}
 use Rattle.pas_acts.specs.NameBooks.{table}
 use Rattle.pas_acts.specs.Works.{Keeps, keeps, Later, ThreadAt, Works}
 use Rattle.pas_acts.specs.declared.names.NameBook.{NameBook}
 use Rattle.pas_threads.specs.declared.workers.Worker.{Worker}
+
+-- so many events and records more, beside what these acts cost
+abbrev pub and_left : Profile → List Act → Later → Later
+and_left f acts later = record { events = costs_of f acts + later.events; records = costs_of f acts + later.records }
 
 -- a pass stands for the view of its actor, and for no other, beside any list
 abbrev pub standing_of_pass : SharedPass → Standing
@@ -27,6 +34,12 @@ pub record HasPass (region : SharedRegion) (slot : Option SharedPass) : Type 0 w
   pub pass : SharedPass
   pub present : slot ≡ Some pass
   pub of : IsPassOf region pass
+
+-- The replay, as far as the scavenger has a hand in it, came as far as p, and these of its acts come next. It has nothing, and places for the outcomes of a
+-- pass. There is room for the events and the records of these acts, and for those of `later` more.
+pub record ScavengerAt (f : Profile) (acts : List Act) (desk : Standing) (places : ℕ) (out : Records) (later : Later) (p : Progress) : Type 0 where
+  pub stands : HasRoomAt f desk out (and_left f acts later) p
+  pub has_places : places ≡ f.pages
 
 -- The worker of thread k has its pass, and with it stands where the replay came as far as p. These of its acts come next.
 pub record WorkerAt (region : SharedRegion) (book : NameBook) (f : Profile) (k : ℕ) (acts : List Act) (worker : Worker) (later : Later) (p : Progress) : Type 0 where

@@ -3,21 +3,18 @@ use Rattle.std.specs.Prelude.{ℕ, suc, ◌<◌, ◌≡◌, List, [], ◌++◌, 
 use Rattle.pas_profile.specs.declared.profile.Profile.{Profile}
 use Rattle.pas_trace.specs.EveryPlan.{AreSound}
 use Rattle.pas_trace.specs.declared.plan.Op.{Op}
-use Rattle.pas_report.specs.Rooms.{records_in, room_of}
 use Rattle.pas_report.specs.declared.record.Record.{Record}
 use Rattle.pas_utility.specs.Outcomes.{places_of}
 use Rattle.pas_shared.specs.declared.region.SharedRegion.{SharedRegion}
 use Rattle.pas_answers.specs.Acts.{acts_of_ops, idle_threads, own_acts, scavenger_acts}
 use Rattle.pas_answers.specs.Answers.{Named, Progress}
-use Rattle.pas_answers.specs.Ways.{records_by}
 use Rattle.pas_shares.specs.Shares.{AreAmong, owner_in, acts_by}
-use Rattle.pas_answers.specs.Reaching.{Reaches}
 use Rattle.pas_acts.specs.NameBooks.{requests_in, room_for, names_of, names_asked}
 use Rattle.pas_threads.specs.Taken.{HandsOver}
 use Rattle.pas_acts.specs.Works.{Later}
-use Rattle.pas_acts.specs.Scavenges.{ScavengerAt}
-use Rattle.pas_threads.specs.Hands.{standing_of_pass, HasPass, WorkerAt}
-use Rattle.pas_threads.specs.Sessions.{HasPlaces}
+use Rattle.pas_threads.specs.Hands.{standing_of_pass, HasPass, ScavengerAt, WorkerAt}
+use Rattle.pas_threads.specs.Sessions.{WorkerHas, HasPlaces}
+use Rattle.pas_threads.specs.Turns.{Came, Pushed}
 use Rattle.pas_acts.specs.declared.names.NameBook.{NameBook}
 use Rattle.pas_threads.specs.declared.workers.Worker.{Worker}
 use Rattle.pas_threads.specs.declared.scavenger.Scavenger.{Scavenger}
@@ -39,33 +36,26 @@ pub record IsReady (region : SharedRegion) (f : Profile) (ops : List Op) (team :
   pub scavenger : ScavengerHas region f ops team.scavenger (later 0) p
   pub places : HasPlaces f.threads team
 
--- The acts of thread k's worker were done, or of the scavenger's, which came from p to q. What the thread said came to the end of its records, and its requests
--- are told of.
-pub record ThreadDone (region : SharedRegion) (book : NameBook) (f : Profile) (ops : List Op) (k : ℕ) (old new : Worker) (later : Later) (p q : Progress) : Type 0 where
-  pub stands : WorkerAt region book f k [] new later q
-  pub said : List Record
-  pub pushed : records_in new.out ≡ records_in old.out ++ said
-  pub told : records_by k q.records ≡ records_by k p.records ++ said
-  pub room : room_of new.out ≡ room_of old.out
+-- The acts of thread k's worker were done, or of the scavenger's, to which it was lent: the replay came as far as q by them, and this was said. What the
+-- thread said of it came to the end of its records, and its requests are told of.
+pub record ThreadDone (region : SharedRegion) (book : NameBook) (f : Profile) (ops : List Op) (k : ℕ) (old new : Worker) (later : Later) (q : Progress) (said : List Record) : Type 0 where
+  pub stands : WorkerHas region f k new later q
+  pub told : Pushed k said old.out new.out
   pub noted : names_of (requests_in new.requests) ≡ names_of (requests_in old.requests) ++ names_asked (own_acts k ops)
   pub room_noted : room_for new.requests ≡ room_for old.requests
   pub hands_over : requests_in old.requests ≡ [] → (names : List Named) → AreAmong q.names names → HandsOver ops book k new names
 
-pub record ScavengerDone (region : SharedRegion) (f : Profile) (old new : Scavenger) (later : Later) (p q : Progress) : Type 0 where
+pub record ScavengerDone (region : SharedRegion) (f : Profile) (old new : Scavenger) (later : Later) (q : Progress) (said : List Record) : Type 0 where
   pub has : HasPass region new.pass
   pub at : ScavengerAt f [] (standing_of_pass has.pass) (places_of new.outcomes) new.out later q
-  pub said : List Record
-  pub pushed : records_in new.out ≡ records_in old.out ++ said
-  pub told : records_by 0 q.records ≡ records_by 0 p.records ++ said
-  pub room : room_of new.out ≡ room_of old.out
+  pub told : Pushed 0 said old.out new.out
 
--- All hands did their operations, each for itself: worker w came as far as `own w`.
+-- all hands did their operations, each for itself: worker w came so far by its own
 pub record IsDone (region : SharedRegion) (f : Profile) (ops : List Op) (old new : Team) (later : ℕ → Later) (p : Progress) : Type 0 where
-  pub own : ℕ → Progress
-  pub reaches : (w : ℕ) → Reaches f (acts_by (owner_in ops) w (acts_of_ops (idle_threads f.threads ops) ops)) p (own w)
+  pub own : (w : ℕ) → Came f (acts_by (owner_in ops) w (acts_of_ops (idle_threads f.threads ops) ops)) p
   pub many : length new.threads.items ≡ length old.threads.items
-  pub each : (i : ℕ) (d : Worker) → i < length old.threads.items → ThreadDone region old.book f ops (suc i) (get_or old.threads.items i d) (get_or new.threads.items i d) (later (suc i)) p (own (owner_in ops (suc i)))
-  pub scavenger : ScavengerDone region f old.scavenger new.scavenger (later 0) p (own 0)
+  pub each : (i : ℕ) (d : Worker) → i < length old.threads.items → ThreadDone region old.book f ops (suc i) (get_or old.threads.items i d) (get_or new.threads.items i d) (later (suc i)) (own (owner_in ops (suc i))).reached (own (owner_in ops (suc i))).said
+  pub scavenger : ScavengerDone region f old.scavenger new.scavenger (later 0) (own 0).reached (own 0).said
   pub none : new.scavenger.lent.items ≡ []
   pub book : new.book ≡ old.book
   pub places : HasPlaces f.threads new

@@ -8,31 +8,36 @@ use Rattle.pas_trace.specs.declared.plan.Op.{Op}
 use Rattle.pas_report.specs.Rooms.{records_in, room_of, Records}
 use Rattle.pas_report.specs.declared.record.Record.{Record}
 use Rattle.pas_utility.specs.Outcomes.{places_of}
-use Rattle.pas_cache.specs.Caches.{cached, AtRest}
+use Rattle.pas_cache.specs.Caches.{cached}
 use Rattle.pas_shared.specs.declared.region.SharedRegion.{SharedRegion}
 use Rattle.pas_answers.specs.Acts.{Ends, numbers_from, acts_of, phase_acts}
 use Rattle.pas_answers.specs.Replays.{at_start}
-use Rattle.pas_answers.specs.Answers.{Progress, Follows}
+use Rattle.pas_answers.specs.Answers.{Progress}
 use Rattle.pas_answers.specs.Calls.{owed_events}
 use Rattle.pas_answers.specs.Ways.{OnThreads, arranged, by_actors, AreSpoken}
 use Rattle.pas_answers.specs.Reaching.{Reaches}
-use Rattle.pas_acts.specs.Works.{Sits}
-use Rattle.pas_acts.specs.Scavenges.{ScavengerAt}
-use Rattle.pas_threads.specs.Hands.{standing_of_pass, HasPass}
+use Rattle.pas_acts.specs.Works.{Later}
+use Rattle.pas_acts.specs.Turns.{RestsAt}
+use Rattle.pas_threads.specs.Hands.{standing_of_pass, HasPass, ScavengerAt}
 use Rattle.pas_acts.specs.NameBooks.{NamesAt, requests_in, room_for}
 use Rattle.pas_threads.specs.declared.workers.Worker.{Worker}
 use Rattle.pas_threads.specs.declared.scavenger.Scavenger.{Scavenger}
 use Rattle.pas_threads.specs.declared.phases.Team.{Team}
 
 -- ---- the workers
--- The worker of thread k has its pass, and nothing is said or asked that wasn't gathered. There is room for the events, the records and the requests that
--- the thread owes or may make later.
-pub record WorkerRests (region : SharedRegion) (f : Profile) (k : ℕ) (worker : Worker) (later : ℕ) (p : Progress) : Type 0 where
+-- room for so many events and as many records
+abbrev pub evenly : ℕ → Later
+evenly n = record { events = n; records = n }
+
+-- The worker of thread k has its pass, and with it rests where the replay came as far as p, with room for what it owes and for so much later.
+pub record WorkerHas (region : SharedRegion) (f : Profile) (k : ℕ) (worker : Worker) (later : Later) (p : Progress) : Type 0 where
   pub has : HasPass region worker.pass
-  pub sits : Sits f k (AtRest f (cached worker.cache)) (standing_of_pass has.pass) (part k p.list) (owed_events f (cached worker.cache) (part k p.list) + later)
-  pub cache : p.caches k ≡ cached worker.cache
+  pub rests : RestsAt f k (standing_of_pass has.pass) (cached worker.cache) worker.out later p
+
+-- .. nothing is said or asked that wasn't gathered, and there is room for the requests that the thread may make later
+pub record WorkerRests (region : SharedRegion) (f : Profile) (k : ℕ) (worker : Worker) (later : ℕ) (p : Progress) : Type 0 where
+  pub here : WorkerHas region f k worker (evenly later) p
   pub said : records_in worker.out ≡ []
-  pub spare : owed_events f (cached worker.cache) (part k p.list) + later ≤ room_of worker.out
   pub asked : requests_in worker.requests ≡ []
   pub requests : later ≤ room_for worker.requests
 
@@ -43,7 +48,7 @@ AreResting region f workers later p = (i : ℕ) (d : Worker) → i < length work
 -- the scavenger has its pass, nothing that it said wasn't gathered, and no thread is lent to it
 pub record ScavengerRests (region : SharedRegion) (f : Profile) (scavenger : Scavenger) (later : ℕ) (p : Progress) : Type 0 where
   pub has : HasPass region scavenger.pass
-  pub at : ScavengerAt f [] (standing_of_pass has.pass) (places_of scavenger.outcomes) scavenger.out (record { events = later; records = later }) p
+  pub at : ScavengerAt f [] (standing_of_pass has.pass) (places_of scavenger.outcomes) scavenger.out (evenly later) p
   pub said : records_in scavenger.out ≡ []
   pub none : scavenger.lent.items ≡ []
 
@@ -121,7 +126,7 @@ pub record CloseDone (region : SharedRegion) (f : Profile) (team : Team) (writte
 -- no cache has a local allocator.
 pub record HasReplayed (region : SharedRegion) (f : Profile) (phases : List (List Op)) (team : Team) (written : List Record) : Type 0 where
   pub end : Progress
-  pub answers : Follows f (acts_of f.threads phases) at_start end.list end.records
+  pub answers : Reaches f (acts_of f.threads phases) at_start end
   pub stands : TeamAt region f [] team end
   pub written_are : written ≡ arranged OnThreads f.threads end.records
   pub empty : (i : ℕ) (d : Worker) → i < length team.threads.items → (cached (get_or team.threads.items i d).cache).locals ≡ []

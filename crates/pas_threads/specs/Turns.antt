@@ -1,94 +1,90 @@
--- What threads do one after the other, while nobody else makes a step: they read the epoch before a phase, and are stopped at the close; and what is
--- gathered of them.
-use Rattle.std.specs.Prelude.{ℕ, suc, ◌+◌, ◌<◌, ◌≤◌, ◌≡◌, List, [], ◌∷◌, ◌++◌, length, get_or, map}
+-- How workers take turns, one after the other: threads read the epoch before a phase, and are stopped at the close; and what is gathered of them.
+use Rattle.std.specs.Prelude.{ℕ, suc, ◌+◌, ◌<◌, ◌≤◌, ◌≡◌, ◌≢◌, List, [], ◌∷◌, ◌++◌, length, get_or, map}
 use Rattle.pas_bits.specs.declared.mask.Mask4.{Mask4}
 use Rattle.pas_profile.specs.declared.profile.Profile.{Profile}
 use Rattle.pas_steps.specs.Lists.{part}
-use Rattle.pas_report.specs.Rooms.{records_in, room_of}
+use Rattle.pas_report.specs.Rooms.{records_in, room_of, Records}
 use Rattle.pas_report.specs.declared.record.Record.{Record}
-use Rattle.pas_cache.specs.Caches.{cached, AtRest}
+use Rattle.pas_cache.specs.Caches.{cached}
 use Rattle.pas_shared.specs.declared.region.SharedRegion.{SharedRegion}
-use Rattle.pas_answers.specs.Acts.{Wakes, Ends, numbers_from}
-use Rattle.pas_answers.specs.Answers.{Progress, after_wake}
+use Rattle.pas_answers.specs.Acts.{Act, Wakes, Ends, numbers_from}
+use Rattle.pas_answers.specs.Answers.{Progress}
 use Rattle.pas_answers.specs.Calls.{owed_events}
 use Rattle.pas_answers.specs.Ways.{AreSpoken, records_by}
 use Rattle.pas_plans.specs.Awake.{awake_in}
 use Rattle.pas_answers.specs.Reaching.{Reaches}
-use Rattle.pas_acts.specs.Works.{Sits}
-use Rattle.pas_threads.specs.Hands.{standing_of_pass, HasPass}
-use Rattle.pas_threads.specs.Sessions.{WorkerRests, AreResting}
+use Rattle.pas_acts.specs.Turns.{ActsAlone}
+use Rattle.pas_acts.specs.Works.{Later}
+use Rattle.pas_threads.specs.Hands.{Did}
+use Rattle.pas_threads.specs.Sessions.{evenly, WorkerHas}
 use Rattle.pas_threads.specs.declared.workers.Worker.{Worker}
 
--- ---- how a replay came from p to q
--- only threads up to this number made steps; what names stand for and the epoch that the scavenger read are as they were
-pub record LeavesOthers (threads : ℕ) (p q : Progress) : Type 0 where
-  pub scavenger : part 0 q.list ≡ part 0 p.list
-  pub beyond : (k : ℕ) → threads < k → part k q.list ≡ part k p.list
+-- ---- what acts come to
+-- how far these acts brought a replay from p, and what was said by them
+pub record Came (f : Profile) (acts : List Act) (p : Progress) : Type 0 where
+  pub reached : Progress
+  pub reaches : Reaches f acts p reached
+  pub said : List Record
+  pub records_are : reached.records ≡ p.records ++ said
+
+-- what actor k said of these came to the end of its records
+pub record Pushed (k : ℕ) (said : List Record) (out out' : Records) : Type 0 where
+  pub added : records_in out' ≡ records_in out ++ records_by k said
+  pub room : room_of out' ≡ room_of out
+
+-- .. of those of its worker, whose requests are as they were
+pub record Told (k : ℕ) (said : List Record) (old new : Worker) : Type 0 where
+  pub out : Pushed k said old.out new.out
+  pub requests : new.requests ≡ old.requests
+
+-- ---- workers in a row, one turn each or none
+-- nobody but the actors of so many places made a step; what names stand for and the epoch that the scavenger read are as they were
+pub record LeavesOthers (number : ℕ → ℕ) (places : ℕ) (p q : Progress) : Type 0 where
+  pub parts : (k : ℕ) → ((i : ℕ) → i < places → number i ≢ k) → part k q.list ≡ part k p.list
   pub names : q.names ≡ p.names
   pub epoch : q.epoch ≡ p.epoch
 
+-- These acts were done by workers of the row, of which that at place i is of actor `number i`. Each stands then, which is what `Stands` says of it.
+pub record TookTurns (f : Profile) (number : ℕ → ℕ) (Stands : ℕ → Worker → Progress → Type 0) (acts : List Act) (old new : List Worker) (p : Progress) : Type 0 where
+  pub came : Came f acts p
+  pub stand : (i : ℕ) (d : Worker) → i < length old → Stands i (get_or new i d) came.reached
+  pub told : (i : ℕ) (d : Worker) → i < length old → Told (number i) came.said (get_or old i d) (get_or new i d)
+  pub leaves : LeavesOthers number (length old) p came.reached
+
+-- ---- the threads, from thread 1 on
 -- what a thread owes
 abbrev pub owed_at : Profile → ℕ → Progress → ℕ
 owed_at f k p = owed_events f (p.caches k) (part k p.list)
 
--- These records were said, without a mark. No actor said more than what it owed before, and this cost, pay for, with what it owes afterwards.
-pub record Spoke (f : Profile) (threads : ℕ) (cost : ℕ → ℕ) (p q : Progress) : Type 0 where
-  pub all : List Record
-  pub records_are : q.records ≡ p.records ++ all
-  pub spoken : AreSpoken all
-  pub few : (k : ℕ) → 1 ≤ k → k ≤ threads → length (records_by k all) + owed_at f k q ≤ owed_at f k p + cost k
-  pub few_scavenger : length (records_by 0 all) ≤ cost 0
+-- the worker of the thread at this place has its pass; what it owed at p pays for what it said and wasn't gathered, with what it owes now
+pub record IsDue (region : SharedRegion) (f : Profile) (later : ℕ → ℕ) (p : Progress) (i : ℕ) (worker : Worker) (now : Progress) : Type 0 where
+  pub here : WorkerHas region f (suc i) worker (evenly (later (suc i))) now
+  pub paid : length (records_in worker.out) + owed_at f (suc i) now ≤ owed_at f (suc i) p
 
--- ---- the workers
--- The worker of thread k has its pass, and said this, which wasn't gathered yet. There is room for the events and the records that the thread owes or may
--- make later.
-pub record WorkerSaid (region : SharedRegion) (f : Profile) (k : ℕ) (worker : Worker) (said : List Record) (later : ℕ) (p : Progress) : Type 0 where
-  pub has : HasPass region worker.pass
-  pub sits : Sits f k (AtRest f (cached worker.cache)) (standing_of_pass has.pass) (part k p.list) (owed_events f (cached worker.cache) (part k p.list) + later)
-  pub cache : p.caches k ≡ cached worker.cache
-  pub said_is : records_in worker.out ≡ said
-  pub spare : length said + (owed_events f (cached worker.cache) (part k p.list) + later) ≤ room_of worker.out
-
--- ---- before a phase
--- the thread read the epoch
-pub record Woke (region : SharedRegion) (f : Profile) (k : ℕ) (old new : Worker) (later : ℕ) (p : Progress) : Type 0 where
-  pub epoch : ℕ
-  pub rests : WorkerRests region f k new later (after_wake p k epoch)
-  pub owed : owed_at f k (after_wake p k epoch) ≡ owed_at f k p
-
--- each thread of the mask did, in order
-pub record WokeAll (region : SharedRegion) (f : Profile) (awake : Mask4) (old new : List Worker) (later : ℕ → ℕ) (p : Progress) : Type 0 where
-  pub reached : Progress
-  pub reaches : Reaches f (map Wakes (awake_in awake (length old))) p reached
-  pub rests : AreResting region f new later reached
-  pub leaves : LeavesOthers (length old) p reached
-  pub records : reached.records ≡ p.records
-  pub owed : (k : ℕ) → owed_at f k reached ≡ owed_at f k p
-
--- ---- at the close
--- the thread was stopped, and said this; its cache is empty
-pub record Stopped (region : SharedRegion) (f : Profile) (k : ℕ) (old new : Worker) (later : ℕ) (p : Progress) : Type 0 where
-  pub reached : Progress
-  pub reaches : Reaches f (Ends k ∷ []) p reached
-  pub spoke : Spoke f k (λ j. 0) p reached
-  pub own : records_by k spoke.all ≡ spoke.all
-  pub stands : WorkerSaid region f k new spoke.all later reached
+-- the worker did this act of its thread, with its pass, and has it again
+pub record Turn (region : SharedRegion) (f : Profile) (k : ℕ) (act : Act) (old new : Worker) (later : Later) (p : Progress) : Type 0 where
+  pub did : Did region old.pass new.pass (λ σ σ'. ActsAlone f k act σ σ' (cached old.cache) (cached new.cache) old.out new.out later p)
   pub requests : new.requests ≡ old.requests
-  pub empty : (cached new.cache).locals ≡ []
-  pub parts : (j : ℕ) → (k ≡ j → ⊥) → part j reached.list ≡ part j p.list
-  pub caches : (j : ℕ) → (k ≡ j → ⊥) → reached.caches j ≡ p.caches j
-  pub names : reached.names ≡ p.names
-  pub epoch : reached.epoch ≡ p.epoch
 
--- each thread was, in order
-pub record StoppedAll (region : SharedRegion) (f : Profile) (old new : List Worker) (later : ℕ → ℕ) (p : Progress) : Type 0 where
-  pub reached : Progress
-  pub reaches : Reaches f (map Ends (numbers_from 1 (length old))) p reached
-  pub spoke : Spoke f (length old) (λ j. 0) p reached
-  pub each : (i : ℕ) (d : Worker) → i < length old → WorkerSaid region f (suc i) (get_or new i d) (records_by (suc i) spoke.all) (later (suc i)) reached
-  pub requests : (i : ℕ) (d : Worker) → i < length old → (get_or new i d).requests ≡ (get_or old i d).requests
-  pub empty : (i : ℕ) (d : Worker) → i < length old → (cached (get_or new i d).cache).locals ≡ []
-  pub leaves : LeavesOthers (length old) p reached
+-- these threads read the epoch, and nothing was said
+pub record Woke (region : SharedRegion) (f : Profile) (acts : List Act) (old new : List Worker) (later : ℕ → ℕ) (p : Progress) : Type 0 where
+  pub turns : TookTurns f suc (IsDue region f later p) acts old new p
+  pub silent : turns.came.said ≡ []
+
+-- .. those of the mask, in order
+abbrev pub WokeAll : SharedRegion → Profile → Mask4 → List Worker → List Worker → (ℕ → ℕ) → Progress → Type 0
+WokeAll region f awake old new later p = Woke region f (map Wakes (awake_in awake (length old))) old new later p
+
+-- The threads before this place were stopped. What was said is of threads, and no mark is among it. Their caches are empty.
+pub record Stopped (region : SharedRegion) (f : Profile) (acts : List Act) (i : ℕ) (old new : List Worker) (later : ℕ → ℕ) (p : Progress) : Type 0 where
+  pub turns : TookTurns f suc (IsDue region f later p) acts old new p
+  pub spoken : AreSpoken turns.came.said
+  pub none : records_by 0 turns.came.said ≡ []
+  pub empty : (j : ℕ) (d : Worker) → j < i → (cached (get_or new j d).cache).locals ≡ []
+
+-- .. all of them, in order
+abbrev pub StoppedAll : SharedRegion → Profile → List Worker → List Worker → (ℕ → ℕ) → Progress → Type 0
+StoppedAll region f old new later p = Stopped region f (map Ends (numbers_from 1 (length old))) (length old) old new later p
 
 -- ---- what is gathered
 -- what these workers said, one worker after the other

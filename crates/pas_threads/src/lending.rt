@@ -1,12 +1,9 @@
 //! The stops of the threads that are idle in a phase, by the scavenger's worker, to which they are lent.
-ghost use Rattle.std.specs.Prelude.{◌≡◌, ◌+◌, ◌≤◌, ℕ, List, length};
-ghost use Rattle.pas_profile.specs.declared.profile.Profile.{Profile as TheProfile};
+ghost use Rattle.std.specs.Prelude.{◌≡◌, ◌+◌, ◌≤◌, length};
 ghost use Rattle.pas_report.specs.Rooms.{records_in, room_of};
 ghost use Rattle.pas_answers.specs.Acts.{idle_stops};
 ghost use Rattle.pas_answers.specs.Answers.{Progress};
-ghost use Rattle.pas_acts.specs.declared.names.NameBook.{NameBook as TheBook};
-ghost use Rattle.pas_acts.specs.Works.{Later};
-ghost use Rattle.pas_threads.specs.Lent.{AreDistinct, AreLent, DidWithLent};
+ghost use Rattle.pas_threads.specs.Lent.{Shift, AreLent, DidWithLent};
 
 use crate::workers::{Worker, stop_lent};
 use pas_report::Records;
@@ -21,10 +18,9 @@ pub(crate) fn stop_idle(
     epoch: u64,
     out: &mut Records,
 )
-    requires lent { (book : TheBook) × (f : TheProfile) × (idle : List ℕ) × (later : ℕ → Later) × (p : Progress) × AreDistinct idle × AreLent region.now book f idle later lent.old p × (p.epoch ≡ epoch) }
+    requires lent { (s : Shift) × (p : Progress) × AreLent region.now s lent.old p × (p.epoch ≡ epoch) }
     requires room { length (records_in out.old) + length lent.old ≤ room_of out.old }
-    ensures stops { (book : TheBook) (f : TheProfile) (idle : List ℕ) (later : ℕ → Later) (p : Progress) → AreDistinct idle → AreLent region.now book f idle later lent.old p → p.epoch ≡ epoch
-        → DidWithLent region.now book f (idle_stops epochs idle) idle later lent.old lent.new out.old out.new (length lent.old) p }
+    ensures stops { (s : Shift) (p : Progress) → AreLent region.now s lent.old p → p.epoch ≡ epoch → DidWithLent region.now s (idle_stops epochs s.idle) lent.old lent.new out.old out.new (length lent.old) p }
     ensures many { length lent.new ≡ length lent.old }
 {
     for index in 0..lent.len() {

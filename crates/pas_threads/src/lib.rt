@@ -8,12 +8,15 @@ mod estimate;
 mod hands;
 pub mod kit;
 mod lending;
+mod making;
 mod phases;
 mod scavenger;
 mod turns;
+mod whole;
 mod workers;
 
 pub use ahead::Ahead;
 pub use estimate::Estimate;
-pub use kit::{Rooms, SharedKit, on_threads, on_threads_with_rooms};
+pub use kit::SharedKit;
 pub use pas_acts::{Gate, OpenGate};
+pub use whole::{Rooms, on_threads, on_threads_with_rooms};

@@ -1,30 +1,33 @@
 //! What threads do one after the other, while nobody else makes a step: the reads of the epoch before a phase, the stops at the close, and what is
 //! gathered of them.
-ghost use Rattle.std.specs.Prelude.{◌≡◌, ◌+◌, ◌<◌, ◌≤◌, ◌++◌, ℕ, length, get_or};
+ghost use Rattle.std.specs.Prelude.{◌≡◌, ◌+◌, ◌<◌, ◌≤◌, ◌++◌, ℕ, [], length, get_or};
 ghost use Rattle.pas_profile.specs.declared.profile.Profile.{Profile as TheProfile};
 ghost use Rattle.pas_report.specs.Rooms.{records_in, room_of};
 ghost use Rattle.pas_answers.specs.Answers.{Progress};
-ghost use Rattle.pas_threads.specs.Sessions.{WorkerRests, AreResting};
-ghost use Rattle.pas_threads.specs.Turns.{Woke, WokeAll, Stopped, StoppedAll, said_by_all, IsGathered};
+ghost use Rattle.pas_cache.specs.Caches.{cached};
+ghost use Rattle.pas_answers.specs.Acts.{Wakes, Ends};
+ghost use Rattle.pas_acts.specs.Works.{Later};
+ghost use Rattle.pas_threads.specs.Sessions.{WorkerHas, AreResting};
+ghost use Rattle.pas_threads.specs.Turns.{Turn, WokeAll, StoppedAll, said_by_all, IsGathered};
 ghost use Rattle.pas_threads.specs.declared.workers.Worker.{Worker as TheWorker};
 
 use crate::workers::Worker;
-use pas_answers::answer_meant;
+use pas_acts::turns::{begin, end};
 use pas_bits::Mask4;
 use pas_report::Records;
 use pas_shared::SharedRegion;
-use pas_trace::What;
 
 /// The thread sits down, reads the epoch, and rises. One step.
 fn wake(region: &SharedRegion, worker: &mut Worker)
-    requires rests { (f : TheProfile) × (k : ℕ) × (later : ℕ) × (p : Progress) × WorkerRests region.now f k worker.old later p }
-    ensures woke { (f : TheProfile) (k later : ℕ) (p : Progress) → WorkerRests region.now f k worker.old later p → Woke region.now f k worker.old worker.new later p }
+    requires rests { (f : TheProfile) × (k : ℕ) × (later : Later) × (p : Progress) × WorkerHas region.now f k worker.old later p }
+    ensures woke { (f : TheProfile) (k : ℕ) (later : Later) (p : Progress) → WorkerHas region.now f k worker.old later p
+        → (turn : Turn region.now f k (Wakes k) worker.old worker.new later p) × (turn.did.does.says.said ≡ []) }
 {
     let Some(pass) = worker.pass.take() else {
         unreachable!();
     };
     let mut desk = region.desk(pass);
-    worker.cache.begin(&mut desk);
+    begin(&mut desk, &mut worker.cache);
     worker.pass = Some(desk.into_pass());
 }
 
@@ -44,20 +47,15 @@ pub(crate) fn wake_all(region: &SharedRegion, threads: &mut [Worker], awake: Mas
 
 /// The thread sits down, is stopped, and rises. What its flush says comes to its records.
 fn stop(region: &SharedRegion, worker: &mut Worker)
-    requires rests { (f : TheProfile) × (k : ℕ) × (later : ℕ) × (p : Progress) × WorkerRests region.now f k worker.old later p }
-    ensures stopped { (f : TheProfile) (k later : ℕ) (p : Progress) → 1 ≤ k → WorkerRests region.now f k worker.old later p → Stopped region.now f k worker.old worker.new later p }
+    requires rests { (f : TheProfile) × (k : ℕ) × (later : Later) × (p : Progress) × WorkerHas region.now f k worker.old later p }
+    ensures stopped { (f : TheProfile) (k : ℕ) (later : Later) (p : Progress) → WorkerHas region.now f k worker.old later p → Turn region.now f k (Ends k) worker.old worker.new later p }
+    ensures empty { (cached worker.new.cache).locals ≡ [] }
 {
     let Some(pass) = worker.pass.take() else {
         unreachable!();
     };
     let mut desk = region.desk(pass);
-    answer_meant(
-        &mut desk,
-        &mut worker.cache,
-        What::Stop,
-        None,
-        &mut worker.out,
-    );
+    end(&mut desk, &mut worker.cache, &mut worker.out);
     worker.pass = Some(desk.into_pass());
 }
 

@@ -1,22 +1,28 @@
 //! The workers of the threads at a shared region.
-ghost use Rattle.std.specs.Prelude.{◌≡◌, ◌<◌, ◌^◌, ℕ, [], All, length, get_or};
-ghost use Rattle.pas_profile.specs.declared.profile.Profile.{Profile as TheProfile};
+ghost use Rattle.std.specs.Prelude.{◌≡◌, ◌<◌, ◌^◌, ℕ, Bool, [], ◌∷◌, All, length, get_or};
 ghost use Rattle.pas_answers.specs.Answers.{Progress};
 ghost use Rattle.pas_report.specs.Rooms.{records_in, room_of};
-ghost use Rattle.pas_acts.specs.declared.names.NameBook.{NameBook as TheBook};
+ghost use Rattle.pas_profile.specs.declared.profile.Profile.{Profile as TheProfile};
+ghost use Rattle.pas_cache.specs.Caches.{cached};
+ghost use Rattle.pas_answers.specs.Acts.{StopsIdle};
 ghost use Rattle.pas_acts.specs.Works.{Later};
-ghost use Rattle.pas_threads.specs.Hands.{WorkerAt, Did, kept_by, MayDoPhase, DidPhase};
+ghost use Rattle.pas_acts.specs.Turns.{RestsAt};
+ghost use Rattle.pas_acts.specs.AtDesks.{here, told_if, ThreadActs};
+ghost use Rattle.pas_threads.specs.Turns.{Pushed};
+ghost use Rattle.pas_threads.specs.Hands.{MayDoPhase, DidPhase};
+ghost use Rattle.pas_threads.specs.Sessions.{WorkerHas};
+ghost use Rattle.pas_threads.specs.Lent.{StopsLent};
 ghost use Rattle.pas_answers.specs.Names.{names_held};
 ghost use Rattle.pas_threads.specs.Taken.{HasTaken, IsWithin, IsEmptied};
-ghost use Rattle.pas_acts.specs.Scavenges.{StopsThread};
 
+use pas_acts::at_desk::{SCAVENGER, stop_if_idle};
 use pas_acts::gate::Gate;
 use pas_acts::names::{NameBook, Requests};
 use pas_acts::own::work;
-use pas_acts::scavenging::stop_if_idle;
 use pas_cache::ThreadCache;
-use pas_report::Records;
+use pas_report::{Record, Records, Said};
 use pas_shared::{SharedPass, SharedRegion};
+use pas_steps::Desk;
 use pas_trace::Op;
 
 /// A thread of the replay: its pass while it doesn't sit at the region, its cache, its requests of the phase, and its records.
@@ -56,7 +62,29 @@ pub(crate) fn perform<G: Gate>(
     worker.pass = Some(desk.into_pass());
 }
 
-/// The thread, which was lent to the scavenger, sits down, is stopped where it was idle for so many epochs, now that it is this one, and rises.
+/// Stops the thread of this desk, where it was idle for so many epochs, now that it is this one. The records of its flush come to its own, and that it was
+/// stopped is said in `out`.
+fn stop_and_tell<D: Desk>(
+    desk: &mut D,
+    cache: &mut ThreadCache,
+    epochs: u64,
+    epoch: u64,
+    own: &mut Records,
+    out: &mut Records,
+)
+    requires rests { (f : TheProfile) × (k : ℕ) × (later : Later) × (p : Progress) × RestsAt f k (D.standing desk.old) (cached cache.old) own.old later p }
+    requires room { length (records_in out.old) < room_of out.old }
+    ensures stops { (f : TheProfile) (k : ℕ) (later : Later) (p : Progress) → RestsAt f k (D.standing desk.old) (cached cache.old) own.old later p → p.epoch ≡ epoch
+        → (stopped : Bool) × ThreadActs f k (StopsIdle k epochs ∷ []) [] (told_if stopped k) (here (D.standing desk.old) (cached cache.old) own.old) (here (D.standing desk.new) (cached cache.new) own.new) later p × Pushed 0 (told_if stopped k) out.old out.new }
+    ensures home { D.home desk.new ≡ D.home desk.old }
+{
+    if stop_if_idle(desk, cache, epochs, epoch, own) {
+        out.push(Record::Said(SCAVENGER, Said::Stopped(desk.actor())));
+    }
+}
+
+/// The thread, which was lent to the scavenger, sits down, is stopped where it was idle for so many epochs, now that it is this one, and rises. That it was
+/// stopped is said in `out`.
 pub(crate) fn stop_lent(
     region: &SharedRegion,
     worker: &mut Worker,
@@ -64,17 +92,15 @@ pub(crate) fn stop_lent(
     epoch: u64,
     out: &mut Records,
 )
-    requires may { (book : TheBook) × (f : TheProfile) × (k : ℕ) × (later : Later) × (p : Progress) × WorkerAt region.now book f k [] worker.old later p }
+    requires may { (f : TheProfile) × (k : ℕ) × (later : Later) × (p : Progress) × WorkerHas region.now f k worker.old later p }
     requires room { length (records_in out.old) < room_of out.old }
-    ensures stops { (book : TheBook) (f : TheProfile) (k : ℕ) (later : Later) (p : Progress) → WorkerAt region.now book f k [] worker.old later p → p.epoch ≡ epoch
-        → Did region.now worker.old.pass worker.new.pass (λ σ σ'. StopsThread f k epochs σ σ' (kept_by book worker.old) (kept_by book worker.new) out.old out.new later p) }
-    ensures requests { worker.new.requests ≡ worker.old.requests }
+    ensures stops { (f : TheProfile) (k : ℕ) (later : Later) (p : Progress) → WorkerHas region.now f k worker.old later p → p.epoch ≡ epoch → StopsLent region.now f k epochs worker.old worker.new out.old out.new later p }
 {
     let Some(pass) = worker.pass.take() else {
         unreachable!();
     };
     let mut desk = region.desk(pass);
-    stop_if_idle(
+    stop_and_tell(
         &mut desk,
         &mut worker.cache,
         epochs,

@@ -8,8 +8,7 @@ use Rattle.pas_trace.specs.Plans.{IsPlanOf, phases_of, ops_of, add_last, phases_
 use Rattle.pas_trace.specs.EveryPlan.{all_ops, is_asked, asked_after, asked_by}
 use Rattle.pas_trace.specs.EveryPhase.{FreesItsOwn, FreeTheirOwn}
 use Rattle.pas_trace.specs.declared.item.Item.{Item}
-use Rattle.pas_trace.specs.declared.item.Item.TheVariants.{Blank, Shares, NextPhase, Allocates, Frees, FreesRaw, Flushes, Stops, Ticks, Passes, Idles}
-use Rattle.pas_trace.specs.declared.plan.What.TheVariants.{Free}
+use Rattle.pas_trace.specs.declared.item.Item.TheVariants.{Blank, Shares, NextPhase, Allocates, Frees}
 use Rattle.pas_trace.specs.declared.plan.Op.{Op}
 use Rattle.pas_trace.specs.declared.plan.Plan.{Plan}
 use Rattle.pas_trace.proofs.OperationsOfItems.{new_ops, asked_both, AreNames, item_names}
@@ -69,21 +68,14 @@ record HasLast (items : List Item) : Type 0 where
   frees : (k : ℕ) → FreesItsOwn k (asked_in front) last
   own : HaveOwn (λ k. own_by k (asked_in front) last) items
 
-free_name : {n m : ℕ} → Free n ≡ Free m → n ≡ m
-free_name h = cc
-
 item_frees : (f : Profile) (i : Item) (earlier : List Item) (own : ℕ → List ℕ) → reason_of f earlier i ≡ None → HaveOwn own earlier → (k : ℕ) → FreesItsOwn k (own k) (new_ops i earlier)
-item_frees f (Allocates t q) earlier own passed have k = (λ n who what. absurd (cc), tt)
 item_frees f (Frees t n) earlier own passed have k =
     let held = passes f earlier (Frees t n) passed in
-    (λ m who what. subst (λ j. is_asked (own j) m ≡ true) who (subst (λ j. is_asked (own t) j ≡ true) (free_name what) (have t n (held.1.0, held.1.1.0))), tt)
-item_frees f (FreesRaw t a n) earlier own passed have k = (λ m who what. absurd (cc), tt)
-item_frees f (Flushes t) earlier own passed have k = (λ m who what. absurd (cc), tt)
-item_frees f (Stops t) earlier own passed have k = (λ m who what. absurd (cc), tt)
-item_frees f (Ticks e) earlier own passed have k = (λ m who what. absurd (cc), tt)
-item_frees f Passes earlier own passed have k = (λ m who what. absurd (cc), tt)
-item_frees f (Idles e) earlier own passed have k = (λ m who what. absurd (cc), tt)
-item_frees f i earlier own passed have k = tt
+    (λ who. subst (λ j. is_asked (own j) n ≡ true) who (have t n (held.1.0, held.1.1.0)), tt)
+item_frees f Blank earlier own passed have k = tt
+item_frees f (Shares h) earlier own passed have k = tt
+item_frees f NextPhase earlier own passed have k = tt
+item_frees f i earlier own passed have k = (λ who. tt, tt)
 
 -- ---- what a thread may free after an item
 either_same : (t : Bool) (asked : List ℕ) (n : ℕ) → is_asked asked n ≡ true → is_asked (if t then asked else asked) n ≡ true

@@ -6,11 +6,11 @@ use Rattle.std.proofs.Math.Seq.{get_or-append_seam}
 use Rattle.pas_profile.specs.Profiles.{IsValid}
 use Rattle.pas_profile.specs.declared.profile.Profile.{Profile}
 use Rattle.pas_trace.specs.Plans.{IsPlanOf, phases_of, ops_of, phases_in, shared_in, own_costs, bound_of, bounds_upto, bounds_of}
-use Rattle.pas_trace.specs.EveryPlan.{all_ops, operations_of, AreSound, own_records, records_of_ops, IsSound}
+use Rattle.pas_trace.specs.EveryPlan.{all_ops, operations_of, AreBelow, AreSound, own_records, records_of_ops, IsSound}
 use Rattle.pas_trace.specs.declared.item.Item.{Item}
 use Rattle.pas_trace.specs.declared.plan.Plan.{Plan}
 use Rattle.pas_trace.proofs.LineCounts.{lines_few}
-use Rattle.pas_trace.proofs.OperationsOfItems.{ops_in, following, all_records, all_own, phases_within}
+use Rattle.pas_trace.proofs.OperationsOfItems.{ops_in, following, all_below, all_records, all_own, phases_within}
 use Rattle.pas_trace.proofs.ParsedItems.{parts_of}
 use Rattle.pas_trace.proofs.Telling.{bound-first, bound-other}
 
@@ -35,6 +35,7 @@ every_plan {text} {plan} is =
     let f = is.header in
     let g : Profile = record f { shared = shared_in is.items } in
     let ops : operations_of plan ≡ ops_in is.items = ap all_ops is.phases in
+    let follow = following f (shared_in is.items) is.items all.checked in
     let lines = lines_few text in
     let few = all.few in
     let phases = phases_within is.items in
@@ -54,7 +55,8 @@ every_plan {text} {plan} is =
         some_heap = valid.some_heap;
         heaps = valid.heaps;
       });
-      operations = subst (λ h. AreSound h [] (operations_of plan)) (sym is.profile) (subst (AreSound g []) (sym ops) (following f (shared_in is.items) is.items all.checked).sound);
+      operations = subst (λ h. AreSound h [] (operations_of plan)) (sym is.profile) (subst (AreSound g []) (sym ops) follow.sound);
+      names = subst (AreBelow plan.names_limit) (sym ops) (all_below plan.names_limit [] (ops_in is.items) (λ n asked. is.names n (sym (follow.names n) ∙ asked)));
       phases = omega (arith, many, phases, few, lines);
       count = ap (λ bs. length bs) is.bounds ∙ bounds_count f is.items (f.threads + 1) ∙ ap (λ h. h.threads + 1) (sym is.profile);
       scavenger = bound 0 (omega arith) ∙ sym (bound-first f is.items 0 (own_costs f 0 is.items) refl refl) ∙ omega (arith, own 0);

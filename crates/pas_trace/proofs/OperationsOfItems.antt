@@ -1,11 +1,14 @@
 -- The operations of items follow one another soundly, and may make as many records as the items.
-use Rattle.std.proofs.Common.{◌≡◌, ℕ, ◌+◌, ◌*◌, ◌≤◌, ◌==◌, ◌||◌, Bool, true, false, if◌then◌else◌, List, [], ◌∷◌, ◌++◌, length, Option, Some, None, refl, ap, sym, ◌∙◌, subst, arith, append_assoc, length-append}
-use Rattle.std.proofs.lemmas.Bool.{leb-true, ltb-true}
+use Rattle.std.proofs.Common.{◌≡◌, ℕ, ◌+◌, ◌*◌, ◌<◌, ◌≤◌, ◌==◌, ◌||◌, Bool, true, false, if◌then◌else◌, List, [], ◌∷◌, ◌++◌, length, Option, Some, None, refl, ap, sym, ◌∙◌, subst, arith, append_assoc, length-append}
+use Rattle.std.specs.Prelude.{MatchOption}
+use Rattle.std.proofs.lemmas.Bool.{eq-eqb, leb-true, ltb-true}
 use Rattle.std.proofs.lemmas.List.{append-nil}
 use Rattle.pas_profile.specs.declared.profile.Profile.{Profile}
 use Rattle.pas_trace.specs.Reasons.{is_named, actor_of, cost_of, costs_of, reason_of}
 use Rattle.pas_trace.specs.Plans.{operation_of, add_last, phases_in, phases_after, line_of_newest, own_costs}
-use Rattle.pas_trace.specs.EveryPlan.{all_ops, is_asked, asked_after, asked_by, AreSound, records_of_ops, own_records}
+use Rattle.pas_trace.specs.Asked.{request_in}
+use Rattle.pas_trace.specs.EveryPlan.{all_ops, is_asked, asked_with, asked_after, asked_by, AreBelow, AreSound, records_of_ops, own_records}
+use Rattle.pas_trace.specs.declared.item.Request.{Request}
 use Rattle.pas_trace.specs.declared.item.Item.{Item}
 use Rattle.pas_trace.specs.declared.item.Item.TheVariants.{Blank, Shares, NextPhase, Allocates, Frees, FreesRaw, Flushes, Stops, Ticks, Passes, Idles}
 use Rattle.pas_trace.specs.declared.plan.Op.{Op}
@@ -87,6 +90,28 @@ following f shared (i ∷ earlier) checked =
           (sound_both (sharing f shared) [] (ops_in earlier) (new_ops i earlier) before.sound (item_sound f shared i earlier asked checked.0.passes checked.0.range before.names));
       names = subst (λ now. AreNames now (i ∷ earlier)) (sym (ap (asked_by []) (ops_next i earlier) ∙ asked_both [] (ops_in earlier) (new_ops i earlier))) (item_names i earlier asked before.names);
     }
+
+-- ---- the names that they ask for are below a limit above all of them
+or_right : (s t : Bool) → t ≡ true → s || t ≡ true
+or_right true t is = refl
+or_right false t is = is
+
+-- a name that was asked for stays so
+pub kept_with : (request : Option Request) (asked : List ℕ) (n : ℕ) → is_asked asked n ≡ true → is_asked (asked_with request asked) n ≡ true
+kept_with None asked n is = is
+kept_with (Some request) asked n is = or_right (request.name == n) (is_asked asked n) is
+
+kept_by : (asked : List ℕ) (ops : List Op) (n : ℕ) → is_asked asked n ≡ true → is_asked (asked_by asked ops) n ≡ true
+kept_by asked [] n is = is
+kept_by asked (op ∷ ops) n is = kept_by (asked_after op.what asked) ops n (kept_with (request_in op.what) asked n is)
+
+below_one : (limit : ℕ) (request : Option Request) (asked : List ℕ) (ops : List Op) → ((n : ℕ) → is_asked (asked_by (asked_with request asked) ops) n ≡ true → n < limit) → MatchOption request (Unit {0}) (λ r. r.name < limit)
+below_one limit None asked ops all = tt
+below_one limit (Some r) asked ops all = all r.name (kept_by (r.name ∷ asked) ops r.name (ap (λ t. t || is_asked asked r.name) (eq-eqb r.name r.name refl)))
+
+pub all_below : (limit : ℕ) (asked : List ℕ) (ops : List Op) → ((n : ℕ) → is_asked (asked_by asked ops) n ≡ true → n < limit) → AreBelow limit ops
+all_below limit asked [] all = tt
+all_below limit asked (op ∷ ops) all = (below_one limit (request_in op.what) asked ops all, all_below limit (asked_after op.what asked) ops all)
 
 -- ---- how many records
 pub records_both : (f : Profile) (xs ys : List Op) → records_of_ops f (xs ++ ys) ≡ records_of_ops f xs + records_of_ops f ys

@@ -62,6 +62,7 @@ planned text line rest f all plan e h i p = record {
   phases = p.phases;
   bounds = p.bounds;
   total = p.total;
+  names = p.names;
 }
 
 from-second : (r : Reader) (rest : List ℕ) → Tells r [] → items_from r.header 2 [] (lines_of rest) ≡ items_from r.header (r.line + 1) [] (lines_of rest)

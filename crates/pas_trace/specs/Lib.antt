@@ -6,5 +6,8 @@ pub mod Reasons
 pub mod Plans
 pub mod Told
 pub mod Lexed
+pub mod Asked
 pub mod EveryPlan
 pub mod EveryPhase
+pub mod Acts
+pub mod Named

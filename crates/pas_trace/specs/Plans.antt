@@ -1,11 +1,11 @@
 -- The plan of a text, or its first fault.
-use Rattle.std.specs.Prelude.{ℕ, zero, suc, ◌+◌, ◌^◌, ◌≡◌, ◌==◌, if◌then◌else◌, bit_or, List, [], ◌∷◌, ◌++◌, map, Option, None, Some, Result, Ok, Err}
+use Rattle.std.specs.Prelude.{ℕ, zero, suc, ◌+◌, ◌^◌, ◌<◌, ◌≡◌, ◌==◌, true, if◌then◌else◌, bit_or, List, [], ◌∷◌, ◌++◌, map, Option, None, Some, Result, Ok, Err}
 use Rattle.pas_profile.specs.declared.profile.Profile.{Profile}
 use Rattle.pas_profile.specs.declared.name.Name.{Name}
 use Rattle.pas_trace.specs.Texts.{lines_of}
 use Rattle.pas_trace.specs.declared.item.Item.{Item}
 use Rattle.pas_trace.specs.declared.item.Item.TheVariants.{Blank, Shares, NextPhase, Allocates, Frees, FreesRaw, Flushes, Stops, Ticks, Passes, Idles}
-use Rattle.pas_trace.specs.Reasons.{header_of, line_says, actor_of, cost_of, record_bound}
+use Rattle.pas_trace.specs.Reasons.{header_of, line_says, is_named, actor_of, cost_of, record_bound}
 use Rattle.pas_trace.specs.declared.fault.Reason.{Reason}
 use Rattle.pas_trace.specs.declared.fault.TraceFault.{TraceFault}
 use Rattle.pas_trace.specs.declared.fault.ReadFault.{ReadFault}
@@ -145,7 +145,11 @@ phases_of phases = phases.phases.items
 abbrev pub bounds_of : Bounds → List ℕ
 bounds_of bounds = bounds.bounds.items
 
--- The plan is that of the text: its region, its phases, its bounds and its total.
+-- each name that the items allocate is below the limit
+abbrev pub AreNamedBelow : ℕ → List Item → Type 0
+AreNamedBelow limit items = (name : ℕ) → is_named items name ≡ true → name < limit
+
+-- The plan is that of the text: its region, its phases, its bounds and its total, and a limit above its names.
 pub record IsPlanOf (text : List ℕ) (plan : Plan) : Type 0 where
   pub items : List Item
   pub header : Profile
@@ -154,6 +158,7 @@ pub record IsPlanOf (text : List ℕ) (plan : Plan) : Type 0 where
   pub phases : map ops_of (phases_of plan.phases) ≡ phases_in items
   pub bounds : bounds_of plan.bounds ≡ bounds_upto header items (header.threads + 1)
   pub total : plan.total ≡ record_bound header items
+  pub names : AreNamedBelow plan.names_limit items
 
 -- The answer of the reader: the plan of the text, or its first fault. Nothing is said where memory ran out.
 abbrev pub IsReading : List ℕ → Result Plan ReadFault → Type 0

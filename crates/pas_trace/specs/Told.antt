@@ -8,7 +8,7 @@ use Rattle.pas_trace.specs.declared.item.Item.{Item}
 use Rattle.pas_trace.specs.declared.item.Item.TheVariants.{Blank, Shares, NextPhase, Allocates, Frees, FreesRaw, Flushes, Stops, Ticks, Passes, Idles}
 use Rattle.pas_trace.specs.declared.reader.Reader.{Reader}
 use Rattle.pas_trace.specs.Texts.{lines_of}
-use Rattle.pas_trace.specs.Plans.{ops_of, phases_of, bounds_of, phases_in, shared_in, line_of_newest, own_costs, bounds_upto, add_last, operation, fault_at, items_from}
+use Rattle.pas_trace.specs.Plans.{ops_of, phases_of, bounds_of, phases_in, shared_in, line_of_newest, own_costs, bounds_upto, AreNamedBelow, add_last, operation, fault_at, items_from}
 use Rattle.pas_trace.specs.declared.plan.Op.{Op}
 use Rattle.pas_trace.specs.declared.plan.What.{What}
 use Rattle.pas_trace.specs.declared.plan.Plan.{Plan}
@@ -171,3 +171,4 @@ pub record IsPlanned (header : Profile) (items : List Item) (plan : Plan) : Type
   pub phases : map ops_of (phases_of plan.phases) ≡ phases_in items
   pub bounds : bounds_of plan.bounds ≡ bounds_upto header items (header.threads + 1)
   pub total : plan.total ≡ record_bound header items
+  pub names : AreNamedBelow plan.names_limit items

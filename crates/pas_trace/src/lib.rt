@@ -22,6 +22,6 @@ mod words;
 pub use fault::{ReadFault, Reason, TraceFault};
 pub use header::header_of_text;
 pub use numbers::number;
-pub use plan::{Bounds, Op, Phase, Phases, Plan, What};
+pub use plan::{Bounds, Chore, Op, Phase, Phases, Plan, Task, What, Work};
 pub use reader::read_trace;
 pub use rounds::read_trace_on;

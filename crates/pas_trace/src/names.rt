@@ -1,5 +1,5 @@
 //! The trace names that are taken.
-ghost use Rattle.std.specs.Prelude.{◌≡◌, ◌<◌, ◌≤◌, ◌==◌, ℕ, if◌then◌else◌, OnOk, length, vec_len};
+ghost use Rattle.std.specs.Prelude.{◌≡◌, ◌<◌, ◌≤◌, ◌==◌, ℕ, true, not, if◌then◌else◌, OnOk, length, vec_len};
 ghost use Rattle.pas_trace.specs.Told.{owner_in};
 
 use std::alloc::{AllocError, Global};
@@ -42,6 +42,13 @@ impl Names {
             Some(owner) => *owner,
             None => NOBODY,
         }
+    }
+
+    /// A number above each name that is taken.
+    pub fn limit(&self) -> usize
+        ensures { (n : ℕ) → not ((owner_in self.now n).thread == 0) ≡ true → n < result }
+    {
+        self.owners.len()
     }
 
     /// Makes room for the name, with nobody as the owner of the new ones.

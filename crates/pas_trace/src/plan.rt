@@ -33,6 +33,40 @@ pub struct Op {
     pub what: What,
 }
 
+/// What an operation asks a thread for: what `What` has, without the chores of the scavenger.
+#[derive(Clone, Copy, PartialEq, Eq, Drop)]
+pub enum Task {
+    Request {
+        name: u32,
+        heap: u8,
+        size: u32,
+        align: u32,
+    },
+    Free {
+        name: u32,
+    },
+    FreeRaw {
+        block: Name,
+    },
+    Flush,
+    Stop,
+}
+
+/// What an operation asks the scavenger for.
+#[derive(Clone, Copy, PartialEq, Eq, Drop)]
+pub enum Chore {
+    Tick(u64),
+    Pass,
+    Idle(u64),
+}
+
+/// What an operation asks for, by who acts: its thread, or the scavenger.
+#[derive(Clone, Copy, PartialEq, Eq, Drop)]
+pub enum Work {
+    Own(Task),
+    Chore(Chore),
+}
+
 const _: () = prove!(size_of::<What>() == 24);
 
 const _: () = prove!(size_of::<Op>() == 32);
@@ -55,13 +89,46 @@ pub struct Bounds {
     pub(crate) bounds: Vec<u32>,
 }
 
-/// The plan of a trace. `total` bounds the records of all actors.
+/// The plan of a trace. `total` bounds the records of all actors, and each name that a request asks for is below `names_limit`.
 #[derive(Drop)]
 pub struct Plan {
     pub profile: Profile,
     pub phases: Phases,
     pub bounds: Bounds,
     pub total: u32,
+    pub names_limit: usize,
+}
+
+impl Op {
+    ghost use Rattle.std.specs.Prelude.{◌≡◌};
+    ghost use Rattle.pas_trace.specs.Asked.{work_of};
+
+    /// What it asks for, by who acts.
+    #[inline(always)]
+    pub fn work(self) -> Work
+        ensures { result ≡ work_of self.what }
+    {
+        match self.what {
+            What::Alloc {
+                name,
+                heap,
+                size,
+                align,
+            } => Work::Own(Task::Request {
+                name,
+                heap,
+                size,
+                align,
+            }),
+            What::Free { name } => Work::Own(Task::Free { name }),
+            What::Raw { block } => Work::Own(Task::FreeRaw { block }),
+            What::Flush => Work::Own(Task::Flush),
+            What::Stop => Work::Own(Task::Stop),
+            What::Tick(epoch) => Work::Chore(Chore::Tick(epoch)),
+            What::Pass => Work::Chore(Chore::Pass),
+            What::Idle(epochs) => Work::Chore(Chore::Idle(epochs)),
+        }
+    }
 }
 
 impl Phase {

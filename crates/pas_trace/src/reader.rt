@@ -382,6 +382,7 @@ impl Reader {
         ensures { IfOk result (λ plan. (items : List Item) → Tells self items → IsPlanned self.header items plan) }
     {
         let bounds = self.bounds()?;
+        let names_limit = self.names.limit();
         let Reader {
             header,
             shared,
@@ -394,6 +395,7 @@ impl Reader {
             phases: gathered.finish()?,
             bounds,
             total: counts.bound,
+            names_limit,
         })
     }
 

@@ -10,6 +10,7 @@ use Rattle.pas_plans.proofs.PlanFacts.{plan_phases, plan_valid, plan_fit}
 use Rattle.pas_answers.specs.Names.{names_held}
 use Rattle.pas_replay.proofs.StartAndEnd.{start, shows, handed, handed_back}
 use Rattle.pas_replay.proofs.kit.in_order.Goals as goal
+use Rattle.pas_answers.specs.Replays.{region_of}
 
 pub replay-region-requires-clause-phases : goal.replay-region-requires-clause-phases
 replay-region-requires-clause-phases c =
@@ -21,7 +22,7 @@ replay-region-requires-clause-phases c =
 
 pub replay-region-requires-clause-so_far : goal.replay-region-requires-clause-so_far
 replay-region-requires-clause-so_far c = (
-  c.args.plan.now.profile,
+  region_of c.args.plan.now,
   handed c.args.plan.now (length c.args.kit.actors.caches.items) (map ops_of c.as_slice.result.now) c.requires.kit.unused.many (ap (λ (ps : List Phase). map ops_of ps) c.as_slice.ensures)
       (start c.requires.plan.2 c.requires.kit c.requires.empty c.requires.room),
 )
@@ -29,7 +30,7 @@ replay-region-requires-clause-so_far c = (
 pub close-requires : goal.close-requires
 close-requires c =
     let plan = c.args.plan.now in
-    let so = c.replay-region.ensures.so_far plan.profile (handed plan (length c.args.kit.actors.caches.items) (map ops_of c.as_slice.result.now) c.requires.kit.unused.many (ap (λ (ps : List Phase). map ops_of ps) c.as_slice.ensures)
+    let so = c.replay-region.ensures.so_far (region_of plan) (handed plan (length c.args.kit.actors.caches.items) (map ops_of c.as_slice.result.now) c.requires.kit.unused.many (ap (λ (ps : List Phase). map ops_of ps) c.as_slice.ensures)
     (start c.requires.plan.2 c.requires.kit c.requires.empty c.requires.room)) in
     let part = λ (pass : PlainPass). PassStands (profile_of c.replay-region.result) pass so.0.list in
     record { whole = so.0.list; stands = so.1.stands; parts = subst (λ (ps : List PlainPass). All part ps) (sym c.requires.kit.none_left) (All-nil part) }
@@ -40,5 +41,5 @@ returns c =
     let threads = length c.args.kit.actors.caches.items in
     let phases = map ops_of c.as_slice.result.now in
     let same = ap (λ (ps : List Phase). map ops_of ps) c.as_slice.ensures in
-    let so = c.replay-region.ensures.so_far plan.profile (handed plan threads phases c.requires.kit.unused.many same (start c.requires.plan.2 c.requires.kit c.requires.empty c.requires.room)) in
+    let so = c.replay-region.ensures.so_far (region_of plan) (handed plan threads phases c.requires.kit.unused.many same (start c.requires.plan.2 c.requires.kit c.requires.empty c.requires.room)) in
     shows {plan = plan} c.replay-region.new.actors c.replay-region.new.names (names_held c.args.kit.names) (plan_valid c.requires.plan.2) (plan_fit c.requires.plan.2 (names_held c.args.kit.names) c.requires.kit.names) (handed_back plan threads phases c.requires.kit.unused.many same so) c.replay-region.ensures.empty c.close.ensures.profile c.close.ensures.words

@@ -8,14 +8,14 @@ use Rattle.pas_report.specs.declared.record.Record.{Record}
 use Rattle.pas_answers.specs.Acts.{Act, Wakes, Ends, acts_of, acts_of_ops, numbers_from}
 use Rattle.pas_replay.specs.Sessions.{SoFar, hand_of, hand_at}
 use Rattle.pas_plans.specs.Awake.{awake_in, idle_in}
-use Rattle.pas_replay.proofs.Sittings.{may_sit}
+use Rattle.pas_replay.proofs.Turning.{may_sit}
 use Rattle.pas_plans.proofs.ActsLeft.{acts_left, next_phase, first_phase, other_phase, last_phase}
-use Rattle.pas_replay.proofs.ActsInOrder.{as_acts, as_hand, as_first, as_idle, after_mark, wakes_first}
+use Rattle.pas_replay.proofs.ActsInOrder.{as_acts, as_hand, as_first, as_idle, after_mark, mark_free, close_free, wakes_first}
 use Rattle.pas_replay.proofs.order.replay.Goals as goal
 use Rattle.pas_replay.proofs.order.replay.Goals.{then-number-gt-UNMARKED, else-number-gt-UNMARKED, After-active-awake, After-push-2}
 
 pub sit-desk-requires-clause-may : goal.sit-desk-requires-clause-may
-sit-desk-requires-clause-may c = let at = c.requires.so_far.1.1 in may_sit at.profile_is at.stands at.scavenger
+sit-desk-requires-clause-may c = let at = c.requires.so_far.1.1 in may_sit at.profile_is at.stands (at.each 0 (omega arith))
 
 pub loop-phase-init : goal.loop-phase-init
 loop-phase-init c = record {
@@ -60,7 +60,7 @@ module _ (c : After-active-awake) (f : Profile)
             let more = w.if-number-gt-UNMARKED.true in
             let number : c.loop-phase.number + 1 ≡ i + 1 = omega (arith, count) in
             let pushed = w.push.ensures.added ∙ ap (λ (n : ℕ). records_in c.loop-phase.out ++ Record.Phase n ∷ []) number in
-            rw (w.out-is) (after_mark w.push.new.self (Record.Phase (i + 1)) (as_acts (other_phase threads i ops rest (omega (arith, count, more))) far) (λ j. refl) refl refl (λ limit asked fit. fit) (λ p l rs follows. follows) pushed w.push.ensures.size)
+            rw (w.out-is) (after_mark w.push.new.self (Record.Phase (i + 1)) (as_acts (other_phase threads i ops rest (omega (arith, count, more))) far) (λ p. refl) (mark_free f _ _) refl (λ limit asked fit. fit) pushed w.push.ensures.size)
         | else-number-gt-UNMARKED w ↦ let less = w.if-number-gt-UNMARKED.false in rw (w.out-is) (as_acts (first_phase threads i ops rest (omega (arith, count, less))) far)
       ])
 
@@ -115,11 +115,11 @@ module _ (c : After-push-2) (f : Profile)
       let threads = length c.args.actors.now.caches.items in
       let far = as_acts (last_phase threads c.args.phases.now c.loop-phase.phase-index c.loop-phase-test.false) (c.loop-phase.invariant.far f so0) in
       as_acts (ap (λ (n : ℕ). map Ends (numbers_from 1 n)) (sym c.loop-phase.invariant.threads) ∙ sym (append-nil (map Ends (numbers_from 1 (length c.loop-phase.actors.caches.items)))))
-      (after_mark c.push-2.new.self Record.Close far (λ j. refl) refl refl (λ limit asked fit. fit) (λ p l rs follows. follows) c.push-2.ensures.added c.push-2.ensures.size)
+      (after_mark c.push-2.new.self Record.Close far (λ p. refl) (close_free f _) refl (λ limit asked fit. fit) c.push-2.ensures.added c.push-2.ensures.size)
 
 pub stop_all-requires-clause-so_far : goal.stop_all-requires-clause-so_far
-stop_all-requires-clause-so_far c = let so0 = c.requires.so_far in (so0.0, _, [], closes (goal.at.stop_all-requires-clause-so_far c).After-push-2 so0.0 so0.1)
+stop_all-requires-clause-so_far c = let so0 = c.requires.so_far in (c.loop-phase.names, (so0.0, _, [], closes (goal.at.stop_all-requires-clause-so_far c).After-push-2 so0.0 so0.1))
 
 pub returns-clause-so_far : goal.returns-clause-so_far
 returns-clause-so_far c f so0 =
-    as_hand (c.rise.ensures.hand c.stop_all.new.names c.stop_all.new.out) (c.stop_all.ensures.so_far f _ [] (closes (goal.at.returns-clause-so_far c).After-push-2 f so0))
+    as_hand (c.rise.ensures.hand c.loop-phase.names c.stop_all.new.out) (c.stop_all.ensures.so_far c.loop-phase.names f _ [] (closes (goal.at.returns-clause-so_far c).After-push-2 f so0))

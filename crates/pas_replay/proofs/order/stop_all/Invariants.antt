@@ -5,14 +5,15 @@ use Rattle.pas_profile.specs.declared.profile.Profile.{Profile}
 use Rattle.pas_cache.specs.Caches.{cached}
 use Rattle.pas_cache.specs.declared.cache.ThreadCache.{ThreadCache}
 use Rattle.pas_answers.specs.Acts.{Act, Ends, numbers_from}
+use Rattle.pas_answers.specs.declared.names.Names.{Names}
 use Rattle.pas_replay.specs.Sessions.{SoFar, IsTaken, hand_at}
 use Rattle.pas_replay.proofs.order.stop_all.Given as goal
 
 abbrev pub invariant-loop-index : goal.invariant-loop-index
 invariant-loop-index l = record {
-  far : (f : Profile) (all more : List Act)
-      → SoFar f all (map Ends (numbers_from 1 (length l.fn.actors.caches.items)) ++ more) (hand_at l.fn.desk l.fn.actors l.fn.names l.fn.out)
-      → SoFar f all (map Ends (numbers_from (l.index + 1) (length l.fn.actors.caches.items - l.index)) ++ more) (hand_at l.desk l.actors l.names l.out);
+  far : (table : Names) (f : Profile) (all more : List Act)
+      → SoFar f all (map Ends (numbers_from 1 (length l.fn.actors.caches.items)) ++ more) (hand_at l.fn.desk l.fn.actors table l.fn.out)
+      → SoFar f all (map Ends (numbers_from (l.index + 1) (length l.fn.actors.caches.items - l.index)) ++ more) (hand_at l.desk l.actors table l.out);
   taken : IsTaken l.desk l.actors.passes.items;
   threads : length l.actors.caches.items ≡ length l.fn.actors.caches.items;
   empty : (j : ℕ) (d : ThreadCache) → j < l.index → (cached (get_or l.actors.caches.items j d)).locals ≡ [];

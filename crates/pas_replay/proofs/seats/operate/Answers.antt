@@ -1,28 +1,30 @@
-use Rattle.std.proofs.Common.{refl, ap, sym, subst}
-use Rattle.pas_profile.specs.declared.profile.Profile.{Profile}
-use Rattle.pas_steps.specs.Desks.{CanCall}
-use Rattle.pas_plain.specs.Plain.{profile_of}
-use Rattle.pas_plain.specs.Seats.{standing_of}
-use Rattle.pas_cache.specs.Caches.{Cached, cached}
-use Rattle.pas_answers.specs.Calls.{works, MayAnswer, Answers}
-use Rattle.pas_replay.specs.Sessions.{spare_at}
-use Rattle.pas_replay.proofs.Turns.{may_there, turn_taken, has_at}
+use Rattle.std.proofs.Common.{◌-◌}
+use Rattle.std.proofs.lemmas.List.{length-set}
+use Rattle.pas_replay.proofs.Turning.{may_take}
+use Rattle.pas_replay.proofs.ByActors.{still_taken, may_operate, operate_turn}
 use Rattle.pas_replay.proofs.seats.operate.Goals as goal
 
-pub answer-requires-clause-can : goal.answer-requires-clause-can
-answer-requires-clause-can c =
-    let desk = c.take_seat.new.desk in
-    let there = c.index_mut-cache.result.now in
-    subst (λ (g : Profile). CanCall (standing_of desk) (MayAnswer g (cached there) c.args.what (spare_at desk) c.args.out.now)) (ap profile_of (sym c.take_seat.ensures.region_is))
-    (subst (λ (x : Cached). CanCall (standing_of desk) (MayAnswer (profile_of c.args.desk.now.region) x c.args.what (spare_at desk) c.args.out.now))
-    (has_at c.args.actors.now.caches.items c.args.actor there c.requires.can.1 c.index_mut-cache.ensures.value) (may_there c.args.actor c.requires.can.2 c.take_seat.ensures))
+pub take_seat-requires : goal.take_seat-requires
+take_seat-requires c = may_take c.args.desk.now c.args.actors.now c.args.op.actor c.requires.thread c.requires.taken c.requires.so_far.3.1
 
-pub returns-clause-turn : goal.returns-clause-turn
-returns-clause-turn c own has = record {
-  cache = c.answer.new.cache;
-  caches_are = refl;
-  turn = turn_taken c.args.actor c.requires.can.2.seat.place c.take_seat.ensures c.answer.ensures.answers.performs.calls.adds.seat_is
-      (subst (λ (x : Cached). Answers c.args.what (works c.args.names.now x) (works c.answer.new.names (cached c.answer.new.cache)) c.args.out.now c.answer.new.out (standing_of c.take_seat.new.desk) (standing_of c.answer.new.desk))
-      (sym (has_at c.args.actors.now.caches.items c.args.actor c.index_mut-cache.result.now has c.index_mut-cache.ensures.value)) c.answer.ensures.answers);
-  places = refl;
-}
+pub operate-came-requires : goal.operate-came-requires
+operate-came-requires c =
+    let so0 = c.requires.so_far in
+    record { stands = (so0.0, _, so0.3.0, may_operate c.index_mut-cache.result.now c.requires.some c.requires.thread c.take_seat.ensures c.index_mut-cache.ensures.value c.freed-meant.ensures so0.3.1) }
+
+pub keep-requires : goal.keep-requires
+keep-requires c = let so0 = c.requires.so_far in record { fit = (so0.0, so0.3.1.names.asked, so0.3.1.names.fit.1) }
+
+pub returns-clause-taken : goal.returns-clause-taken
+returns-clause-taken c =
+    let so0 = c.requires.so_far in
+    let did = c.operate-came.ensures.operates so0.0 _ so0.3.0 (may_operate c.index_mut-cache.result.now c.requires.some c.requires.thread c.take_seat.ensures c.index_mut-cache.ensures.value c.freed-meant.ensures so0.3.1) in
+    still_taken c.args.op.actor c.operate-came.new.desk c.requires.thread c.take_seat.ensures so0.3.1 did.moves.calls.adds.seat_is
+
+pub returns-clause-threads : goal.returns-clause-threads
+returns-clause-threads c = length-set c.args.actors.now.caches.items (c.args.op.actor - 1) c.operate-came.new.cache
+
+pub returns-clause-so_far : goal.returns-clause-so_far
+returns-clause-so_far c f all more (p, at) =
+    let did = c.operate-came.ensures.operates f _ p (may_operate c.index_mut-cache.result.now c.requires.some c.requires.thread c.take_seat.ensures c.index_mut-cache.ensures.value c.freed-meant.ensures at) in
+    (did.reached, operate_turn c.operate-came.result c.index_mut-cache.result.now c.operate-came.new.cache c.requires.some c.requires.thread c.take_seat.ensures c.index_mut-cache.ensures.value at did c.keep.ensures.held (c.keep.ensures.tells p.names at.names.tells) (c.keep.ensures.turns at.names.turns c.operate-came.ensures.turn))

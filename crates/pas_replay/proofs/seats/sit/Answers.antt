@@ -5,9 +5,8 @@ use Rattle.pas_plain.specs.Plain.{actor_of}
 use Rattle.pas_plain.specs.Seats.{region_of}
 use Rattle.pas_plain.specs.declared.region.PlainRegion.{PlainRegion}
 use Rattle.pas_utility.specs.Outcomes.{places_of}
-use Rattle.pas_replay.specs.Sessions.{Slots}
+use Rattle.pas_replay.specs.Sessions.{Slots, Hand}
 use Rattle.pas_replay.proofs.Turns.{sits_down}
-use Rattle.pas_replay.proofs.Operations.{hand}
 use Rattle.pas_replay.proofs.seats.sit.Goals as goal
 
 pub returns-clause-hand : goal.returns-clause-hand
@@ -18,5 +17,6 @@ returns-clause-hand c table out =
     let has = sym (c.take.ensures.value ∙ c.index_mut.ensures.value ∙ get_or_default passes c.args.actor c.index_mut.result.now None c.requires.place) ∙ c.in-Some.is in
     let pass = c.desk.ensures.pass in
     let actor = ap actor_of (pass ∙ same_Some _ _ (sym has ∙ c.requires.may.present)) ∙ c.requires.may.actor_is in
-    ap (λ (r : PlainRegion). hand r passes caches places table out) (sym c.desk.ensures.region)
-    ∙ ap (λ (ps : Slots). hand (region_of c.desk.result) ps caches places table out) (sym (sits_down c.desk.result passes c.args.actor c.take.new.self actor (has ∙ ap (λ p. Some p) (sym pass))))
+    let hand_with = λ (r : PlainRegion) (ps : Slots). (let h : Hand = record { region = r; passes = ps; caches = caches; places = places; table = table; out = out } in h) in
+    ap (λ (r : PlainRegion). hand_with r passes) (sym c.desk.ensures.region)
+    ∙ ap (λ (ps : Slots). hand_with (region_of c.desk.result) ps) (sym (sits_down c.desk.result passes c.args.actor c.take.new.self actor (has ∙ ap (λ p. Some p) (sym pass))))

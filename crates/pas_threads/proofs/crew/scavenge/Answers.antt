@@ -1,15 +1,15 @@
 use Rattle.std.proofs.Common.{◌∙◌, refl, arith}
 use Rattle.pas_trace.specs.declared.plan.Op.{Op}
 use Rattle.pas_trace.specs.declared.plan.What.TheVariants.{Alloc}
-use Rattle.pas_threads.proofs.ByCrew.{sound_at, crew_begins, crew_before, crew_goes_on, crew_skips, crew_ends}
+use Rattle.pas_threads.proofs.ByCrew.{chore_sound, next_acts, skip_acts, crew_begins, crew_before, crew_goes_on, crew_skips, crew_ends}
 use Rattle.pas_threads.proofs.crew.scavenge.Goals as goal
-use Rattle.pas_threads.proofs.crew.scavenge.Goals.{then-op-eq-SCAVENGER, else-op-eq-SCAVENGER}
+use Rattle.pas_threads.proofs.crew.scavenge.Goals.{in-Chore, in_default}
 
 abbrev past : Op
 past = record { line = 0; actor = 0; what = Alloc 0 0 0 0 }
 
 pub loop-op-init : goal.loop-op-init
-loop-op-init g c = record { far = λ book f idle asked later lends p sound distinct at. crew_begins c.args.ops.now at; number = omega arith; home = refl; many = refl }
+loop-op-init g c = record { far = λ s asked p sound at. crew_begins c.args.ops.now at; number = omega arith; home = refl; many = refl }
 
 pub overflow_add-number : goal.overflow_add-number
 overflow_add-number g c =
@@ -21,35 +21,40 @@ overflow_add-number g c =
 pub scavenge_one-requires : goal.scavenge_one-requires
 scavenge_one-requires g c =
     let m = c.requires.may in
-    let so = c.loop-op.invariant.far m.0 m.1 m.2 m.3 m.4 m.5 m.6 m.7 m.8 m.9 in
+    let ops = c.args.ops.now in
+    let i = c.loop-op.op-index in
     let lt = c.loop-op-test.true in
-    let is = c.if-op-eq-SCAVENGER.true in
-    record { may = (m.0, m.1, m.2, _, m.4, m.5, so.2.reached, sound_at m.1 m.3 c.args.ops.now c.loop-op.op-index past m.7 lt is, m.8, crew_before c.args.ops.now past lt is so) }
+    let so = c.loop-op.invariant.far m.0 m.1 m.2 m.3 m.4 in
+    let next = next_acts m.0.profile m.1 ops i past m.3 lt c.work.result c.work.ensures m.0.idle c.in-Chore.chore c.in-Chore.is in
+    record { may = (m.0, _, so.done.came.reached, chore_sound m.0.profile m.1 ops i past m.3 lt c.work.result c.work.ensures c.in-Chore.chore c.in-Chore.is, crew_before ops i c.in-Chore.chore next so) }
 
 pub loop-op-preserved : goal.loop-op-preserved
-loop-op-preserved g c = elim c.if-op-eq-SCAVENGER.branch [
-  | then-op-eq-SCAVENGER w ↦
-      let low = c.loop-op.invariant.number in
-      rw (w.desk-is, w.lent-is, w.outcomes-is, w.out-is, w.number-is) (record {
-        far = λ book f idle asked later lends p sound distinct at.
-            let so = c.loop-op.invariant.far book f idle asked later lends p sound distinct at in
-            let lt = c.loop-op-test.true in
-            let is = w.if-op-eq-SCAVENGER.true in
-            crew_goes_on c.args.ops.now past lt is at.lent.many so
-            (w.scavenge_one.ensures.did book f idle _ later lends so.2.reached (sound_at f asked c.args.ops.now c.loop-op.op-index past sound lt is) distinct (crew_before c.args.ops.now past lt is so));
-        number = omega (arith, low);
-        home = w.scavenge_one.ensures.home ∙ c.loop-op.invariant.home;
-        many = w.scavenge_one.ensures.many ∙ c.loop-op.invariant.many;
-      })
-  | else-op-eq-SCAVENGER w ↦
-      let low = c.loop-op.invariant.number in
-      rw (w.desk-is, w.lent-is, w.outcomes-is, w.out-is, w.number-is) (record {
-        far = λ book f idle asked later lends p sound distinct at. crew_skips c.args.ops.now past c.loop-op-test.true w.if-op-eq-SCAVENGER.false (c.loop-op.invariant.far book f idle asked later lends p sound distinct at);
-        number = omega (arith, low);
-        home = c.loop-op.invariant.home;
-        many = c.loop-op.invariant.many;
-      })
-]
+loop-op-preserved g c =
+    let ops = c.args.ops.now in
+    let i = c.loop-op.op-index in
+    let lt = c.loop-op-test.true in
+    let low = c.loop-op.invariant.number in
+    elim c.match-work.branch [
+      | in-Chore w ↦
+          rw (w.desk-is, w.lent-is, w.outcomes-is, w.out-is, w.number-is) (record {
+            far = λ s asked p sound at.
+                let so = c.loop-op.invariant.far s asked p sound at in
+                let next = next_acts s.profile asked ops i past sound lt c.work.result c.work.ensures s.idle w.in-Chore.chore w.in-Chore.is in
+                crew_goes_on ops i w.in-Chore.chore next so at.lent.many (w.scavenge_one.ensures.did s _ so.done.came.reached (crew_before ops i w.in-Chore.chore next so));
+            number = omega (arith, low);
+            home = w.scavenge_one.ensures.home ∙ c.loop-op.invariant.home;
+            many = w.scavenge_one.ensures.many ∙ c.loop-op.invariant.many;
+          })
+      | in_default w ↦
+          rw (w.desk-is, w.lent-is, w.outcomes-is, w.out-is, w.number-is) (record {
+            far = λ s asked p sound at.
+                let skips = skip_acts s.profile asked ops i past sound lt c.work.result c.work.ensures s.idle w.in_default.not-Chore in
+                crew_skips ops i skips (c.loop-op.invariant.far s asked p sound at);
+            number = omega (arith, low);
+            home = c.loop-op.invariant.home;
+            many = c.loop-op.invariant.many;
+          })
+    ]
 
 pub returns-clause-did : goal.returns-clause-did
-returns-clause-did g c = λ book f idle asked later lends p sound distinct at. crew_ends c.args.ops.now c.loop-op-test.false (c.loop-op.invariant.far book f idle asked later lends p sound distinct at)
+returns-clause-did g c = λ s asked p sound at. crew_ends c.args.ops.now c.loop-op-test.false (c.loop-op.invariant.far s asked p sound at)

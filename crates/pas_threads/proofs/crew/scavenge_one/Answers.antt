@@ -1,62 +1,67 @@
-use Rattle.std.proofs.Common.{[], ◌++◌, ap, subst, arith}
-use Rattle.pas_trace.specs.EveryPlan.{IsSoundWhat}
-use Rattle.pas_trace.specs.declared.plan.What.{What}
-use Rattle.pas_answers.specs.Acts.{idle_stops, acts_of_what}
-use Rattle.pas_threads.proofs.ByCrew.{costs_stops, still_lent, as_acts, to_acts, did_alone, did_idle}
+use Rattle.std.proofs.Common.{◌∙◌, [], refl, ap, sym, subst, arith}
+use Rattle.pas_profile.specs.declared.profile.Profile.{Profile}
+use Rattle.pas_trace.specs.EveryPlan.{IsSoundWork}
+use Rattle.pas_trace.specs.declared.plan.Chore.{Chore}
+use Rattle.pas_trace.specs.declared.plan.Work.{Work}
+use Rattle.pas_answers.specs.Acts.{acts_of_chore}
+use Rattle.pas_threads.proofs.ByCrew.{costs_stops, room_for_act, still_lent, as_acts, to_acts, did_alone, did_idle}
 use Rattle.pas_threads.proofs.crew.scavenge_one.Goals as goal
 
-pub tick-requires-clause-fit : goal.tick-requires-clause-fit
-tick-requires-clause-fit g c =
-    let m = c.requires.may in
-    (m.1, 0, [], (subst (λ (w : What). IsSoundWhat m.1 m.7.asked w) c.in-Tick.is m.7.sound, tt))
+pub tick-requires-clause-epoch : goal.tick-requires-clause-epoch
+tick-requires-clause-epoch g c = let m = c.requires.may in subst (λ (w : Chore). IsSoundWork m.0.profile [] (Work.Chore w)) c.in-Tick.is m.3
 
 pub tick-requires-clause-stands : goal.tick-requires-clause-stands
 tick-requires-clause-stands g c =
     let m = c.requires.may in
-    (m.1, m.3, _, m.4, m.6, (as_acts m.3 (ap (λ (w : What). acts_of_what m.2 c.args.op w) c.in-Tick.is) m.9).stands)
+    let at = as_acts m.1 (ap (λ (w : Chore). acts_of_chore m.0.idle w) c.in-Tick.is) m.4 in
+    (m.0.profile, _, m.2, room_for_act (omega arith) at.stands)
 
-pub pass-requires : goal.pass-requires
-pass-requires g c =
+pub pass-requires-clause-stands : goal.pass-requires-clause-stands
+pass-requires-clause-stands g c =
     let m = c.requires.may in
-    record { stands = (m.1, m.3, m.4, m.6, (as_acts m.3 (ap (λ (w : What). acts_of_what m.2 c.args.op w) c.in-Pass.is) m.9).stands) }
+    let at = as_acts m.1 (ap (λ (w : Chore). acts_of_chore m.0.idle w) c.in-Pass.is) m.4 in
+    (m.0.profile, _, m.2, room_for_act (omega arith) at.stands)
+
+pub pass-requires-clause-places : goal.pass-requires-clause-places
+pass-requires-clause-places g c = let at = c.requires.may.4.stands in at.has_places ∙ ap (λ (h : Profile). h.pages) (sym at.stands.sits.profile)
 
 pub read_epoch-epoch-requires : goal.read_epoch-epoch-requires
 read_epoch-epoch-requires g c =
     let m = c.requires.may in
-    record { stands = (m.1, idle_stops c.in-Idle.epochs m.2 ++ m.3, _, c.args.out.now, m.4, m.6, (as_acts m.3 (ap (λ (w : What). acts_of_what m.2 c.args.op w) c.in-Idle.is) m.9).stands) }
+    let at = as_acts m.1 (ap (λ (w : Chore). acts_of_chore m.0.idle w) c.in-Idle.is) m.4 in
+    record { stands = (m.0.profile, c.args.out.now, _, m.2, room_for_act (omega arith) at.stands) }
 
 pub stop_idle-requires-clause-lent : goal.stop_idle-requires-clause-lent
 stop_idle-requires-clause-lent g c =
     let m = c.requires.may in
-    let at = as_acts m.3 (ap (λ (w : What). acts_of_what m.2 c.args.op w) c.in-Idle.is) m.9 in
-    let read = c.read_epoch-epoch.ensures.scavenges m.1 (idle_stops c.in-Idle.epochs m.2 ++ m.3) _ c.args.out.now m.4 m.6 at.stands in
-    (m.0, m.1, m.2, m.5, read.0.reached, m.8, still_lent m.8 read.0 at.lent, read.1)
+    let at = as_acts m.1 (ap (λ (w : Chore). acts_of_chore m.0.idle w) c.in-Idle.is) m.4 in
+    let read = c.read_epoch-epoch.ensures.reads m.0.profile c.args.out.now _ m.2 (room_for_act (omega arith) at.stands) in
+    (m.0, read.0.reached, still_lent at read.0, read.1)
 
 pub stop_idle-requires-clause-room : goal.stop_idle-requires-clause-room
 stop_idle-requires-clause-room g c =
     let m = c.requires.may in
-    let at = as_acts m.3 (ap (λ (w : What). acts_of_what m.2 c.args.op w) c.in-Idle.is) m.9 in
-    let spare = at.stands.spare in
+    let at = as_acts m.1 (ap (λ (w : Chore). acts_of_chore m.0.idle w) c.in-Idle.is) m.4 in
+    let spare = at.stands.stands.spare in
     let many = at.lent.many in
-    let costs = costs_stops m.1 c.in-Idle.epochs m.2 m.3 in
+    let costs = costs_stops m.0.profile c.in-Idle.epochs m.0.idle m.1 in
     omega (arith, spare, many, costs)
 
 pub returns-in-Tick-clause-did : goal.returns-in-Tick-clause-did
-returns-in-Tick-clause-did g c = λ book f idle next later lends p of distinct was.
-    let is = ap (λ (w : What). acts_of_what idle c.args.op w) c.in-Tick.is in
+returns-in-Tick-clause-did g c = λ s next p was.
+    let is = ap (λ (w : Chore). acts_of_chore s.idle w) c.in-Tick.is in
     let at = as_acts next is was in
-    to_acts is (did_alone distinct (c.tick.ensures.scavenges f next _ later p at.stands) at.lent)
+    to_acts is (did_alone at (c.tick.ensures.ticks s.profile _ p (room_for_act (omega arith) at.stands)) refl)
 
 pub returns-in-Pass-clause-did : goal.returns-in-Pass-clause-did
-returns-in-Pass-clause-did g c = λ book f idle next later lends p of distinct was.
-    let is = ap (λ (w : What). acts_of_what idle c.args.op w) c.in-Pass.is in
+returns-in-Pass-clause-did g c = λ s next p was.
+    let is = ap (λ (w : Chore). acts_of_chore s.idle w) c.in-Pass.is in
     let at = as_acts next is was in
-    to_acts is (did_alone distinct (c.pass.ensures.scavenges f next later p at.stands) at.lent)
+    to_acts is (did_alone at (c.pass.ensures.passes s.profile _ p (room_for_act (omega arith) at.stands)) c.pass.ensures.places)
 
 pub returns-in-Idle-clause-did : goal.returns-in-Idle-clause-did
-returns-in-Idle-clause-did g c = λ book f idle next later lends p of distinct was.
-    let is = ap (λ (w : What). acts_of_what idle c.args.op w) c.in-Idle.is in
+returns-in-Idle-clause-did g c = λ s next p was.
+    let is = ap (λ (w : Chore). acts_of_chore s.idle w) c.in-Idle.is in
     let at = as_acts next is was in
-    let read = c.read_epoch-epoch.ensures.scavenges f (idle_stops c.in-Idle.epochs idle ++ next) _ c.args.out.now later p at.stands in
-    let lent = still_lent distinct read.0 at.lent in
-    to_acts is (did_idle c.in-Idle.epochs distinct read.0 at.lent (c.stop_idle.ensures.stops book f idle lends read.0.reached distinct lent read.1))
+    let read = c.read_epoch-epoch.ensures.reads s.profile c.args.out.now _ p (room_for_act (omega arith) at.stands) in
+    to_acts is (did_idle c.in-Idle.epochs at read.0 c.stop_idle.ensures.many (c.stop_idle.ensures.stops s read.0.reached (still_lent at read.0) read.1))

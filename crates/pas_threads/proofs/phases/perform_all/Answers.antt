@@ -1,11 +1,11 @@
-use Rattle.std.proofs.Common.{◌≡◌, ◌∙◌, suc, true, false, get_or, ap, sym, refl, arith, List, length}
+use Rattle.std.proofs.Common.{◌≡◌, ◌∙◌, suc, true, false, ap, sym, refl, arith, List, length}
 use Rattle.std.proofs.lemmas.List.{length-map}
-use Rattle.pas_answers.specs.Acts.{idle_threads, is_active}
+use Rattle.pas_answers.specs.Acts.{is_active}
 use Rattle.pas_shares.specs.Shares.{owner_in}
 use Rattle.pas_threads.specs.Dealing.{count_in, count_out}
 use Rattle.pas_threads.specs.declared.hands.Hand.{Hand}
 use Rattle.pas_threads.proofs.Dealt.{dealt_sizes, count_most}
-use Rattle.pas_threads.proofs.Performed.{own_may, may_scavenge, piece, lent_same, lent_places, idle_distinct}
+use Rattle.pas_threads.proofs.Performed.{shift_of, own_may, may_scavenge, piece, lent_same, lent_places}
 use Rattle.pas_threads.proofs.phases.perform_all.Goals as goal
 
 pub act_with-scavenger-requires-clause-threads : goal.act_with-scavenger-requires-clause-threads
@@ -22,15 +22,10 @@ act_with-scavenger-requires-clause-scavenger g c = λ here lives busy.
     let f = c.requires.ready.0 in
     let later = c.requires.ready.1 in
     record {
-      book = c.args.team.book;
-      profile = f;
-      idle = idle_threads f.threads c.args.ops.now;
+      shift = shift_of f c.args.ops.now later;
       asked = ready.asked;
-      later = later 0;
-      lends = λ r. later (get_or (idle_threads f.threads c.args.ops.now) r 0);
       progress = c.requires.ready.2;
       sound = ready.sound;
-      distinct = idle_distinct f.threads c.args.ops.now;
       stands = may_scavenge ready c.args.awake c.requires.awake dealt.0 c.deal.new.lent.items dealt.2 _ refl refl refl refl;
     }
 
@@ -73,11 +68,10 @@ returns g c = record {
       let scavenged = (pieces 0).scavenger refl in
       let places = lent_places ready c.args.awake c.requires.awake dealt.0 c.deal.new.lent.items dealt.2 (record { pass = c.args.team.scavenger.pass; outcomes = c.args.team.scavenger.outcomes; out = c.args.team.scavenger.out; lent = c.deal.new.lent }) c.act_with-scavenger.result stands refl each.after c.take_back.new.threads.items each.each did stayed dealt1 size in
       record {
-        own = λ w. (pieces w).reached;
-        reaches = λ w. (pieces w).reaches;
+        own = λ w. (pieces w).own;
         many = size;
         each = λ i d lt. (pieces (owner_in c.args.ops.now (suc i))).threads i d lt refl;
-        scavenger = record { has = scavenged.has; at = scavenged.at; said = scavenged.said; pushed = scavenged.pushed; told = scavenged.told; room = scavenged.room };
+        scavenger = record { has = scavenged.has; at = scavenged.at; told = scavenged.told };
         none = c.take_back.ensures.none.1;
         book = refl;
         places = record {

@@ -30,14 +30,14 @@ perform_all-team-requires-clause-ready g c κs within =
     let m = c.requires.may in
     let at = m.4.team_at in
     let begun = has_begun c.args.ops.now m.1 at c.deref_mut.ensures.value c.deref_mut.ensures.len c.wake_all.ensures.woke c.wake_all.ensures.many c.note.ensures.names c.note.ensures.placed in
-    (m.0, _, begun.woke.reached, begun.ready)
+    (m.0, _, begun.woke.turns.came.reached, begun.ready)
 
 pub append-requires : goal.append-requires
 append-requires g c =
     let m = c.requires.may in
     let at = m.4.team_at in
     let begun = has_begun c.args.ops.now m.1 at c.deref_mut.ensures.value c.deref_mut.ensures.len c.wake_all.ensures.woke c.wake_all.ensures.many c.note.ensures.names c.note.ensures.placed in
-    may_append c.args.ops.now m.1 at begun (c.perform_all-team.ensures.done m.0 _ begun.woke.reached begun.ready) m.2 c.args.out.now m.4.room
+    may_append c.args.ops.now m.1 at begun (c.perform_all-team.ensures.done m.0 _ begun.woke.turns.came.reached begun.ready) m.2 c.args.out.now m.4.room
 
 pub gather-requires : goal.gather-requires
 gather-requires g c =
@@ -46,7 +46,7 @@ gather-requires g c =
     let begun = has_begun c.args.ops.now m.1 at c.deref_mut.ensures.value c.deref_mut.ensures.len c.wake_all.ensures.woke c.wake_all.ensures.many c.note.ensures.names c.note.ensures.placed in
     record {
       room = subst (λ (ws : List Worker). length (records_in c.append.new.self) + length (said_by_all ws) ≤ room_of c.append.new.self) (sym c.deref_mut-2.ensures.value)
-          (may_gather c.args.ops.now m.1 at begun (c.perform_all-team.ensures.done m.0 _ begun.woke.reached begun.ready) m.2 c.args.out.now m.4.room c.append.new.self c.append.ensures.added c.append.ensures.size);
+          (may_gather c.args.ops.now m.1 at begun (c.perform_all-team.ensures.done m.0 _ begun.woke.turns.came.reached begun.ready) m.2 c.args.out.now m.4.room c.append.new.self c.append.ensures.added c.append.ensures.size);
     }
 
 pub take_all-requires : goal.take_all-requires
@@ -61,7 +61,7 @@ take_all-requires g c =
     in
     record {
       within = subst (λ (ws : List Worker). All (IsWithin (names_held c.perform_all-team.result.book.names)) ws) (sym (c.deref_mut-3.ensures.value ∙ given))
-          (may_take c.args.ops.now m.1 at begun (c.perform_all-team.ensures.done m.0 _ begun.woke.reached begun.ready) c.gather.new.threads gathered.each gathered.many);
+          (may_take c.args.ops.now m.1 at begun (c.perform_all-team.ensures.done m.0 _ begun.woke.turns.came.reached begun.ready) c.gather.new.threads gathered.each gathered.many);
     }
 
 pub returns : goal.returns
@@ -80,7 +80,7 @@ returns g c =
       done = λ f rest marks p whole.
           let at = whole.team_at in
           let begun = has_begun c.args.ops.now rest at c.deref_mut.ensures.value c.deref_mut.ensures.len c.wake_all.ensures.woke c.wake_all.ensures.many c.note.ensures.names c.note.ensures.placed in
-          let done = c.perform_all-team.ensures.done f _ begun.woke.reached begun.ready in
+          let done = c.perform_all-team.ensures.done f _ begun.woke.turns.came.reached begun.ready in
           phase_done c.args.ops.now rest whole begun done c.active-awake.ensures c.append.ensures.added c.append.ensures.size gathered _ taken left refl refl done.none c.append.ensures.none c.append.ensures.other_size
           (record { workers = done.places.workers; hands = done.places.hands; lent = done.places.lent; free = done.places.free });
     }

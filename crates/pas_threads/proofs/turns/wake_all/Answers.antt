@@ -1,6 +1,7 @@
-use Rattle.std.proofs.Common.{◌≡◌, ◌+◌, ◌<◌, ◌∙◌, suc, true, false, length, sym, arith}
+use Rattle.std.proofs.Common.{◌≡◌, ◌+◌, ◌∙◌, suc, true, false, sym}
 use Rattle.pas_bits.specs.Masks.{is_set}
-use Rattle.pas_threads.proofs.Waking.{wakes_begin, wakes_go_on, wakes_pass, wakes_end}
+use Rattle.pas_threads.specs.Sessions.{evenly}
+use Rattle.pas_threads.proofs.ThreadTurns.{wakes_begin, wakes_go_on, wakes_pass, wakes_end}
 use Rattle.pas_threads.proofs.turns.wake_all.Goals as goal
 use Rattle.pas_threads.proofs.turns.wake_all.Goals.{then-get, else-get}
 
@@ -12,23 +13,20 @@ wake-requires c =
     let r = c.requires.rest in
     let so = c.loop-index.invariant.far r.0 r.1 r.2 r.3 in
     let i = c.loop-index.index in
-    let test = c.loop-index-test.true in
-    let size = c.loop-index.auto.threads in
-    record { rests = (r.0, suc i, r.1 (suc i), so.2.reached, so.2.rests i c.index-threads-index.result (omega (arith, test, size))) }
+    record { rests = (r.0, suc i, evenly (r.1 (suc i)), so.done.turns.came.reached, (so.done.turns.stand i c.index-threads-index.result c.loop-index-test.true).here) }
 
 pub loop-index-preserved : goal.loop-index-preserved
 loop-index-preserved c = elim c.if-get.branch [
   | then-get w ↦
       let i = c.loop-index.index in
       let test = c.loop-index-test.true in
-      let size = c.loop-index.auto.threads in
-      let lt : i < length c.loop-index.threads = omega (arith, test, size) in
       let on : is_set c.args.awake (i + 1) ≡ true = sym c.get.ensures ∙ w.if-get.true in
       rw (w.threads-is) (record {
         far = λ f later p at.
             let so = c.loop-index.invariant.far f later p at in
             let d = w.index-threads-index.result in
-            wakes_go_on c.args.awake i d w.wake.new.worker on so lt size (w.wake.ensures.woke f (suc i) (later (suc i)) so.2.reached (so.2.rests i d lt));
+            let woke = w.wake.ensures.woke f (suc i) (evenly (later (suc i))) so.done.turns.came.reached (so.done.turns.stand i d test).here in
+            wakes_go_on c.args.awake i d w.wake.new.worker on so test c.loop-index.auto.threads woke.0 woke.1;
       })
   | else-get w ↦
       let off : is_set c.args.awake (c.loop-index.index + 1) ≡ false = sym c.get.ensures ∙ w.if-get.false in

@@ -1,23 +1,33 @@
-use Rattle.std.proofs.Common.{◌∙◌, Some, refl, ap, sym, subst}
+use Rattle.std.proofs.Common.{◌∙◌, [], ◌∷◌, Some, refl, ap, sym, subst}
+use Rattle.pas_cache.specs.Caches.{cached}
 use Rattle.pas_shared.specs.Passes.{IsPassOf}
 use Rattle.pas_shared.specs.declared.region.SharedRegion.{SharedRegion}
-use Rattle.pas_acts.specs.Scavenges.{StopsThread}
-use Rattle.pas_threads.specs.Hands.{kept_by}
+use Rattle.pas_answers.specs.Acts.{StopsIdle}
+use Rattle.pas_acts.specs.AtDesks.{here, told_if, ThreadActs}
+use Rattle.pas_acts.specs.Turns.{RestsAt}
 use Rattle.pas_threads.proofs.Sitting.{seated, rose}
 use Rattle.pas_threads.proofs.workers.stop_lent.Goals as goal
 
-pub stop_if_idle-requires-clause-stands : goal.stop_if_idle-requires-clause-stands
-stop_if_idle-requires-clause-stands c =
-    let may = c.requires.may in
-    (may.1, may.2, _, may.3, may.4, seated c.desk-desk.result.pass (sym c.take.ensures.value ∙ c.in-Some.is ∙ ap Some (sym c.desk-desk.ensures.pass)) may.5)
-
-pub returns-clause-stops : goal.returns-clause-stops
-returns-clause-stops c = λ book f k later p at read.
-    let pass = c.desk-desk.result.pass in
+pub stop_and_tell-requires-clause-rests : goal.stop_and_tell-requires-clause-rests
+stop_and_tell-requires-clause-rests c =
+    let r = c.requires.may in
+    let old = c.args.worker.now in
     let is = sym c.take.ensures.value ∙ c.in-Some.is ∙ ap Some (sym c.desk-desk.ensures.pass) in
-    rose (λ σ σ'. StopsThread f k c.args.epochs σ σ' (kept_by book c.args.worker.now) _ c.args.out.now c.stop_if_idle.new.out later p) pass c.stop_if_idle.new.desk.pass c.into_pass.result is at c.into_pass.ensures.pass
-    (subst (λ (r : SharedRegion). IsPassOf r c.into_pass.result) (c.stop_if_idle.ensures.home ∙ c.desk-desk.ensures.region) c.into_pass.ensures.of)
-    (c.stop_if_idle.ensures.stops f k _ later p (seated pass is at) read)
+    (r.0, r.1, r.2, r.3, seated (λ σ. RestsAt r.0 r.1 σ (cached old.cache) old.out r.2 r.3) c.desk-desk.result.pass is r.4.has r.4.rests)
 
-pub returns-clause-requests : goal.returns-clause-requests
-returns-clause-requests c = refl
+pub returns : goal.returns
+returns c = record {
+  stops = λ f k later p at read.
+      let old = c.args.worker.now in
+      let pass = c.desk-desk.result.pass in
+      let is = sym c.take.ensures.value ∙ c.in-Some.is ∙ ap Some (sym c.desk-desk.ensures.pass) in
+      let did = c.stop_and_tell.ensures.stops f k later p (seated (λ σ. RestsAt f k σ (cached old.cache) old.out later p) pass is at.has at.rests) read in
+      record {
+        stopped = did.0;
+        did = rose (λ σ σ'. ThreadActs f k (StopsIdle k c.args.epochs ∷ []) [] (told_if did.0 k) (here σ (cached old.cache) old.out) (here σ' (cached c.stop_and_tell.new.cache) c.stop_and_tell.new.own) later p)
+            pass c.stop_and_tell.new.desk.pass c.into_pass.result is at.has c.into_pass.ensures.pass
+            (subst (λ (r : SharedRegion). IsPassOf r c.into_pass.result) (c.stop_and_tell.ensures.home ∙ c.desk-desk.ensures.region) c.into_pass.ensures.of) did.1;
+        told = did.2;
+        requests = refl;
+      };
+}

@@ -1,4 +1,4 @@
-use Rattle.std.proofs.Common.{Option, List, map, ap, sym, ◌∙◌, arith}
+use Rattle.std.proofs.Common.{Option, map, ap, sym, ◌∙◌, arith}
 use Rattle.pas_profile.specs.declared.name.Name.{Name}
 use Rattle.pas_answers.specs.Names.{block_named}
 use Rattle.pas_acts.specs.NameBooks.{requests_in, request_at, named_of, came_to}

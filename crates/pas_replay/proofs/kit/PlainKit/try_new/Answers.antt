@@ -1,13 +1,12 @@
-use Rattle.std.proofs.Common.{◌+◌, List, Some, length, map, slice_index, ap, sym, ◌∙◌, subst, arith}
+use Rattle.std.proofs.Common.{◌+◌, List, Some, length, slice_index, ap, sym, ◌∙◌, subst, arith}
 use Rattle.std.proofs.lemmas.List.{length-map}
 use Rattle.std.proofs.lemmas.Option.{same_Some}
-use Rattle.pas_trace.specs.Plans.{ops_of}
 use Rattle.pas_plain.specs.declared.pass.PlainPass.{PlainPass}
 use Rattle.pas_utility.specs.Pools.{room_of}
 use Rattle.pas_answers.specs.Fit.{AllBelow}
-use Rattle.pas_answers.specs.Replays.{phases_of}
+use Rattle.pas_answers.specs.Replays.{phases_of, region_of}
 use Rattle.pas_replay.proofs.Opening.{passes_count, fresh_actor}
-use Rattle.pas_plans.proofs.PlanFacts.{plan_valid, plan_bounds}
+use Rattle.pas_plans.proofs.PlanFacts.{plan_valid, plan_bounds, plan_below}
 use Rattle.pas_replay.proofs.kit.PlainKit.try_new.Goals as goal
 
 pub try_new-requires : goal.try_new-requires
@@ -39,13 +38,12 @@ returns c =
       profile = c.in_ok-region.ensures.profile;
       opening = c.in_ok-region.ensures.opening;
       actors = omega (arith, many, long, placed);
-      fresh = fresh_actor plan (room_of c.in_ok-utility.utility) (plan.profile.threads + 1) c.in_ok-rooms.rooms.items c.in_ok-region.passes.items c.in_ok-places.places.items rooms
+      fresh = fresh_actor plan (room_of c.in_ok-utility.utility) ((region_of plan).threads + 1) c.in_ok-rooms.rooms.items c.in_ok-region.passes.items c.in_ok-places.places.items rooms
           (λ k lt. c.in_ok-utility.ensures.rooms k (omega (arith, lt)) ∙ ap (λ bs. Some (slice_index bs k)) c.as_slice.ensures)
           c.in_ok-region.ensures.passes c.in_ok-region.ensures.stand c.in_ok-places.ensures.places;
       unused = c.in_ok-caches.ensures.caches;
       places = same_Some _ _ (sym c.outcomes_from.ensures ∙ c.caches_for.ensures.outcomes ∙ c.rooms_of.ensures.outcomes ∙ c.in_ok-utility.ensures.outcomes);
       no_name = c.in_ok-names.ensures.empty;
-      names = subst (λ n. AllBelow n (phases_of plan)) (sym c.in_ok-names.ensures.room)
-          (subst (λ ps. AllBelow c.names_limit.result (map ops_of ps)) c.as_slice-2.ensures c.names_limit.ensures);
+      names = subst (λ n. AllBelow n (phases_of plan)) (sym c.in_ok-names.ensures.room) (plan_below c.requires.1);
       none_left = c.in_ok-places.ensures.none;
     }

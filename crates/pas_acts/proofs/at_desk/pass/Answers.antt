@@ -1,0 +1,23 @@
+use Rattle.std.proofs.Common.{ap, arith}
+use Rattle.pas_profile.specs.declared.profile.Profile.{Profile}
+use Rattle.pas_acts.proofs.ByScavenger.{can_scavenge, pass_room, has_passed}
+use Rattle.pas_acts.proofs.at_desk.pass.Goals as goal
+
+pub pass-requires-clause-can : goal.pass-requires-clause-can
+pass-requires-clause-can g c = can_scavenge c.requires.stands.3
+
+pub pass-requires-clause-room : goal.pass-requires-clause-room
+pass-requires-clause-room g c = pass_room c.requires.stands.1 (g.D.Desk.spare_of c.args.desk.now) (λ v l stood. g.met.D.Desk.spares c.args.desk.now v l stood) c.requires.stands.3
+
+pub pass-requires-clause-records : goal.pass-requires-clause-records
+pass-requires-clause-records g c =
+    let at = c.requires.stands.3 in
+    let spare = at.spare in
+    let pages = ap (λ (h : Profile). h.pages) at.sits.profile in
+    omega (arith, spare, pages)
+
+pub returns-clause-passes : goal.returns-clause-passes
+returns-clause-passes g c = λ f later p at.
+    let few = c.pass.ensures.few in
+    let pages = ap (λ (h : Profile). h.pages) at.sits.profile in
+    has_passed at c.pass.ensures.passes (omega (arith, few, pages)) c.pass.ensures.room

@@ -1,0 +1,86 @@
+-- What one actor does for acts of its own at its desk, whatever stands beside it: in the order of the text others have their turns there, on threads they
+-- sit elsewhere. What a name stands for is no table here: an operation is told what the freed name means, and tells what the asked one came to.
+use Rattle.std.specs.Prelude.{ℕ, ◌+◌, ◌≤◌, ◌≡◌, ◌≢◌, Bool, true, false, List, [], ◌∷◌, ◌++◌, length, Option}
+use Rattle.pas_profile.specs.declared.profile.Profile.{Profile}
+use Rattle.pas_profile.specs.declared.name.Name.{Name}
+use Rattle.pas_steps.specs.Clear.{HasNothing}
+use Rattle.pas_steps.specs.Desks.{Standing}
+use Rattle.pas_steps.specs.Lists.{part}
+use Rattle.pas_trace.specs.declared.plan.What.{What}
+use Rattle.pas_report.specs.Rooms.{records_in, room_of, Records}
+use Rattle.pas_report.specs.declared.record.Record.{Record}
+use Rattle.pas_cache.specs.Caches.{Cached, AtRest}
+use Rattle.pas_answers.specs.Acts.{Act}
+use Rattle.pas_answers.specs.Answers.{Named, Progress, stopped}
+use Rattle.pas_answers.specs.Calls.{HasTurn, IsKnown, IsMeant}
+use Rattle.pas_answers.specs.Fit.{IsFitWhat, cost_of_what, cost_of_act, unbacks_of_act}
+use Rattle.pas_answers.specs.Reaching.{Reaches}
+use Rattle.pas_answers.specs.Ways.{EachOf}
+use Rattle.pas_acts.specs.Works.{Later, Sits}
+use Rattle.pas_acts.specs.Turns.{RestsAt, Moves, Says}
+
+-- ---- a thread
+-- what a thread has in hand: its desk, its cache and its records
+pub record Here : Type 1 where
+  pub desk : Standing
+  pub cache : Cached
+  pub out : Records
+
+abbrev pub here : Standing → Cached → Records → Here
+here desk c out = record { desk = desk; cache = c; out = out }
+
+-- there is room for so many events and records more
+abbrev pub and_for : ℕ → Later → Later
+and_for cost later = record { events = cost + later.events; records = cost + later.records }
+
+-- The thread rests, with room for the operation. The operation fits, a name that it frees was asked for and stands for `meant`, and a next turn follows
+-- that of the block.
+pub record MayOperate (f : Profile) (k : ℕ) (what : What) (meant : Option Name) (old : Here) (later : Later) (p : Progress) : Type 0 where
+  pub rests : RestsAt f k old.desk old.cache old.out (and_for (cost_of_what what) later) p
+  pub limit : ℕ
+  pub asked : List ℕ
+  pub fit : IsFitWhat f limit asked what
+  pub known : IsKnown p.names what
+  pub means : IsMeant p.names what meant
+  pub turn : HasTurn meant
+
+-- Thread k did these acts, and rests again. The records of its steps came to its own; `told` is said besides, by whoever had it do so. These names came to
+-- stand for something. Nothing of another actor changed.
+pub record ThreadActs (f : Profile) (k : ℕ) (acts : List Act) (came : List Named) (told : List Record) (old new : Here) (later : Later) (p : Progress) : Type 0 where
+  pub reached : Progress
+  pub reaches : Reaches f acts p reached
+  pub stands : RestsAt f k new.desk new.cache new.out later reached
+  pub moves : Moves k (AtRest f old.cache) (AtRest f new.cache) old.desk new.desk p reached
+  pub own : List Record
+  pub records_are : reached.records ≡ p.records ++ (own ++ told)
+  pub pushed : records_in new.out ≡ records_in old.out ++ own
+  pub room : room_of new.out ≡ room_of old.out
+  pub each : EachOf k own
+  pub caches : (j : ℕ) → j ≢ k → reached.caches j ≡ p.caches j
+  pub names : reached.names ≡ came ++ p.names
+  pub epoch : reached.epoch ≡ p.epoch
+
+-- what is to be said of an idle thread, where it was stopped
+abbrev pub told_if : Bool → ℕ → List Record
+told_if true k = stopped k
+told_if false k = []
+
+-- ---- the scavenger
+-- it has nothing, and there is room for so many events and records
+pub record HasRoomAt (f : Profile) (desk : Standing) (out : Records) (later : Later) (p : Progress) : Type 0 where
+  pub sits : Sits f 0 HasNothing desk (part 0 p.list) later.events
+  pub spare : length (records_in out) + later.records ≤ room_of out
+
+-- room for the act, and for those of `later`
+abbrev pub for_act : Profile → Act → Later → Later
+for_act f act later = record { events = unbacks_of_act f act + later.events; records = cost_of_act f act + later.records }
+
+-- The scavenger did this act, and has nothing again. Nothing of a thread changed.
+pub record ScavengerActs (f : Profile) (act : Act) (desk desk' : Standing) (out out' : Records) (later : Later) (p : Progress) : Type 0 where
+  pub reached : Progress
+  pub reaches : Reaches f (act ∷ []) p reached
+  pub stands : HasRoomAt f desk' out' later reached
+  pub moves : Moves 0 HasNothing HasNothing desk desk' p reached
+  pub says : Says 0 out out' p reached
+  pub caches : reached.caches ≡ p.caches
+  pub names : reached.names ≡ p.names

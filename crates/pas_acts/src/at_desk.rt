@@ -1,0 +1,101 @@
+//! What one actor does for acts of its own, at any desk: operations and stops of a thread, and the acts of the scavenger. It knows no table of names.
+ghost use Rattle.std.specs.Prelude.{◌≡◌, ◌<◌, ◌^◌, ℕ, [], ◌∷◌};
+ghost use Rattle.pas_profile.specs.declared.profile.Profile.{Profile as TheProfile};
+ghost use Rattle.pas_cache.specs.Caches.{cached};
+ghost use Rattle.pas_report.specs.Rooms.{Records as TheRecords};
+ghost use Rattle.pas_utility.specs.Outcomes.{places_of};
+ghost use Rattle.pas_answers.specs.Acts.{Operates, Settles, StopsIdle, Ticks, MakesPass, ReadsEpoch};
+ghost use Rattle.pas_answers.specs.Answers.{Progress};
+ghost use Rattle.pas_answers.specs.Calls.{HasTurn, named_by};
+ghost use Rattle.pas_acts.specs.Works.{Later};
+ghost use Rattle.pas_acts.specs.Turns.{RestsAt};
+ghost use Rattle.pas_acts.specs.AtDesks.{here, told_if, MayOperate, ThreadActs, for_act, HasRoomAt, ScavengerActs};
+
+use pas_answers::{answer_meant, is_idle_for};
+use pas_cache::ThreadCache;
+use pas_large::NoIndex;
+use pas_profile::{Name, Word};
+use pas_report::Records;
+use pas_steps::Desk;
+use pas_trace::{Op, What};
+use pas_utility::Outcomes;
+
+/// The scavenger's number.
+pub const SCAVENGER: u8 = 0;
+
+/// Performs an operation of the desk's thread, and hands on the runs of large blocks that its cache noted. `meant` is the block that the freed name of a
+/// `What::Free` stands for, if any, and the result the block that the asked name of a `What::Alloc` stands for from then on; None for every other
+/// operation.
+#[inline(always)]
+pub fn operate<D: Desk>(
+    desk: &mut D,
+    cache: &mut ThreadCache,
+    op: Op,
+    meant: Option<Name>,
+    out: &mut Records,
+) -> Option<Name>
+    requires stands { (f : TheProfile) × (later : Later) × (p : Progress) × MayOperate f op.actor op.what meant (here (D.standing desk.old) (cached cache.old) out.old) later p }
+    ensures operates { (f : TheProfile) (later : Later) (p : Progress) → MayOperate f op.actor op.what meant (here (D.standing desk.old) (cached cache.old) out.old) later p
+        → ThreadActs f op.actor (Operates op ∷ (Settles op.actor ∷ [])) (named_by op.what result) [] (here (D.standing desk.old) (cached cache.old) out.old) (here (D.standing desk.new) (cached cache.new) out.new) later p }
+    ensures turn { HasTurn result }
+    ensures home { D.home desk.new ≡ D.home desk.old }
+{
+    let came = answer_meant(desk, cache, op.what, meant, out);
+    cache.settle(&mut NoIndex);
+    came
+}
+
+/// Stops the thread of this desk, where it was idle for so many epochs, now that it is this one: whether it did. The records of its flush come to its
+/// own; that it was stopped is for the caller to say.
+pub fn stop_if_idle<D: Desk>(
+    desk: &mut D,
+    cache: &mut ThreadCache,
+    epochs: u64,
+    epoch: u64,
+    out: &mut Records,
+) -> bool
+    requires stands { (f : TheProfile) × (k : ℕ) × (later : Later) × (p : Progress) × RestsAt f k (D.standing desk.old) (cached cache.old) out.old later p }
+    ensures stops { (f : TheProfile) (k : ℕ) (later : Later) (p : Progress) → RestsAt f k (D.standing desk.old) (cached cache.old) out.old later p → p.epoch ≡ epoch
+        → ThreadActs f k (StopsIdle k epochs ∷ []) [] (told_if result k) (here (D.standing desk.old) (cached cache.old) out.old) (here (D.standing desk.new) (cached cache.new) out.new) later p }
+    ensures home { D.home desk.new ≡ D.home desk.old }
+{
+    if is_idle_for(cache, epochs, epoch) {
+        answer_meant(desk, cache, What::Stop, None, out);
+        true
+    } else {
+        false
+    }
+}
+
+/// Raises the epoch to at least this, which is below 2^40. One step and one record.
+pub fn tick<D: Desk>(desk: &mut D, epoch: u64, out: &mut Records)
+    requires epoch { epoch < 2 ^ 40 }
+    requires stands { (f : TheProfile) × (later : Later) × (p : Progress) × HasRoomAt f (D.standing desk.old) out.old (for_act f (Ticks epoch) later) p }
+    ensures ticks { (f : TheProfile) (later : Later) (p : Progress) → HasRoomAt f (D.standing desk.old) out.old (for_act f (Ticks epoch) later) p
+        → ScavengerActs f (Ticks epoch) (D.standing desk.old) (D.standing desk.new) out.old out.new later p }
+    ensures home { D.home desk.new ≡ D.home desk.old }
+{
+    pas_passes::tick(desk, epoch, out);
+}
+
+/// Makes a pass over the pages that are hinted as empty. One record, and one for each outcome, of which there are at most as many as pages.
+pub fn pass<D: Desk>(desk: &mut D, outcomes: &mut Outcomes, out: &mut Records)
+    requires stands { (f : TheProfile) × (later : Later) × (p : Progress) × HasRoomAt f (D.standing desk.old) out.old (for_act f MakesPass later) p }
+    requires places { places_of outcomes.old ≡ (D.standing desk.old).seat.profile.pages }
+    ensures passes { (f : TheProfile) (later : Later) (p : Progress) → HasRoomAt f (D.standing desk.old) out.old (for_act f MakesPass later) p
+        → ScavengerActs f MakesPass (D.standing desk.old) (D.standing desk.new) out.old out.new later p }
+    ensures places { places_of outcomes.new ≡ places_of outcomes.old }
+    ensures home { D.home desk.new ≡ D.home desk.old }
+{
+    pas_passes::pass(desk, outcomes, out);
+}
+
+/// Reads the epoch, for an idle operation. One step.
+pub fn read_epoch<D: Desk>(desk: &mut D) -> u64
+    requires stands { (f : TheProfile) × (out : TheRecords) × (later : Later) × (p : Progress) × HasRoomAt f (D.standing desk.old) out (for_act f ReadsEpoch later) p }
+    ensures reads { (f : TheProfile) (out : TheRecords) (later : Later) (p : Progress) → HasRoomAt f (D.standing desk.old) out (for_act f ReadsEpoch later) p
+        → (did : ScavengerActs f ReadsEpoch (D.standing desk.old) (D.standing desk.new) out out later p) × (did.reached.epoch ≡ result) }
+    ensures home { D.home desk.new ≡ D.home desk.old }
+{
+    desk.look(Word::Epoch)
+}

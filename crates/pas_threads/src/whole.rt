@@ -1,0 +1,98 @@
+//! The replay of a whole plan on threads, with the kit that was made for it.
+ghost use Rattle.std.specs.Prelude.{◌≡◌, ◌≤◌, ◌<◌, ◌+◌, ℕ, List, Some, [], map, length, vec_capacity, ◌++◌, ◌∷◌};
+ghost use Rattle.pas_trace.specs.Plans.{IsPlanOf};
+ghost use Rattle.pas_report.specs.Rooms.{records_in, room_of};
+ghost use Rattle.pas_answers.specs.Replays.{phases_of, Shows};
+ghost use Rattle.pas_answers.specs.Ways.{OnThreads};
+ghost use Rattle.pas_shared.specs.declared.pass.SharedPass.{SharedPass as ThePass};
+ghost use Rattle.pas_threads.specs.Kits.{IsKitOf, slots_of, AreAllBack};
+
+use crate::kit::SharedKit;
+use crate::phases::{Team, replay};
+use pas_acts::gate::Gate;
+use pas_report::Records;
+use pas_shared::{SharedPass, close};
+use pas_steps::State;
+use pas_trace::Plan;
+use std::sync::Wait;
+use std::thread::Threads;
+
+/// The rooms of the actors of a replay that is over. They may be let go in another thread than that of the replay.
+#[derive(Drop)]
+pub struct Rooms {
+    _team: Team,
+}
+
+/// Adds the pass that stands at this place.
+fn add_pass(passes: &mut Vec<SharedPass>, slot: Option<SharedPass>)
+    requires back { (pass : ThePass) × (slot ≡ Some pass) }
+    requires place { length passes.old.items < vec_capacity passes.old }
+    ensures added { map Some passes.new.items ≡ map Some passes.old.items ++ slot ∷ [] }
+    ensures places { vec_capacity passes.new ≡ vec_capacity passes.old }
+{
+    let Some(pass) = slot else {
+        unreachable!();
+    };
+    passes.push_reserved(pass);
+}
+
+/// Takes the passes of all actors out, from the scavenger on, to the places of this list.
+fn passes_of(team: &mut Team, mut passes: Vec<SharedPass>) -> Vec<SharedPass>
+    requires none { passes.items ≡ [] }
+    requires places { length team.old.threads.items < vec_capacity passes }
+    requires back { AreAllBack team.old }
+    ensures { map Some result.items ≡ slots_of team.old }
+{
+    add_pass(&mut passes, team.scavenger.pass.take());
+    for place in 0..team.threads.len() {
+        add_pass(&mut passes, team.threads[place].pass.take());
+    }
+    passes
+}
+
+/// Replays the plan as `on_threads` does, and gives the rooms of its actors out with the state, so that another thread may let them go: that takes time in
+/// the memory which they touched.
+pub fn on_threads_with_rooms<R: Threads + Sync, G: Gate + Sync>(
+    rt: &R,
+    plan: &Plan,
+    kit: SharedKit,
+    gate: &G,
+    out: &mut Records,
+) -> (State, Rooms)
+    requires plan { (text : List ℕ) × (length text ≤ 16777216) × IsPlanOf text plan.now }
+    requires kit { IsKitOf plan.now kit }
+    requires empty { records_in out.old ≡ [] }
+    requires room { plan.now.total + length (phases_of plan.now) + 1 ≤ room_of out.old }
+    ensures { Shows OnThreads plan.now (records_in out.new) result.0 }
+{
+    let SharedKit {
+        region,
+        team,
+        passes,
+    } = kit;
+    let mut team = replay(rt, &region, team, plan.phases.as_slice(), gate, out);
+    let passes = passes_of(&mut team, passes);
+    (close(region, passes), Rooms { _team: team })
+}
+
+/// Replays the plan. In each phase the operations of each thread that has one are performed in a thread of the system, all at once, and those of the
+/// scavenger in another; a phase begins when the one before it is over. The records come phase by phase, and actor by actor in each. The gate is called
+/// round each operation. The result is the state of the region at the end, at which no actor holds a grain, has a right or owes anything.
+///
+/// Takes no memory. Beside the operations it costs a look at the epoch for each thread of a phase, the stop of each thread at the end, and
+/// for each phase a pass over its operations for each of its threads, and one over its records.
+pub fn on_threads<R: Threads + Wait + Sync, G: Gate + Sync>(
+    rt: &R,
+    plan: &Plan,
+    kit: SharedKit,
+    gate: &G,
+    out: &mut Records,
+) -> State
+    requires plan { (text : List ℕ) × (length text ≤ 16777216) × IsPlanOf text plan.now }
+    requires kit { IsKitOf plan.now kit }
+    requires empty { records_in out.old ≡ [] }
+    requires room { plan.now.total + length (phases_of plan.now) + 1 ≤ room_of out.old }
+    ensures { Shows OnThreads plan.now (records_in out.new) result }
+{
+    on_threads_with_rooms(rt, plan, kit, gate, out).0
+}

@@ -1,0 +1,136 @@
+-- The acts of a plan, which a replay in the order of the text does one after the other. At the start of a phase stands its mark, from the second phase on, and
+-- then each thread that has an operation in it reads the epoch. The operations follow in order. After the last phase stands a mark, and then each
+-- thread is stopped.
+use Rattle.std.specs.Prelude.{ℕ, zero, suc, ◌+◌, ◌==◌, Bool, false, ◌||◌, not, if◌then◌else◌, List, [], ◌∷◌, ◌++◌, map, Option, None, Some}
+use Rattle.std.specs.List.{filter, flat_map}
+use Rattle.pas_trace.specs.Asked.{work_of}
+use Rattle.pas_trace.specs.EveryPlan.{asked_after}
+use Rattle.pas_trace.specs.declared.plan.What.{What}
+use Rattle.pas_trace.specs.declared.plan.Chore.{Chore}
+use Rattle.pas_trace.specs.declared.plan.Work.{Work}
+use Rattle.pas_trace.specs.declared.plan.Op.{Op}
+
+-- `Operates`: a thread's operation, after which the runs of large blocks that its cache noted are handed on (`Settles`). `Ticks` and `MakesPass`: those of
+-- the scavenger. An idle operation is several acts: the scavenger reads the epoch, and then each thread that is idle in the phase is stopped, where it was
+-- idle for so many epochs. What such a stop noted is handed on after the thread's next operation.
+pub data Act : Type 0 where
+  Operates : Op → Act
+  Settles : ℕ → Act
+  Ticks : ℕ → Act
+  MakesPass : Act
+  ReadsEpoch : Act
+  StopsIdle : ℕ → ℕ → Act
+  MarksPhase : ℕ → Act
+  Wakes : ℕ → Act
+  MarksClose : Act
+  Ends : ℕ → Act
+
+-- the operation of a thread that an act is
+abbrev pub operation_in : Act → Option Op
+operation_in (Operates op) = Some op
+operation_in (Settles k) = None
+operation_in (Ticks epoch) = None
+operation_in MakesPass = None
+operation_in ReadsEpoch = None
+operation_in (StopsIdle k n) = None
+operation_in (MarksPhase n) = None
+operation_in (Wakes k) = None
+operation_in MarksClose = None
+operation_in (Ends k) = None
+
+-- whose steps an act makes; a mark makes none
+abbrev pub stepper_of : Act → ℕ
+stepper_of (Operates op) = op.actor
+stepper_of (Settles k) = k
+stepper_of (Ticks epoch) = 0
+stepper_of MakesPass = 0
+stepper_of ReadsEpoch = 0
+stepper_of (StopsIdle k n) = k
+stepper_of (MarksPhase n) = 0
+stepper_of (Wakes k) = k
+stepper_of MarksClose = 0
+stepper_of (Ends k) = k
+
+-- the names that were asked for, after an act and after several
+abbrev pub asked_after_operation : Option Op → List ℕ → List ℕ
+asked_after_operation None asked = asked
+asked_after_operation (Some op) asked = asked_after op.what asked
+
+abbrev pub asked_after_act : Act → List ℕ → List ℕ
+asked_after_act act asked = asked_after_operation (operation_in act) asked
+
+abbrev pub asked_after_acts : List Act → List ℕ → List ℕ
+asked_after_acts [] asked = asked
+asked_after_acts (act ∷ acts) asked = asked_after_acts acts (asked_after_act act asked)
+
+-- the thread has an operation among these
+abbrev pub is_active : List Op → ℕ → Bool
+is_active [] k = false
+is_active (op ∷ ops) k = (op.actor == k) || is_active ops k
+
+-- so many numbers from this one on
+abbrev pub numbers_from : ℕ → ℕ → List ℕ
+numbers_from k zero = []
+numbers_from k (suc n) = k ∷ numbers_from (k + 1) n
+
+-- those of so many threads of which this is so, in order
+abbrev pub threads_where : (ℕ → Bool) → ℕ → List ℕ
+threads_where chosen threads = filter chosen (numbers_from 1 threads)
+
+-- those that have an operation in the phase, and those that are idle in it
+abbrev pub active_threads : ℕ → List Op → List ℕ
+active_threads threads ops = threads_where (is_active ops) threads
+
+abbrev pub idle_threads : ℕ → List Op → List ℕ
+idle_threads threads ops = threads_where (λ k. not (is_active ops k)) threads
+
+-- the stops of these threads, where they were idle for n epochs
+abbrev pub idle_stops : ℕ → List ℕ → List Act
+idle_stops n idle = map (λ k. StopsIdle k n) idle
+
+-- the acts of an operation, in a phase in which these threads are idle
+abbrev pub acts_of_chore : List ℕ → Chore → List Act
+acts_of_chore idle (Chore.Tick epoch) = Ticks epoch ∷ []
+acts_of_chore idle Chore.Pass = MakesPass ∷ []
+acts_of_chore idle (Chore.Idle n) = ReadsEpoch ∷ idle_stops n idle
+
+abbrev pub acts_of_work : List ℕ → Op → Work → List Act
+acts_of_work idle op (Work.Own task) = Operates op ∷ (Settles op.actor ∷ [])
+acts_of_work idle op (Work.Chore chore) = acts_of_chore idle chore
+
+abbrev pub acts_of_what : List ℕ → Op → What → List Act
+acts_of_what idle op what = acts_of_work idle op (work_of what)
+
+abbrev pub acts_of_op : List ℕ → Op → List Act
+acts_of_op idle op = acts_of_what idle op op.what
+
+abbrev pub acts_of_ops : List ℕ → List Op → List Act
+acts_of_ops idle ops = flat_map (acts_of_op idle) ops
+
+-- the acts of thread k's operations among those of a phase
+abbrev pub own_acts : ℕ → List Op → List Act
+own_acts k [] = []
+own_acts k (op ∷ ops) = if op.actor == k then Operates op ∷ (Settles op.actor ∷ own_acts k ops) else own_acts k ops
+
+-- the acts of the scavenger's operations among those of a phase in which these threads are idle
+abbrev pub scavenger_acts : List ℕ → List Op → List Act
+scavenger_acts idle [] = []
+scavenger_acts idle (op ∷ ops) = if op.actor == 0 then acts_of_op idle op ++ scavenger_acts idle ops else scavenger_acts idle ops
+
+-- the acts of a phase of so many threads, after its mark
+abbrev pub phase_acts : ℕ → List Op → List Act
+phase_acts threads ops = map Wakes (active_threads threads ops) ++ acts_of_ops (idle_threads threads ops) ops
+
+-- the close: a mark, and the end of each thread
+abbrev pub close_acts : ℕ → List Act
+close_acts threads = MarksClose ∷ map Ends (numbers_from 1 threads)
+
+-- the acts of the phases that are left, the first of which has this number
+abbrev pub acts_from : ℕ → ℕ → List (List Op) → List Act
+acts_from threads n [] = close_acts threads
+acts_from threads n (phase ∷ phases) = MarksPhase n ∷ (phase_acts threads phase ++ acts_from threads (n + 1) phases)
+
+-- the acts of a plan of so many threads; its first phase begins without a mark
+abbrev pub acts_of : ℕ → List (List Op) → List Act
+acts_of threads [] = close_acts threads
+acts_of threads (phase ∷ phases) = phase_acts threads phase ++ acts_from threads 2 phases

@@ -1,0 +1,64 @@
+-- What an operation asks for, in few tables, by which all that is said of operations goes.
+use Rattle.std.specs.Prelude.{ℕ, Option, None, Some}
+use Rattle.pas_profile.specs.declared.name.Name.{Name}
+use Rattle.pas_trace.specs.Reasons.{cost_of_size}
+use Rattle.pas_trace.specs.declared.item.Request.{Request}
+use Rattle.pas_trace.specs.declared.plan.What.{What}
+use Rattle.pas_trace.specs.declared.plan.What.TheVariants.{Alloc, Free, Raw, Flush, Stop, Tick, Pass, Idle}
+use Rattle.pas_trace.specs.declared.plan.Task.{Task}
+use Rattle.pas_trace.specs.declared.plan.Chore.{Chore}
+use Rattle.pas_trace.specs.declared.plan.Work.{Work}
+
+-- who acts, and for what
+abbrev pub work_of : What → Work
+work_of (Alloc name heap size align) = Work.Own (Task.Request name heap size align)
+work_of (Free name) = Work.Own (Task.Free name)
+work_of (Raw block) = Work.Own (Task.FreeRaw block)
+work_of Flush = Work.Own Task.Flush
+work_of Stop = Work.Own Task.Stop
+work_of (Tick epoch) = Work.Chore (Chore.Tick epoch)
+work_of Pass = Work.Chore Chore.Pass
+work_of (Idle n) = Work.Chore (Chore.Idle n)
+
+-- ---- what a thread is asked for
+-- a request: its name, its heap, how many bytes, and at a multiple of what
+abbrev pub request_of : Task → Option Request
+request_of (Task.Request name heap size align) = Some record { name = name; heap = heap; size = size; align = align }
+request_of (Task.Free name) = None
+request_of (Task.FreeRaw block) = None
+request_of Task.Flush = None
+request_of Task.Stop = None
+
+-- the name that is freed
+abbrev pub freed_of : Task → Option ℕ
+freed_of (Task.Request name heap size align) = None
+freed_of (Task.Free name) = Some name
+freed_of (Task.FreeRaw block) = None
+freed_of Task.Flush = None
+freed_of Task.Stop = None
+
+-- how many records it may make, beside deeds
+abbrev pub cost_of_task : Task → ℕ
+cost_of_task (Task.Request name heap size align) = cost_of_size size
+cost_of_task (Task.Free name) = 1
+cost_of_task (Task.FreeRaw block) = 1
+cost_of_task Task.Flush = 0
+cost_of_task Task.Stop = 0
+
+-- ---- the same of an operation, of which those of the scavenger have none
+abbrev pub of_task : {A : Type 0} → (Task → Option A) → Work → Option A
+of_task has (Work.Own task) = has task
+of_task has (Work.Chore chore) = None
+
+abbrev pub request_in : What → Option Request
+request_in what = of_task request_of (work_of what)
+
+abbrev pub freed_in : What → Option ℕ
+freed_in what = of_task freed_of (work_of what)
+
+-- ---- what the scavenger is asked for
+-- the epoch, or the number of epochs, that it is told
+abbrev pub epoch_of : Chore → Option ℕ
+epoch_of (Chore.Tick epoch) = Some epoch
+epoch_of Chore.Pass = None
+epoch_of (Chore.Idle n) = Some n
