@@ -3,7 +3,9 @@ mod Readings
 mod Cuts
 mod Verdicts
 mod Entries
+mod Examinings
 mod Ticks
 mod Takings
 mod Goings
 mod OneNext
+mod Servings

@@ -16,7 +16,7 @@ use Rattle.pas_report.specs.Lines.{line_of}
 use Rattle.pas_report.specs.declared.record.Record.{Record}
 use Rattle.pas_report.specs.declared.record.Said.{Said}
 use Rattle.pas_check.specs.Bounds.{FitsRequest, FitsFirst, IsSmall}
-use Rattle.pas_check.specs.Names.{Request}
+use Rattle.pas_trace.specs.declared.item.Request.{Request}
 use Rattle.pas_check.specs.Ranges.{FitsEvent, FitsSaid, Fits}
 use Rattle.pas_check.specs.States.{Due, Writes, Frees, Serves, Examines, Shows, Stand, with_due, with_one, with_name}
 use Rattle.pas_check.specs.Takes.{IsPreparing, IsFor, IsRefusal, directory_of, MayCome, line_of_outcome, after_outcome, TakesRequest, TakesOutcome, TakesDue}
@@ -30,7 +30,7 @@ small_page : (f : Profile) (page : ℕ) → IsValid f → IsPage f page → page
 small_page f page valid is = let last : page ≤ f.pages = is.1 in let most : f.pages ≤ 16384 = valid.pages in omega (arith, last, most)
 
 -- a page with a deed is one of the region
-deed_page : (f : Profile) (es : List Event) → Run f es → (page : ℕ) (d : Directory) → deed_in es page ≡ Some d → IsPage f page
+pub deed_page : (f : Profile) (es : List Event) → Run f es → (page : ℕ) (d : Directory) → deed_in es page ≡ Some d → IsPage f page
 deed_page f [] run page d h = absurd (none-some d h)
 deed_page f (Event.Deed k p g ∷ es) run page d h = made (p == page) (deed_in es page) refl (deed_page f es run.1 page d) h
   where
@@ -44,7 +44,7 @@ deed_page f (Event.End k name e ∷ es) run page d h = deed_page f es run.1 page
 deed_page f (Event.Reject k name why ∷ es) run page d h = deed_page f es run.1 page d h
 
 -- ---- the lines of a request
-has_first : (g n : ℕ) → 0 < n → in_run g n g ≡ true
+pub has_first : (g n : ℕ) → 0 < n → in_run g n g ≡ true
 has_first g n some = and_from (nat_le g g) (nat_lt g (g + n)) (le-leb g g (omega arith)) (lt-ltb g (g + n) (omega (arith, some)))
 
 module _ (f : Profile) (s : Stand) (small : IsSmall f s) (k : ℕ) (r : Request) (fits : FitsRequest f k r) where
@@ -56,7 +56,7 @@ module _ (f : Profile) (s : Stand) (small : IsSmall f s) (k : ℕ) (r : Request)
       let here : IsPage f is.0 × (deed_in s.events is.0 ≢ None) × (backed_in s.events is.0 ≡ false) = subst (Admits f s.events) is.1 admitted in
       subst FitsEvent (sym is.1) (fits.actor, small_page f is.0 small.valid here.0)
 
-  gives_fits : (block : Block) → IsFor f s r block → Admits f s.events (Event.Give k block) → FitsEvent (Event.Give k block)
+  pub gives_fits : (block : Block) → IsFor f s r block → Admits f s.events (Event.Give k block) → FitsEvent (Event.Give k block)
   gives_fits block is may =
       let some : 0 < block.room = may.some in
       let whole : block.room % 16 ≡ 0 = may.whole in
@@ -72,7 +72,7 @@ module _ (f : Profile) (s : Stand) (small : IsSmall f s) (k : ℕ) (r : Request)
       let fewer = fits.heap in
       (fits.actor, record { name = record { address = omega (arith, last, most); turn = omega (arith, few, turn) }; room = omega (arith, room, fit); heap = omega (arith, heap, fewer) })
 
-  refusal_fits : (said : Said) → IsRefusal f s r said → FitsSaid said
+  pub refusal_fits : (said : Said) → IsRefusal f s r said → FitsSaid said
   refusal_fits said (inl is) = subst FitsSaid (sym is) fits.name
   refusal_fits said (inr is) = subst FitsSaid (sym is.2) (small_page f is.0 small.valid (deed_page f s.events small.run is.0 (directory_of f r) is.1), fits.name)
 
@@ -118,14 +118,14 @@ module _ (f : Profile) (s : Stand) (small : IsSmall f s) (k : ℕ) (r : Request)
     one_request (inr (inr x)) (inr (inr y)) = x.next_is ∙ sym y.next_is
 
 -- ---- an outcome of a pass
-abbrev record_of : ℕ → ℕ → Outcome → Record
+abbrev pub record_of : ℕ → ℕ → Outcome → Record
 record_of epoch page Unbacked = Record.Event (Event.Unback 0 page epoch)
 record_of epoch page Bare = Record.Said 0 (Said.Bare page)
 record_of epoch page (Young stamp) = Record.Said 0 (Said.Young page stamp)
 record_of epoch page (InUse word value) = Record.Said 0 (Said.InUse page word value)
 record_of epoch page NotOffered = Record.Said 0 (Said.NotOffered page)
 
-line_is : (epoch page : ℕ) (o : Outcome) → line_of (record_of epoch page o) ≡ line_of_outcome epoch page o
+pub line_is : (epoch page : ℕ) (o : Outcome) → line_of (record_of epoch page o) ≡ line_of_outcome epoch page o
 line_is epoch page Unbacked = refl
 line_is epoch page Bare = refl
 line_is epoch page (Young stamp) = refl
@@ -159,7 +159,7 @@ same_outcome epoch p q NotOffered Bare e = absurd (cc)
 same_outcome epoch p q NotOffered (Young b) e = absurd (cc)
 same_outcome epoch p q NotOffered (InUse x b) e = absurd (cc)
 
-outcome_fits : (f : Profile) (s : Stand) → IsSmall f s → (page : ℕ) (o : Outcome) → IsPage f page → MayCome f s page o → Fits (record_of s.epoch page o)
+pub outcome_fits : (f : Profile) (s : Stand) → IsSmall f s → (page : ℕ) (o : Outcome) → IsPage f page → MayCome f s page o → Fits (record_of s.epoch page o)
 outcome_fits f s small page Unbacked of may = (omega arith, small_page f page small.valid of, small.epoch)
 outcome_fits f s small page Bare of may = (omega arith, small_page f page small.valid of)
 outcome_fits f s small page (Young stamp) of may = let few = small.ends page in let is = may.0 in (omega arith, (small_page f page small.valid of, omega (arith, few, is)))

@@ -12,8 +12,8 @@ use Rattle.pas_report.specs.Lines.{line_of, line_of_answer}
 use Rattle.pas_report.specs.Reports.{total_line}
 use Rattle.pas_report.specs.declared.record.Record.{Record}
 use Rattle.pas_report.specs.declared.record.Said.{Said}
-use Rattle.pas_check.specs.Acts.{Act, Operates, Settles, Ticks, MakesPass, ReadsEpoch, StopsIdle, MarksPhase, Wakes, MarksClose, Ends}
-use Rattle.pas_check.specs.Names.{standing_for}
+use Rattle.pas_trace.specs.Acts.{Act, Operates, Settles, Ticks, MakesPass, ReadsEpoch, StopsIdle, MarksPhase, Wakes, MarksClose, Ends}
+use Rattle.pas_trace.specs.Named.{standing_for}
 use Rattle.pas_check.specs.States.{Due, Writes, Frees, Serves, Examines, Shows, Task, Does, Reports, Stand, with_at, with_due}
 
 -- just this line is due

@@ -6,7 +6,7 @@ use Rattle.pas_profile.specs.Requests.{room_in}
 use Rattle.pas_profile.specs.declared.profile.Profile.{Profile}
 use Rattle.pas_machine.specs.Machine.{Run}
 use Rattle.pas_machine.specs.State.{gives_in, epoch_in}
-use Rattle.pas_check.specs.Names.{Request}
+use Rattle.pas_trace.specs.declared.item.Request.{Request}
 use Rattle.pas_check.specs.States.{Due, Writes, Frees, Serves, Examines, Shows, Stand}
 use Rattle.pas_check.specs.Takes.{directory_of}
 

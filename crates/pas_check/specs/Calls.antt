@@ -1,16 +1,26 @@
 -- What the private functions of the checker promise of a line.
-use Rattle.std.specs.Prelude.{ℕ, ◌≡◌, ◌⊎◌, Bool, true, false, List, ◌∷◌, Option, None, Some}
+use Rattle.std.specs.Prelude.{ℕ, ◌/◌, ◌%◌, ◌≡◌, ◌⊎◌, ◌==◌, if◌then◌else◌, Bool, true, false, List, ◌∷◌, Option, None, Some}
 use Rattle.pas_report.specs.declared.record.Record.{Record}
+use Rattle.pas_report.specs.declared.record.Said.{Said}
 use Rattle.pas_profile.specs.declared.directory.Directory.{Directory}
+use Rattle.pas_profile.specs.declared.profile.Profile.{Profile}
 use Rattle.pas_profile.specs.declared.event.Event.{Event}
+use Rattle.pas_profile.specs.declared.event.Outcome.TheVariants.{Unbacked, Bare, Young, InUse, NotOffered}
 use Rattle.pas_profile.specs.declared.event.Why.{Why}
+use Rattle.pas_profile.specs.declared.name.Block.{Block}
 use Rattle.pas_profile.specs.declared.name.Name.{Name}
+use Rattle.pas_profile.specs.Requests.{room_in}
+use Rattle.pas_profile.specs.Runs.{in_run, address_of, grain_of, length_of}
+use Rattle.pas_machine.specs.State.{deed_in}
 use Rattle.pas_machine.specs.Machine.{Admits}
 use Rattle.pas_machine.specs.Machines.{profile_of, StandsFor}
 use Rattle.pas_machine.specs.declared.machine.Machine.{Machine}
-use Rattle.pas_check.specs.Names.{Request}
-use Rattle.pas_check.specs.States.{Due, Stand, with_due, with_one}
-use Rattle.pas_check.specs.Takes.{NamesNoRoom, TakesEntry, TakesPreparing, directory_of}
+use Rattle.pas_trace.specs.declared.item.Request.{Request}
+use Rattle.pas_check.specs.Bounds.{FitsRequest, IsSmall}
+use Rattle.pas_check.specs.States.{Due, Examines, Stand, with_due, with_name, with_one}
+use Rattle.pas_check.specs.Takes.{IsFor, IsRefusal, MayCome, NamesNoRoom, TakesEntry, TakesGive, TakesOutcome, TakesPreparing, TakesRefusal, after_outcome, directory_of}
+use Rattle.pas_check.specs.declared.examining.Examined.{Examined}
+use Rattle.pas_check.specs.declared.serving.Wanted.{Wanted}
 
 -- the event of a record
 abbrev pub event_in : Record → Option Event
@@ -41,3 +51,88 @@ abbrev pub PreparingTaken : Machine → Machine → ℕ → Directory → List �
 PreparingTaken old new k d line true = (s : Stand) (r : Request) → StandsFor old s.events → directory_of (profile_of old) r ≡ d
     → (e : Event) × TakesPreparing (profile_of old) s k r line (with_one s e) × StandsFor new (e ∷ s.events)
 PreparingTaken old new k d line false = (new ≡ old) × ((s : Stand) (r : Request) (next : Stand) → StandsFor old s.events → directory_of (profile_of old) r ≡ d → TakesPreparing (profile_of old) s k r line next → ⊥)
+
+-- ---- an outcome of a pass
+-- what came of a page by an event of a pass in this epoch
+abbrev pub outcome_in_event : ℕ → Event → Option Examined
+outcome_in_event epoch (Event.Deed k page d) = None
+outcome_in_event epoch (Event.Back k page) = None
+outcome_in_event epoch (Event.Unback k page read) = if k == 0 then (if read == epoch then Some record { page = page; outcome = Unbacked } else None) else None
+outcome_in_event epoch (Event.Give k block) = None
+outcome_in_event epoch (Event.End k name read) = None
+outcome_in_event epoch (Event.Reject k name why) = None
+
+-- .. and by what is said
+abbrev pub outcome_in_said : Said → Option Examined
+outcome_in_said (Said.NoSpace name) = None
+outcome_in_said (Said.Held page name) = None
+outcome_in_said (Said.Outside block) = None
+outcome_in_said (Said.Unaligned block) = None
+outcome_in_said (Said.Skipped name) = None
+outcome_in_said (Said.Tick epoch) = None
+outcome_in_said (Said.Pass epoch) = None
+outcome_in_said (Said.Bare page) = Some record { page = page; outcome = Bare }
+outcome_in_said (Said.Young page stamp) = Some record { page = page; outcome = Young stamp }
+outcome_in_said (Said.InUse page word value) = Some record { page = page; outcome = InUse word value }
+outcome_in_said (Said.NotOffered page) = Some record { page = page; outcome = NotOffered }
+outcome_in_said (Said.Stopped thread) = None
+outcome_in_said (Said.Guarded low high name) = None
+outcome_in_said (Said.Lowered low high) = None
+
+abbrev pub outcome_in : ℕ → Record → Option Examined
+outcome_in epoch (Record.Event e) = outcome_in_event epoch e
+outcome_in epoch (Record.Said k said) = if k == 0 then outcome_in_said said else None
+outcome_in epoch (Record.Phase n) = None
+outcome_in epoch Record.Close = None
+
+-- what came of the page was taken, as it may come, and the machine stands for what stands after it; or it may not, and the machine is as it was
+abbrev pub IsExamined : Machine → Machine → ℕ → Examined → Bool → Type 0
+IsExamined old new epoch x true = (s : Stand) → StandsFor old s.events → s.epoch ≡ epoch → MayCome (profile_of old) s x.page x.outcome × StandsFor new (after_outcome s x.page x.outcome).events
+IsExamined old new epoch x false = (new ≡ old) × ((s : Stand) → StandsFor old s.events → s.epoch ≡ epoch → MayCome (profile_of old) s x.page x.outcome → ⊥)
+
+-- The line is that of an outcome on a page after the last one, and this is the page; or it is none of these, and the machine is as it was.
+abbrev pub OutcomeTaken : Machine → Machine → ℕ → ℕ → List ℕ → Option ℕ → Type 0
+OutcomeTaken old new last epoch line (Some page) = (s : Stand) (more : List Due) → StandsFor old s.events → s.epoch ≡ epoch
+    → (next : Stand) × TakesOutcome (profile_of old) s last more line (with_due next (Examines page ∷ more)) × StandsFor new next.events
+OutcomeTaken old new last epoch line None = (new ≡ old) × ((s : Stand) (more : List Due) (next : Stand) → IsSmall (profile_of old) s → StandsFor old s.events → s.epoch ≡ epoch → TakesOutcome (profile_of old) s last more line next → ⊥)
+
+-- ---- the end of a request
+-- what the request asks for
+pub record IsWanted (f : Profile) (r : Request) (w : Wanted) : Type 0 where
+  pub name : r.name ≡ w.name
+  pub room : room_in f r.size r.align ≡ w.room
+  pub align : r.align ≡ w.align
+  pub directory : directory_of f r ≡ w.directory
+
+-- each page under the block has a deed of the directory
+abbrev pub LiesOn : List Event → Block → Directory → Type 0
+LiesOn es block d = (x : ℕ) → in_run (grain_of block.name) (length_of block) x ≡ true → deed_in es (x / 256) ≡ Some d
+
+-- the block has the heap, the room and the alignment that are wanted
+abbrev pub IsFitting : Block → Wanted → Type 0
+IsFitting block w = (block.heap ≡ w.directory.heap) × (block.room ≡ w.room) × (address_of block.name % w.align ≡ 0)
+
+-- The event was a give of what is wanted, under this name, and was taken; or it is none that may come, and the machine is as it was.
+abbrev pub IsGiven : Machine → Machine → ℕ → Wanted → Event → Option Name → Type 0
+IsGiven old new k w e (Some name) = (s : Stand) (r : Request) → IsWanted (profile_of old) r w → StandsFor old s.events
+    → (block : Block) × (e ≡ Event.Give k block) × (block.name ≡ name) × IsFor (profile_of old) s r block × Admits (profile_of old) s.events (Event.Give k block) × StandsFor new (Event.Give k block ∷ s.events)
+IsGiven old new k w e None = (new ≡ old) × ((s : Stand) (r : Request) (block : Block) → IsWanted (profile_of old) r w → StandsFor old s.events
+    → e ≡ Event.Give k block → IsFor (profile_of old) s r block → Admits (profile_of old) s.events (Event.Give k block) → ⊥)
+
+-- The line is that of a give of what is wanted, under this name; or it is none, and the machine is as it was.
+abbrev pub GiveTaken : Machine → Machine → ℕ → Wanted → List ℕ → Option Name → Type 0
+GiveTaken old new k w line (Some name) = (s : Stand) (r : Request) (more : List Due) → IsWanted (profile_of old) r w → StandsFor old s.events
+    → (e : Event) × TakesGive (profile_of old) s k r more line (with_due (with_name (with_one s e) r.name (Some name)) more) × StandsFor new (e ∷ s.events)
+GiveTaken old new k w line None = (new ≡ old) × ((s : Stand) (r : Request) (more : List Due) (next : Stand) → IsWanted (profile_of old) r w → IsSmall (profile_of old) s
+    → FitsRequest (profile_of old) k r → StandsFor old s.events → TakesGive (profile_of old) s k r more line next → ⊥)
+
+-- the record is a refusal of the request
+abbrev pub RefusesBy : Profile → Stand → ℕ → Request → Record → Type 0
+RefusesBy f s k r item = (said : Said) × IsRefusal f s r said × (item ≡ Record.Said k said)
+
+-- The line is a refusal of what is wanted; or it is none.
+abbrev pub RefusalSeen : Machine → ℕ → Wanted → List ℕ → Bool → Type 0
+RefusalSeen machine k w line true = (s : Stand) (r : Request) (more : List Due) → IsWanted (profile_of machine) r w → StandsFor machine s.events
+    → TakesRefusal (profile_of machine) s k r more line (with_due (with_name s r.name None) more)
+RefusalSeen machine k w line false = (s : Stand) (r : Request) (more : List Due) (next : Stand) → IsWanted (profile_of machine) r w → IsSmall (profile_of machine) s
+    → FitsRequest (profile_of machine) k r → StandsFor machine s.events → TakesRefusal (profile_of machine) s k r more line next → ⊥

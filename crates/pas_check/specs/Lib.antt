@@ -1,5 +1,3 @@
-pub mod Acts
-pub mod Names
 pub mod Lines
 pub mod States
 pub mod Begins

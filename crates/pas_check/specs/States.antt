@@ -5,8 +5,9 @@ use Rattle.pas_profile.specs.declared.event.Event.{Event}
 use Rattle.pas_profile.specs.declared.name.Name.{Name}
 use Rattle.pas_trace.specs.Plans.{ops_of}
 use Rattle.pas_trace.specs.declared.plan.Plan.{Plan}
-use Rattle.pas_check.specs.Acts.{Act, acts_of}
-use Rattle.pas_check.specs.Names.{Named, Request}
+use Rattle.pas_trace.specs.Acts.{Act, acts_of}
+use Rattle.pas_trace.specs.Named.{Named}
+use Rattle.pas_trace.specs.declared.item.Request.{Request}
 
 -- ---- what is due
 -- What the next lines are to answer. `Writes`: just this line. `Frees`: the line of an entry of thread k's log. `Serves`: those of a request of thread k, which

@@ -18,7 +18,7 @@ use Rattle.pas_report.specs.Lines.{line_of_event, line_of_answer}
 use Rattle.pas_report.specs.Marks.{Marked}
 use Rattle.pas_report.specs.Reports.{is_covered, machine_page}
 use Rattle.pas_report.specs.declared.record.Said.{Said}
-use Rattle.pas_check.specs.Names.{Request}
+use Rattle.pas_trace.specs.declared.item.Request.{Request}
 use Rattle.pas_check.specs.States.{Due, Writes, Frees, Serves, Examines, Shows, Stand, with_due, with_one, with_name}
 use Rattle.pas_check.specs.Begins.{ready}
 

@@ -2,9 +2,11 @@
 #![tactic(auto)]
 
 mod cutting;
+mod examining;
 pub mod laws;
 mod numbers;
 pub mod reading;
+mod serving;
 mod taking;
 pub mod verdict;
 

@@ -15,7 +15,7 @@ use pas_profile::{Directory, Event, Name, NoMemory, Why};
 use pas_report::Record;
 
 /// Takes the event where it may come next, and says whether it may.
-fn step(machine: &mut Machine, event: &Event) -> Result<bool, NoMemory>
+pub(crate) fn step(machine: &mut Machine, event: &Event) -> Result<bool, NoMemory>
     ensures profile { profile_of machine.new ≡ profile_of machine.old }
     ensures stepped { IfOk result (λ taken. IsStepped machine.old machine.new event.now taken) }
 {
@@ -37,7 +37,7 @@ fn event_of(item: &Record) -> Option<Event>
 }
 
 /// The event whose line this is; None where it is of none.
-fn read_event(line: &[u8]) -> Option<Event>
+pub(crate) fn read_event(line: &[u8]) -> Option<Event>
     ensures some { IfSome result (λ e. line.now ≡ line_of_event e) }
     ensures only { (e : TheEvent) → FitsEvent e → line.now ≡ line_of_event e → result ≡ Some e }
 {

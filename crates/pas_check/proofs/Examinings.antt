@@ -1,0 +1,134 @@
+-- Outcomes of a pass, taken or not.
+use Rattle.std.proofs.Common.{◌≡◌, ℕ, ◌<◌, ◌==◌, Bool, true, false, if◌then◌else◌, List, Option, Some, None, refl, ap, sym, subst, ◌∙◌}
+use Rattle.std.proofs.lemmas.Bool.{eqb-true, eq-eqb}
+use Rattle.std.proofs.lemmas.Option.{none-some, same_Some}
+use Rattle.pas_profile.specs.Profiles.{IsPage}
+use Rattle.pas_profile.specs.declared.event.Event.{Event}
+use Rattle.pas_profile.specs.declared.event.Outcome.{Outcome}
+use Rattle.pas_profile.specs.declared.event.Outcome.TheVariants.{Unbacked, Bare, Young, InUse, NotOffered}
+use Rattle.pas_machine.specs.Machines.{profile_of, StandsFor}
+use Rattle.pas_machine.specs.declared.machine.Machine.{Machine}
+use Rattle.pas_report.specs.Lines.{line_of}
+use Rattle.pas_report.specs.declared.record.Record.{Record}
+use Rattle.pas_report.specs.declared.record.Said.{Said}
+use Rattle.pas_check.specs.Calls.{outcome_in, outcome_in_event, outcome_in_said, IsExamined, OutcomeTaken}
+use Rattle.pas_check.specs.Ranges.{Fits}
+use Rattle.pas_check.specs.States.{Stand}
+use Rattle.pas_check.specs.Takes.{MayCome, after_outcome}
+use Rattle.pas_check.specs.declared.examining.Examined.{Examined}
+use Rattle.pas_check.proofs.OneNext.{record_of, line_is, outcome_fits}
+
+-- ---- the outcome of a record
+if_some : {A : Type 0} (t : Bool) (o : Option A) (x : A) → (if t then o else None) ≡ Some x → (t ≡ true) × (o ≡ Some x)
+if_some true o x h = (refl, h)
+if_some false o x h = absurd (none-some x h)
+
+abbrev record_in : ℕ → Examined → Record
+record_in epoch x = record_of epoch x.page x.outcome
+
+event_is : (epoch : ℕ) (e : Event) (x : Examined) → outcome_in_event epoch e ≡ Some x → Record.Event e ≡ record_in epoch x
+event_is epoch (Event.Deed k page d) x h = absurd (none-some x h)
+event_is epoch (Event.Back k page) x h = absurd (none-some x h)
+event_is epoch (Event.Unback k page read) x h =
+    let here : Examined = record { page = page; outcome = Unbacked } in
+    let first = if_some (k == 0) (if read == epoch then Some here else None) x h in
+    let second = if_some (read == epoch) (Some here) x first.1 in
+    let by_scavenger : k ≡ 0 = eqb-true k 0 first.0 in
+    let in_epoch : read ≡ epoch = eqb-true read epoch second.0 in
+    (λ i. Record.Event (Event.Unback (by_scavenger i) page (in_epoch i))) ∙ ap (record_in epoch) (same_Some here x second.1)
+event_is epoch (Event.Give k block) x h = absurd (none-some x h)
+event_is epoch (Event.End k name read) x h = absurd (none-some x h)
+event_is epoch (Event.Reject k name why) x h = absurd (none-some x h)
+
+said_is : (epoch : ℕ) (said : Said) (x : Examined) → outcome_in_said said ≡ Some x → Record.Said 0 said ≡ record_in epoch x
+said_is epoch (Said.NoSpace name) x h = absurd (none-some x h)
+said_is epoch (Said.Held page name) x h = absurd (none-some x h)
+said_is epoch (Said.Outside block) x h = absurd (none-some x h)
+said_is epoch (Said.Unaligned block) x h = absurd (none-some x h)
+said_is epoch (Said.Skipped name) x h = absurd (none-some x h)
+said_is epoch (Said.Tick e) x h = absurd (none-some x h)
+said_is epoch (Said.Pass e) x h = absurd (none-some x h)
+said_is epoch (Said.Bare page) x h = ap (record_in epoch) (same_Some (record { page = page; outcome = Bare }) x h)
+said_is epoch (Said.Young page stamp) x h = ap (record_in epoch) (same_Some (record { page = page; outcome = Young stamp }) x h)
+said_is epoch (Said.InUse page word value) x h = ap (record_in epoch) (same_Some (record { page = page; outcome = InUse word value }) x h)
+said_is epoch (Said.NotOffered page) x h = ap (record_in epoch) (same_Some (record { page = page; outcome = NotOffered }) x h)
+said_is epoch (Said.Stopped thread) x h = absurd (none-some x h)
+said_is epoch (Said.Guarded low high name) x h = absurd (none-some x h)
+said_is epoch (Said.Lowered low high) x h = absurd (none-some x h)
+
+pub record_is : (epoch : ℕ) (r : Record) (x : Examined) → outcome_in epoch r ≡ Some x → r ≡ record_of epoch x.page x.outcome
+record_is epoch (Record.Event e) x h = event_is epoch e x h
+record_is epoch (Record.Said k said) x h =
+    let both = if_some (k == 0) (outcome_in_said said) x h in
+    let by_scavenger : k ≡ 0 = eqb-true k 0 both.0 in
+    ap (λ j. Record.Said j said) by_scavenger ∙ said_is epoch said x both.1
+record_is epoch (Record.Phase n) x h = absurd (none-some x h)
+record_is epoch Record.Close x h = absurd (none-some x h)
+
+outcome_is : (epoch page : ℕ) (o : Outcome) → outcome_in epoch (record_of epoch page o) ≡ Some record { page = page; outcome = o }
+outcome_is epoch page Unbacked = ap (λ (t : Bool). if t then Some (record { page = page; outcome = Unbacked }) else None) (eq-eqb epoch epoch refl)
+outcome_is epoch page Bare = refl
+outcome_is epoch page (Young stamp) = refl
+outcome_is epoch page (InUse word value) = refl
+outcome_is epoch page NotOffered = refl
+
+-- ---- the line of an outcome
+module _ (old : Machine) (line : List ℕ) (last epoch : ℕ) where
+  abbrev pub IsOnly : Option Examined → Type 0
+  IsOnly found = (page : ℕ) (o : Outcome) → Fits (record_of epoch page o) → line ≡ line_of (record_of epoch page o) → found ≡ Some record { page = page; outcome = o }
+
+  pub found_only : (item : Record) (read : Option Record) (found : Option Examined) → read ≡ Some item → ((r : Record) → Fits r → line ≡ line_of r → read ≡ Some r) → found ≡ outcome_in epoch item → IsOnly found
+  found_only item read found is only outcome page o fits has =
+      let same : item ≡ record_of epoch page o = same_Some item (record_of epoch page o) (sym is ∙ only (record_of epoch page o) fits has) in
+      outcome ∙ ap (outcome_in epoch) same ∙ outcome_is epoch page o
+
+  outcome_refused : (new : Machine) → new ≡ old
+      → ((p : ℕ) (o : Outcome) → last < p → IsPage (profile_of old) p → Fits (record_of epoch p o) → line ≡ line_of (record_of epoch p o)
+      → (s : Stand) → StandsFor old s.events → s.epoch ≡ epoch → MayCome (profile_of old) s p o → ⊥) → OutcomeTaken old new last epoch line None
+  outcome_refused new kept none = (
+    kept,
+    λ s more next small stands same takes.
+        let p = takes.page in
+        let o = takes.outcome in
+        none p o takes.rises takes.of_region (subst (λ e. Fits (record_of e p o)) same (outcome_fits (profile_of old) s small p o takes.of_region takes.may))
+        (subst (λ e. line ≡ line_of (record_of e p o)) same (takes.line_is ∙ sym (line_is s.epoch p o))) s stands same takes.may,
+  )
+
+  -- no record has the line
+  pub outcome_unread : ((r : Record) → Fits r → line ≡ line_of r → None ≡ Some r) → OutcomeTaken old old last epoch line None
+  outcome_unread none = outcome_refused old refl (λ p o rises region fits has s stands same may. none-some (record_of epoch p o) (none (record_of epoch p o) fits has))
+
+  -- no outcome has it
+  pub outcome_other : IsOnly None → OutcomeTaken old old last epoch line None
+  outcome_other none = outcome_refused old refl (λ p o rises region fits has s stands same may. none-some (record { page = p; outcome = o }) (none p o fits has))
+
+  -- the outcome is of another page than one that may come
+  pub outcome_amiss : (x : Examined) → IsOnly (Some x) → (last < x.page → IsPage (profile_of old) x.page → ⊥) → OutcomeTaken old old last epoch line None
+  outcome_amiss x only amiss = outcome_refused old refl
+      (λ p o rises region fits has s stands same may.
+      let here : p ≡ x.page = ap (λ (y : Examined). y.page) (sym (same_Some x (record { page = p; outcome = o }) (only p o fits has))) in
+      amiss (subst (λ q. last < q) here rises) (subst (IsPage (profile_of old)) here region))
+
+  -- what came of its page was tried
+  pub outcome_came : (new : Machine) (x : Examined) → line ≡ line_of (record_of epoch x.page x.outcome) → last < x.page → IsPage (profile_of old) x.page
+      → IsExamined old new epoch x true → OutcomeTaken old new last epoch line (Some x.page)
+  outcome_came new x has rises region examined = λ s more stands same.
+      let came = examined s stands same in (
+        after_outcome s x.page x.outcome,
+        record {
+          page = x.page;
+          rises = rises;
+          of_region = region;
+          outcome = x.outcome;
+          may = came.0;
+          line_is = subst (λ e. line ≡ line_of (record_of e x.page x.outcome)) (sym same) has ∙ line_is s.epoch x.page x.outcome;
+          next_is = refl;
+        },
+        came.1,
+      )
+
+  pub outcome_failed : (new : Machine) (x : Examined) → IsOnly (Some x) → IsExamined old new epoch x false → OutcomeTaken old new last epoch line None
+  outcome_failed new x only examined = outcome_refused new examined.0
+      (λ p o up within fits is s stands same may.
+      let here : record { page = p; outcome = o } ≡ x = sym (same_Some x (record { page = p; outcome = o }) (only p o fits is)) in
+      examined.1 s stands same (subst (λ (y : Examined). MayCome (profile_of old) s y.page y.outcome) here may))

@@ -1,0 +1,126 @@
+//! Lines of a pass: what came of its pages.
+ghost use Rattle.std.specs.Prelude.{ℕ, ◌≡◌, ◌≢◌, IfOk, MatchBool};
+ghost use Rattle.pas_profile.specs.Profiles.{IsPage};
+ghost use Rattle.pas_profile.specs.declared.event.Outcome.TheVariants as TheOutcome;
+ghost use Rattle.pas_machine.specs.Machines.{profile_of, StandsFor};
+ghost use Rattle.pas_check.specs.Calls.{outcome_in, outcome_in_event, outcome_in_said, IsExamined, OutcomeTaken};
+ghost use Rattle.pas_check.specs.States.{Stand};
+ghost use Rattle.pas_check.specs.Takes.{MayCome};
+
+use crate::reading::read_record;
+use crate::taking::step;
+use pas_machine::Machine;
+use pas_profile::{Event, NoMemory, Outcome};
+use pas_report::{Record, Said};
+
+/// What came of a page.
+#[derive(Clone, Copy, Drop)]
+pub(crate) struct Examined {
+    pub page: u32,
+    pub outcome: Outcome,
+}
+
+/// The outcome that the event tells of, in a pass of this epoch; None where it tells of none.
+fn outcome_of_event(event: &Event, epoch: u64) -> Option<Examined>
+    ensures { result ≡ outcome_in_event epoch event.now }
+{
+    match *event {
+        Event::Unback {
+            actor: 0,
+            page,
+            epoch: read,
+        } if read == epoch => Some(Examined {
+            page,
+            outcome: Outcome::Unbacked,
+        }),
+        _ => None,
+    }
+}
+
+/// The outcome that this says; None where it says something else.
+fn outcome_of_said(said: &Said) -> Option<Examined>
+    ensures { result ≡ outcome_in_said said.now }
+{
+    let (page, outcome) = match *said {
+        Said::Bare(page) => (page, Outcome::Bare),
+        Said::Young { page, stamp } => (page, Outcome::Young(stamp)),
+        Said::InUse { page, word, value } => (page, Outcome::InUse(word, value)),
+        Said::NotOffered(page) => (page, Outcome::NotOffered),
+        _ => return None,
+    };
+    Some(Examined { page, outcome })
+}
+
+/// The outcome whose record this is, in a pass of this epoch; None where it is of none.
+fn outcome_of(item: &Record, epoch: u64) -> Option<Examined>
+    ensures { result ≡ outcome_in epoch item.now }
+{
+    match item {
+        Record::Event(event) => outcome_of_event(event, epoch),
+        Record::Said(0, said) => outcome_of_said(said),
+        _ => None,
+    }
+}
+
+/// Whether the outcome may come of the page, where it isn't that the page gave its memory back.
+fn may_come(machine: &Machine, examined: &Examined, epoch: u64) -> bool
+    requires { IsPage (profile_of machine.now) examined.now.page }
+    ensures { (s : Stand) → StandsFor machine.now s.events → s.epoch ≡ epoch → examined.now.outcome ≢ TheOutcome.Unbacked
+        → MatchBool result (MayCome (profile_of machine.now) s examined.now.page examined.now.outcome) (MayCome (profile_of machine.now) s examined.now.page examined.now.outcome → ⊥) }
+{
+    match examined.outcome {
+        Outcome::Unbacked => false,
+        Outcome::Bare => !machine.is_backed(examined.page),
+        Outcome::Young(stamp) => {
+            let age = machine.profile().age;
+            stamp == machine.last_end(examined.page) && (epoch < stamp || epoch - stamp < age)
+        }
+        Outcome::InUse(word, value) => word < 4 && value < u64::MAX,
+        Outcome::NotOffered => machine.deed_of(examined.page).is_some(),
+    }
+}
+
+/// Takes what came of the page, where it may come, and says whether it may.
+fn examine(machine: &mut Machine, examined: &Examined, epoch: u64) -> Result<bool, NoMemory>
+    requires { IsPage (profile_of machine.old) examined.now.page }
+    ensures profile { profile_of machine.new ≡ profile_of machine.old }
+    ensures came { IfOk result (λ came. IsExamined machine.old machine.new epoch examined.now came) }
+{
+    match examined.outcome {
+        Outcome::Unbacked => step(
+            machine,
+            &Event::Unback {
+                actor: 0,
+                page: examined.page,
+                epoch,
+            },
+        ),
+        _ => Ok(may_come(machine, examined, epoch)),
+    }
+}
+
+/// Takes the line of an outcome of a pass of this epoch on a page after the last one, and says which page that is; None where the line is none of these.
+pub(crate) fn take_outcome(
+    machine: &mut Machine,
+    line: &[u8],
+    last: u32,
+    epoch: u64,
+) -> Result<Option<u32>, NoMemory>
+    ensures profile { profile_of machine.new ≡ profile_of machine.old }
+    ensures taken { IfOk result (λ page. OutcomeTaken machine.old machine.new last epoch line.now page) }
+{
+    let Some(item) = read_record(line) else {
+        return Ok(None);
+    };
+    let Some(examined) = outcome_of(&item, epoch) else {
+        return Ok(None);
+    };
+    if examined.page <= last || !machine.has_page(examined.page) {
+        return Ok(None);
+    }
+    match examine(machine, &examined, epoch) {
+        Ok(true) => Ok(Some(examined.page)),
+        Ok(false) => Ok(None),
+        Err(NoMemory) => Err(NoMemory),
+    }
+}

@@ -1,0 +1,138 @@
+//! Lines that end a request: a give, or a refusal.
+ghost use Rattle.std.specs.Prelude.{ℕ, ◌≡◌, ◌≢◌, ◌<◌, IfOk, List, MatchBool, Some};
+ghost use Rattle.pas_profile.specs.declared.event.Event.{Event as TheEvent};
+ghost use Rattle.pas_machine.specs.State.{deed_in};
+ghost use Rattle.pas_machine.specs.Places.{IsEach};
+ghost use Rattle.pas_machine.specs.Machines.{profile_of, StandsFor};
+ghost use Rattle.pas_trace.specs.declared.item.Request.{Request};
+ghost use Rattle.pas_check.specs.Calls.{GiveTaken, IsFitting, IsGiven, IsWanted, LiesOn, RefusalSeen, RefusesBy};
+ghost use Rattle.pas_check.specs.States.{Stand};
+
+use crate::reading::read_record;
+use crate::taking::{read_event, step};
+use pas_machine::Machine;
+use pas_profile::{Block, Directory, Event, Name, NoMemory};
+use pas_report::{Record, Said};
+
+/// What a request asks for: a block for this name, of this room, at a multiple of this alignment, on pages of this directory.
+#[derive(Clone, Copy, Drop)]
+pub(crate) struct Wanted {
+    pub name: u32,
+    pub room: u32,
+    pub align: u32,
+    pub directory: Directory,
+}
+
+/// Whether the page has a deed of the directory.
+fn has_deed(machine: &Machine, page: u32, directory: Directory) -> bool
+    ensures { (es : List TheEvent) → StandsFor machine.now es → MatchBool result (deed_in es page ≡ Some directory) (deed_in es page ≢ Some directory) }
+{
+    if !machine.has_page(page) {
+        return false;
+    }
+    match machine.deed_of(page) {
+        Some(found) => found == directory,
+        None => false,
+    }
+}
+
+/// Whether each of these pages has a deed of the directory. Looks at each at most once, and at none after one that hasn't.
+fn have_deeds(machine: &Machine, from: u32, until: u32, directory: Directory) -> bool
+    ensures { (es : List TheEvent) → StandsFor machine.now es → MatchBool result (IsEach from until (λ page. deed_in es page ≡ Some directory))
+        (IsEach from until (λ page. deed_in es page ≡ Some directory) → ⊥) }
+{
+    for page in from..until {
+        if !has_deed(machine, page, directory) {
+            return false;
+        }
+    }
+    true
+}
+
+/// Whether each page under the block has a deed of the directory.
+fn lies_on(machine: &Machine, block: &Block, directory: Directory) -> bool
+    ensures { (es : List TheEvent) → StandsFor machine.now es → MatchBool result (LiesOn es block.now directory) (LiesOn es block.now directory → ⊥) }
+{
+    let grains = block.room / 16;
+    if grains == 0 {
+        return true;
+    }
+    let first = block.name.address.0 / 16;
+    let last = first + (grains - 1);
+    have_deeds(machine, first / 256, last / 256 + 1, directory)
+}
+
+/// Whether the block has the heap, the room and the alignment that are wanted.
+fn fits(block: &Block, wanted: &Wanted) -> bool
+    requires align { 0 < wanted.now.align }
+    ensures { MatchBool result (IsFitting block.now wanted.now) (IsFitting block.now wanted.now → ⊥) }
+{
+    block.heap == wanted.directory.heap
+        && block.room == wanted.room
+        && block.name.address.0 % wanted.align == 0
+}
+
+/// Takes the event where it is a give by the actor of what is wanted, and may come next; and says which name that block has. None where it is no such event.
+fn give(
+    machine: &mut Machine,
+    event: &Event,
+    actor: u8,
+    wanted: &Wanted,
+) -> Result<Option<Name>, NoMemory>
+    requires align { 0 < wanted.now.align }
+    ensures profile { profile_of machine.new ≡ profile_of machine.old }
+    ensures given { IfOk result (λ name. IsGiven machine.old machine.new actor wanted.now event.now name) }
+{
+    let Event::Give { actor: k, block } = *event else {
+        return Ok(None);
+    };
+    if k != actor || !fits(&block, wanted) || !lies_on(machine, &block, wanted.directory) {
+        return Ok(None);
+    }
+    match step(machine, event) {
+        Ok(true) => Ok(Some(block.name)),
+        Ok(false) => Ok(None),
+        Err(NoMemory) => Err(NoMemory),
+    }
+}
+
+/// Takes the line of a give by the actor of what is wanted, and says which name the block has. None where this is no such line.
+pub(crate) fn take_give(
+    machine: &mut Machine,
+    line: &[u8],
+    actor: u8,
+    wanted: &Wanted,
+) -> Result<Option<Name>, NoMemory>
+    requires align { 0 < wanted.now.align }
+    ensures profile { profile_of machine.new ≡ profile_of machine.old }
+    ensures taken { IfOk result (λ name. GiveTaken machine.old machine.new actor wanted.now line.now name) }
+{
+    let Some(event) = read_event(line) else {
+        return Ok(None);
+    };
+    give(machine, &event, actor, wanted)
+}
+
+/// Whether the record says that what is wanted can't be had: for want of space, or since a page of its directory is held.
+fn refuses(machine: &Machine, item: &Record, actor: u8, wanted: &Wanted) -> bool
+    ensures { (s : Stand) (r : Request) → IsWanted (profile_of machine.now) r wanted.now → StandsFor machine.now s.events
+        → MatchBool result (RefusesBy (profile_of machine.now) s actor r item.now) (RefusesBy (profile_of machine.now) s actor r item.now → ⊥) }
+{
+    match *item {
+        Record::Said(k, Said::NoSpace { name }) => k == actor && name == wanted.name,
+        Record::Said(k, Said::Held { page, name }) => {
+            k == actor && name == wanted.name && has_deed(machine, page, wanted.directory)
+        }
+        _ => false,
+    }
+}
+
+/// Whether the line is a refusal of what the actor wants.
+pub(crate) fn is_refusal(machine: &Machine, line: &[u8], actor: u8, wanted: &Wanted) -> bool
+    ensures { RefusalSeen machine.now actor wanted.now line.now result }
+{
+    let Some(item) = read_record(line) else {
+        return false;
+    };
+    refuses(machine, &item, actor, wanted)
+}
