@@ -77,15 +77,16 @@ pub fn writes<R: AllocGlobal + Threads + Wait + Sync>(
     Ok(outcome.is(status, text.as_bytes()))
 }
 
-/// Whether a call with these words writes of each of the traces the text at its place.
+/// Whether a call with these words has the status for each of the traces, and writes just the text at its place.
 pub fn writes_each<R: AllocGlobal + Threads + Wait + Sync>(
     rt: &R,
     words: &[&str],
     traces: &[&str],
+    status: u8,
     texts: &[&str],
 ) -> Result<bool, AllocError> {
     for at in 0..traces.len() {
-        if at >= texts.len() || !writes(rt, words, traces[at], 0, texts[at])? {
+        if at >= texts.len() || !writes(rt, words, traces[at], status, texts[at])? {
             return Ok(false);
         }
     }

@@ -10,6 +10,8 @@ mod calls;
 #[cfg(test)]
 mod estimate_tests;
 #[cfg(test)]
+mod faulty;
+#[cfg(test)]
 mod gate_tests;
 #[cfg(test)]
 mod in_turn;
@@ -19,6 +21,8 @@ mod lawful;
 mod machine_tests;
 #[cfg(test)]
 mod order_tests;
+#[cfg(test)]
+mod queue;
 #[cfg(test)]
 mod run_tests;
 #[cfg(test)]

@@ -1,7 +1,7 @@
 //! The machine as a program takes each event of each replay.
 
 use crate::traces::{MOST_BYTES, filling, replayed};
-use crate::{alone, at_once, in_turn};
+use crate::{alone, at_once, in_turn, queue};
 use pas_generate::trace_of;
 use pas_machine::Machine;
 use pas_report::Record;
@@ -46,6 +46,7 @@ fn small_traces_are_taken(rt: HostRuntime) -> Result<(), Fail> {
     assert!(rt; are_taken(rt.alloc(), alone::TRACES.as_slice())?);
     assert!(rt; are_taken(rt.alloc(), in_turn::TRACES.as_slice())?);
     assert!(rt; are_taken(rt.alloc(), at_once::TRACES.as_slice())?);
+    assert!(rt; are_taken(rt.alloc(), queue::TRACES.as_slice())?);
     Ok(())
 }
 

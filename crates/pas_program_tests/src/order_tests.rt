@@ -3,7 +3,7 @@ ghost use Rattle.std.specs.Prelude.{◌≡◌, ◌≤◌, ◌⊎◌, length};
 
 use crate::calls::{ROOM, may_be_cut_off, outcome_of, stops_at_read, writes, writes_each};
 use crate::traces::{TRACE, TRANSCRIPT, asking, filling, replayed};
-use crate::{alone, at_once, in_turn};
+use crate::{alone, at_once, faulty, in_turn, queue};
 use pas_bitfit::end_bits;
 use pas_bits::Mask4;
 use pas_generate::trace_of;
@@ -96,30 +96,18 @@ fn failing_writes(rt: HostRuntime) -> Result<(), Fail> {
     Ok(())
 }
 
-/// Inputs that are no trace, and the first fault of each.
-const FAULTY: [&str; 6] = [
-    "",
-    "\n",
-    "pas 1 pages 4 threads 2 heaps 1 age 2\na 1 1 0 16 16\nf 2 1\n",
-    "pas 1 pages 4 threads 2 heaps 1 age 2\nalloc 1\nflush 9\n",
-    "pas 1 pages 4 threads 2 heaps 1 age 2\n#\n\nflush 3",
-    "pas 1 pages 4 threads 1 heaps 1 age 2\na 1 1 0 4097 16\nf 1 2\n",
-];
-
-const FAULTS: [&str; 6] = [
-    "line 1: BadHeader\n",
-    "line 1: BadHeader\n",
-    "line 3: TooEarly\n",
-    "line 2: BadWord\n",
-    "line 4: BadThread\n",
-    "line 3: NameUnknown\n",
-];
-
 #[test]
 fn inputs_have_outcomes(rt: HostRuntime) -> Result<(), Fail> {
-    for at in 0..6 {
-        assert!(rt; writes(&rt, &["order"], FAULTY[at], 1, FAULTS[at])?);
-    }
+    let words = ["order"];
+    assert!(rt;
+        writes_each(
+            &rt,
+            &words,
+            faulty::TRACES.as_slice(),
+            1,
+            faulty::TEXTS.as_slice()
+        )?
+    );
     assert!(rt; may_be_cut_off(&rt, &["order"], "", 1, b"line 1: BadHeader\n".as_slice())?);
     Ok(())
 }
@@ -132,6 +120,7 @@ fn traces_have_transcripts(rt: HostRuntime) -> Result<(), Fail> {
             &rt,
             &words,
             alone::TRACES.as_slice(),
+            0,
             alone::TEXTS.as_slice()
         )?
     );
@@ -140,6 +129,7 @@ fn traces_have_transcripts(rt: HostRuntime) -> Result<(), Fail> {
             &rt,
             &words,
             in_turn::TRACES.as_slice(),
+            0,
             in_turn::TEXTS.as_slice()
         )?
     );
@@ -148,7 +138,17 @@ fn traces_have_transcripts(rt: HostRuntime) -> Result<(), Fail> {
             &rt,
             &words,
             at_once::TRACES.as_slice(),
+            0,
             at_once::TEXTS.as_slice()
+        )?
+    );
+    assert!(rt;
+        writes_each(
+            &rt,
+            &words,
+            queue::TRACES.as_slice(),
+            0,
+            queue::TEXTS.as_slice()
         )?
     );
     Ok(())

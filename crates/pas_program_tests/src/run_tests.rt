@@ -2,7 +2,7 @@
 
 use crate::calls::{Outcome, ROOM, may_be_cut_off, outcome_of, stops_at_read, writes, writes_each};
 use crate::traces::{TRACE, TRANSCRIPT, filling, of_two_threads};
-use crate::{alone, in_turn};
+use crate::{alone, faulty, in_turn};
 use std::alloc::AllocError;
 use std::sync::Wait;
 use std::test::Fail;
@@ -40,6 +40,7 @@ fn actors_in_turn_have_transcripts(rt: HostRuntime) -> Result<(), Fail> {
             &rt,
             &words,
             in_turn::TRACES.as_slice(),
+            0,
             in_turn::TEXTS.as_slice()
         )?
     );
@@ -54,6 +55,16 @@ fn run_replays_a_trace(rt: HostRuntime) -> Result<(), Fail> {
 
 #[test]
 fn run_has_the_same_faults(rt: HostRuntime) -> Result<(), Fail> {
+    let words = ["run"];
+    assert!(rt;
+        writes_each(
+            &rt,
+            &words,
+            faulty::TRACES.as_slice(),
+            1,
+            faulty::TEXTS.as_slice()
+        )?
+    );
     assert!(rt; may_be_cut_off(&rt, &["run"], "\n", 1, b"line 1: BadHeader\n".as_slice())?);
     assert!(rt; stops_at_read(&rt, "run", 1)?);
     let long = vec![in rt.alloc(); 10u8; 16_777_217]?;

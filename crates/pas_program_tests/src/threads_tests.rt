@@ -2,7 +2,7 @@
 
 use crate::lawful::is_lawful;
 use crate::traces::{MOST_BYTES, push, replayed, replayed_on_threads};
-use crate::{alone, at_once, in_turn};
+use crate::{alone, at_once, in_turn, queue};
 use pas_threads::OpenGate;
 use std::alloc::{AllocError, Global};
 use std::sync::Wait;
@@ -66,6 +66,7 @@ fn replays_on_threads_are_lawful(rt: HostRuntime) -> Result<(), Fail> {
     assert!(rt; each_replays_lawfully(&rt, alone::TRACES.as_slice(), 1)?);
     assert!(rt; each_replays_lawfully(&rt, in_turn::TRACES.as_slice(), 1)?);
     assert!(rt; each_replays_lawfully(&rt, at_once::TRACES.as_slice(), TIMES)?);
+    assert!(rt; each_replays_lawfully(&rt, queue::TRACES.as_slice(), TIMES)?);
     Ok(())
 }
 

@@ -2,7 +2,7 @@
 use Rattle.std.proofs.Common.{◌≡◌, ℕ, zero, suc, ◌+◌, ◌/◌, ◌%◌, ◌<◌, ◌≤◌, Bool, if◌then◌else◌, [], ◌∷◌, slice_index, refl, ap, arith, add-one}
 use Rattle.pas_report.specs.Reports.{grains_that}
 use Rattle.pas_lanes.specs.Rows.{set_count}
-use Rattle.pas_lanes.proofs.Counts.{set_most}
+use Rattle.pas_lanes.proofs.Rows.{set_most}
 use Rattle.pas_profile.specs.Classes.{has_bit}
 use Rattle.pas_profile.specs.Runs.{count_below}
 use Rattle.pas_profile.proofs.Counts.{count_suc, count_same}

@@ -19,8 +19,7 @@ use Rattle.pas_steps.specs.declared.state.State.{State}
 use Rattle.pas_core.specs.Good.{word_of_deed, IsFreeGrain, IsCoveredByOne, IsInOnePlace}
 use Rattle.pas_core.proofs.Deeds.{deed_of, backed_of, directory_is_of}
 use Rattle.pas_core.proofs.Lives.{life_of, live_is_aligned}
-use Rattle.pas_core.proofs.MachineRuns.{agrees}
-use Rattle.pas_core.proofs.Placed.{in_one_place}
+use Rattle.pas_core.proofs.MachineRuns.{agrees, in_one_place}
 use Rattle.pas_report.specs.Counts.{IsDeedWord, AreDeedWords, pages_of, live_counted_on, free_counted_on, offered_by, marked_in, line_by_words, page_by_words, pages_by_words, report_by_words}
 use Rattle.pas_report.specs.Marks.{offered_after, marks_after}
 use Rattle.pas_report.specs.Reports.{covers, some_below, is_covered, live_on, uncovered_on, page_text, machine_page, machine_pages, report_text}

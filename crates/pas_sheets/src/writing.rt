@@ -12,6 +12,17 @@ use pas_report::Record;
 use std::mem::swap;
 use std::thread::{Threads, join_mut};
 
+/// Writes the text of the sheet, up to the sink's first fault. After a failure some first part of it was written.
+fn write_sheet<K: Sink>(sheet: &Sheet, sink: &mut K) -> Result<(), Failed>
+    ensures whole { OnOk result (Writes (K.held sink.old) (K.held sink.new) sheet.now.text.items) }
+    ensures front { OnErr result (WritesFront (K.held sink.old) (K.held sink.new) sheet.now.text.items) }
+    ensures sound { OnOk result (K.faults sink.new ≡ K.faults sink.old) }
+    ensures failed { OnErr result (Rose (K.faults sink.old) (K.faults sink.new)) }
+    ensures count { K.faults sink.old ≤ K.faults sink.new }
+{
+    write_all(sink, &sheet.text)
+}
+
 /// Writes the texts of the sheets in order. After a failure some first part of them was written.
 fn write_texts<K: Sink>(sheets: &[Sheet], sink: &mut K) -> Result<(), Failed>
     ensures whole { OnOk result (Writes (K.held sink.old) (K.held sink.new) (texts_of sheets.now)) }
@@ -21,7 +32,7 @@ fn write_texts<K: Sink>(sheets: &[Sheet], sink: &mut K) -> Result<(), Failed>
     ensures count { K.faults sink.old ≤ K.faults sink.new }
 {
     for sheet in sheets {
-        write_all(sink, &sheet.text)?;
+        write_sheet(sheet, sink)?;
     }
     Ok(())
 }

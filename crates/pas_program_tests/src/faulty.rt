@@ -1,0 +1,26 @@
+//! Inputs that are no trace, and the first fault of each.
+
+pub const TRACES: [&str; 7] = [
+    "",
+    "\n",
+    // A name is freed in the phase in which another thread asks for it.
+    "pas 1 pages 4 threads 2 heaps 1 age 2\na 1 1 0 16 16\nf 2 1\n",
+    "pas 1 pages 4 threads 2 heaps 1 age 2\nalloc 1\nflush 9\n",
+    "pas 1 pages 4 threads 2 heaps 1 age 2\n#\n\nflush 3",
+    // A block may be longer than a page; the name that is freed was never asked for.
+    "pas 1 pages 4 threads 1 heaps 1 age 2\na 1 1 0 4097 16\nf 1 2\n",
+    // A block of all four pages, and then one of a byte more than they have.
+    "pas 1 pages 4 threads 1 heaps 1 age 2\na 1 1 0 2049 16\na 1 2 0 8192 16\nf 1 1\nf 1 2\nflush 1\n\
+     a 1 3 0 16384 16\na 1 4 0 16385 16\n",
+];
+
+/// What is written of them, each at its place.
+pub const TEXTS: [&str; 7] = [
+    "line 1: BadHeader\n",
+    "line 1: BadHeader\n",
+    "line 3: TooEarly\n",
+    "line 2: BadWord\n",
+    "line 4: BadThread\n",
+    "line 3: NameUnknown\n",
+    "line 8: BadSize\n",
+];
