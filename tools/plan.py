@@ -15,18 +15,21 @@ MOST_JOBS = 4
 TIME_WITH_JOBS = {1: 1.0, 2: 0.8, 3: 0.72, 4: 0.65}
 # The time of a crate that the table of times doesn't have.
 USUAL_SECONDS = 40.0
+# What these crates take by the clock beyond their proofs, with one process at work.
+MORE_SECONDS = {"pas_top": 120.0, "pas": 140.0}
 
 
 @dataclass
 class Crate:
-    """A crate, all that it stands on, the seconds that one processor takes to prove it, and those of the longest chain
-    of crates that begins with it, each of which stands on the one before."""
+    """A crate, all that it stands on, the seconds that one processor takes to prove it, those that come on top, and
+    those of the longest chain of crates that begins with it, each of which stands on the one before."""
 
     name: str
     line: str
     uses: list[str]
     below: set[str] = field(default_factory=set)
     seconds: float = USUAL_SECONDS
+    more: float = 0.0
     chain: float = 0.0
 
     @property
@@ -82,9 +85,10 @@ def set_seconds(crates: dict[str, Crate]) -> None:
         else:
             changed.add(crate.name)
             crate.seconds = slower * float(times.get(crate.name) or USUAL_SECONDS)
+            crate.more = slower * MORE_SECONDS.get(crate.name, 0.0)
     for crate in reversed(list(crates.values())):
         above = [it.chain for it in crates.values() if crate.name in it.below]
-        crate.chain = crate.seconds + max(above, default=0.0)
+        crate.chain = crate.seconds + crate.more + max(above, default=0.0)
 
 
 class Plan:
@@ -124,7 +128,7 @@ def estimate(plan: Plan) -> float:
     ends: dict[str, tuple[float, Crate]] = {}
     while True:
         for crate, jobs in plan.begin():
-            ends[crate.name] = now + crate.seconds * TIME_WITH_JOBS[jobs], crate
+            ends[crate.name] = now + crate.seconds * TIME_WITH_JOBS[jobs] + crate.more, crate
         if not ends:
             return now
         now, crate = ends.pop(min(ends, key=lambda it: ends[it][0]))

@@ -29,13 +29,15 @@ TYPES = {
     "StepKind": "pas_steps/specs/Kinds.antt",
     "Item": "pas_trace/src/item.rt",
     "What": "pas_trace/src/plan.rt",
-    "Act": "pas_answers/specs/Acts.antt",
+    "Act": "pas_trace/specs/Acts.antt",
     "Event": "pas_profile/src/event.rt",
     "Record": "pas_report/src/record.rt",
     "Said": "pas_report/src/record.rt",
     "Kind": "pas_profile/src/directory.rt",
     "Route": "pas_profile/src/directory.rt",
 }
+# The modules that hand a type on.
+HANDED_ON = {"Act": ("Rattle.pas_answers.specs.Acts",)}
 WIDTH = 120
 BEGIN, END = "<!-- tables of ", "<!-- end of tables -->"
 LIST = re.compile(rf"{BEGIN}(\w+) -->\n(?:(?!{BEGIN}).)*?{END}", re.S)
@@ -50,7 +52,7 @@ STRING = re.compile(r"""b?'[{}()\[\]]'|"(?:\\.|[^"\\])*\"""", re.S)
 class Type(NamedTuple):
     name: str
     file: str
-    module: str
+    modules: tuple
     variants: list
 
 
@@ -100,7 +102,7 @@ def type_of(name):
         module, variants = stem, re.findall(r"(?m)^\s+([\w'-]+) :", body)
     if not variants:
         sys.exit(f"tables.py: crates/{file} has no type {name}")
-    return Type(name, file, f"Rattle.{crate}.specs.{module}", variants)
+    return Type(name, file, (f"Rattle.{crate}.specs.{module}", *HANDED_ON.get(name, ())), variants)
 
 
 def words_for(kind, text, file):
@@ -108,7 +110,7 @@ def words_for(kind, text, file):
     own = file == kind.file
     words, qualifiers = {it: it for it in kind.variants if own}, {kind.name} if own else set()
     for module, alias, names in USE.findall(text):
-        if module not in (kind.module, f"{kind.module}.TheVariants"):
+        if module.removesuffix(".TheVariants") not in kind.modules:
             continue
         if alias and module.endswith(".TheVariants"):
             qualifiers.add(alias)
@@ -211,7 +213,7 @@ def tables_of(kind, lacking=None):
                 found = tables_in_code(text, kind) if f"{kind.name}::" in text else {}
                 matching |= {(path.stem, name) for name, named in found.items() if named}
             else:
-                found = tables_in_proofs(text, words_for(kind, text, file)) if kind.module in text or file == kind.file else {}
+                found = tables_in_proofs(text, words_for(kind, text, file)) if any(it in text for it in kind.modules) or file == kind.file else {}
                 if any(path.parts[-2] == function and stem in path.parts for stem, function in matching):
                     found["goals by arm"] = set(re.findall(r"\bin-([A-Z]\w*)", text)) & set(kind.variants)
             found = {name: named for name, named in found.items() if len(named) >= least and lacking not in named}
