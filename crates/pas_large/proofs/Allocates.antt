@@ -1,6 +1,6 @@
 -- A large block: the run that was found is given, or the refusal has its reason.
 use Rattle.pas_steps.proofs.SpareRoom.{Spares}
-use Rattle.std.proofs.Common.{◌≡◌, ℕ, ◌+◌, ◌≤◌, true, List, ◌++◌, length-append, Option, Some, None, Result, MatchResult, Ok, Err, inl, inr, refl, ap, sym, ◌∙◌, subst, arith, ◌/◌}
+use Rattle.std.proofs.Common.{◌≡◌, ℕ, ◌+◌, ◌*◌, ◌≤◌, true, List, ◌++◌, length-append, Option, Some, None, Result, MatchResult, Ok, Err, inl, inr, refl, ap, sym, ◌∙◌, subst, arith, append_assoc, ◌/◌}
 use Rattle.pas_profile.specs.declared.directory.Directory.{Directory}
 use Rattle.pas_profile.specs.declared.event.NoRoom.{NoRoom}
 use Rattle.pas_profile.specs.declared.name.Block.{Block}
@@ -11,32 +11,39 @@ use Rattle.pas_steps.specs.Desks.{Seat, Standing, CanCall, triples, AnyView}
 use Rattle.pas_steps.specs.Kinds.{looking, kind_of, is_in, Only}
 use Rattle.pas_steps.specs.Frames.{IsScan, OnlyScans}
 use Rattle.pas_steps.specs.declared.step.Step.{Step}
-use Rattle.pas_steps.proofs.Past.{always_map, once_later}
-use Rattle.pas_steps.specs.Views.{View}
+use Rattle.pas_steps.proofs.Past.{always_map, once_later, once_map, since_once}
+use Rattle.pas_steps.specs.Views.{View, holds}
 use Rattle.pas_steps.specs.declared.step.Made.{Made}
-use Rattle.pas_steps.proofs.Adding.{Tells, adds_call, legal_after}
+use Rattle.pas_steps.proofs.Adding.{Tells, adds_call, agreed_later, legal_after, triples_append}
 use Rattle.pas_steps.proofs.Called.{call_then, next_call}
-use Rattle.pas_steps.proofs.Calls.{leads_then, leads_idly, does_then, still_clear}
+use Rattle.pas_steps.proofs.Calls.{leads_then, leads_idly, does_then}
 use Rattle.pas_large.specs.Allocates.{GaveLarge, IsAllocatedLarge, IsRefusedLarge, AllocatesByScan, AllocatesLarge}
 use Rattle.pas_large.specs.Named.{ClaimsNamed}
-use Rattle.pas_large.specs.Telling.{IsToldLarge}
-use Rattle.pas_large.proofs.Named.{some_none, named_steps}
-use Rattle.std.proofs.lemmas.List.{append-nil}
+use Rattle.pas_large.specs.Evidence.{TakenWholeHere}
+use Rattle.pas_large.specs.Telling.{IsNamedWhole, IsToldLarge}
+use Rattle.pas_large.proofs.Named.{named_steps}
+use Rattle.pas_large.proofs.ToldByDoor.{never_missed, got_whole, usable_later, usable_earlier, told_earlier}
 use Rattle.pas_large.specs.Claims.{in_span, HasPages}
-use Rattle.pas_large.specs.Finds.{MayFind, FindRoom, Finds}
+use Rattle.pas_large.specs.Finds.{MayFind, FindRoom, LooksAlone, Finds}
 use Rattle.pas_rights.specs.Gives.{give_steps}
 use Rattle.pas_large.specs.Gives.{GivesRun}
 use Rattle.pas_large.specs.Pages.{GotPages, OnlyDeedsShow}
 use Rattle.pas_large.specs.Refusals.{IsReason, Refuses}
-use Rattle.pas_large.proofs.Claims.{has_got, room_after}
+use Rattle.pas_large.proofs.Claims.{has_got, room_after, span_in}
 use Rattle.std.specs.Prelude.{Bool}
-use Rattle.pas_profile.specs.Runs.{address_of}
+use Rattle.pas_profile.specs.Blocks.{address_of}
 use Rattle.pas_steps.specs.Agreement.{Agreed}
-use Rattle.pas_steps.specs.Lists.{Whole, part}
+use Rattle.pas_steps.specs.Lists.{Whole, part, Legal}
+use Rattle.pas_core.proofs.OneActor.{legal_earlier}
 use Rattle.pas_steps.proofs.Apart.{only_both}
-use Rattle.pas_scan.specs.Usable.{DeedReadHere}
+use Rattle.pas_scan.specs.Usable.{DeedReadHere, WholeHere}
+use Rattle.pas_profile.specs.Directories.{IsKind}
+use Rattle.pas_profile.specs.Profiles.{IsValid}
+use Rattle.pas_steps.specs.Evidence.{KeptHere}
 use Rattle.pas_large.proofs.ToldReasons.{none_after, true_reason}
-use Rattle.pas_large.proofs.Pages.{undone, knew_before}
+use Rattle.pas_large.proofs.Lifted.{find_again, after_still, found_run, found_none}
+use Rattle.pas_large.proofs.Pages.{undone}
+use Rattle.pas_large.proofs.Refusals.{reason_before}
 use Rattle.pas_large.proofs.Finds.{may_find}
 
 module _ {σ σ1 : Standing} (d : Directory) (n first : ℕ) (tells : Bool) (find : Finds d n tells σ σ1 (Some first)) where
@@ -95,6 +102,7 @@ allocates heap n first tells find block give =
         few = give.few;
         gave = calls.leads;
       };
+      looked = λ why refused. cc;
     }
 
 pub refuses_large : {σ σ1 σ2 : Standing} (heap n : ℕ) (tells : Bool) (find : Finds (large_directory heap) n tells σ σ1 None) (why : NoRoom) → (tells ≡ true → Tells σ2) → (tells ≡ true → (v : View) (l : Whole) → σ.stands v l → part σ.seat.actor l ≡ v) → Refuses (large_directory heap) σ1 σ2 why → AllocatesByScan heap n tells σ σ2 (Err why)
@@ -128,6 +136,7 @@ refuses_large {σ} {σ1} heap n tells find why laws parts refused =
         reason = reason;
         still = leads_then (Does nothing) find.outcome.still (scans_lead f refused.steps refused.scans) (λ v w met does. tt) (λ v w u a b. does_then a b);
       };
+      looked = λ other is. find.looked refl;
     }
 
 -- ---- the run that the door named
@@ -148,10 +157,6 @@ region_named d n first found claim = subst (λ (s : Seat). first + n ≤ s.profi
 pub room_named : {σ σ1 : Standing} (d : Directory) (n k : ℕ) {found result : Option ℕ} (claim : ClaimsNamed d n found σ σ1 result) (spare spare1 : ℕ) → CanCall σ (FindRoom σ.seat.profile d k spare) → Spares σ spare → Spares σ1 spare1 → k ≤ spare1
 room_named d n k claim spare spare1 can law law1 = let room = room_after {spare = spare} {spare' = spare1} k claim.adds (may_find can) claim.shows can.met.room law law1 in omega (arith, room)
 
--- the actor may find a run again
-pub find_again : (f : Profile) (d : Directory) (v : View) (xs : List Made) → MayFind d v → Agreed f v xs → Does nothing v (xs ++ v) → MayFind d (xs ++ v)
-find_again f d v xs met agreed does = record { lacks = λ p knows. does.right p ∙ met.lacks p (knew_before f d p xs v agreed knows); clear = still_clear does met.clear }
-
 pub can_scan : {σ σ1 : Standing} (d : Directory) (n k : ℕ) {found : Option ℕ} (claim : ClaimsNamed d n found σ σ1 None) (spare spare1 : ℕ) → CanCall σ (FindRoom σ.seat.profile d k spare) → Spares σ spare → Spares σ1 spare1 → CanCall σ1 (FindRoom σ1.seat.profile d k spare1)
 can_scan {σ} {σ1} d n k claim spare spare1 can law law1 =
     let xs = claim.steps in let met = can.met.may in
@@ -166,8 +171,24 @@ can_scan {σ} {σ1} d n k claim spare spare1 can law law1 =
       });
     }
 
-pub serves_named : {σ σ1 σ2 : Standing} (heap n first : ℕ) (found : Option ℕ) (tells : Bool) (claim : ClaimsNamed (large_directory heap) n found σ σ1 (Some first)) (block : Block) → GivesRun (large_directory heap) first n block σ1 σ2 → AllocatesLarge heap n found tells σ σ2 (Ok block)
-serves_named heap n first found tells claim block give =
+-- on a desk that tells the whole state its pages were whole at entry
+named_whole : {σ σ1 : Standing} (d : Directory) (n first : ℕ) (found : Option ℕ) (claim : ClaimsNamed d n found σ σ1 (Some first)) → IsValid σ.seat.profile → IsKind d.kind → (v : View) (l : Whole) → part σ.seat.actor l ≡ v → MayFind d v → Agreed σ.seat.profile v claim.steps
+    → Legal σ.seat.profile (triples σ.seat.actor claim.steps ++ l) → IsNamedWhole σ.seat.profile d n l found first
+named_whole {σ} d n first found claim valid kind v l own met agreed legal =
+    let got = claim.outcome.got.from v met agreed in
+    record {
+      named = claim.outcome.named;
+      of_region = claim.outcome.of_region;
+      whole = λ p here.
+          let is = span_in first (first + n) p here.0 here.1 in
+          got_whole σ.seat.profile σ.seat.actor l d p valid kind (subst (MayFind d) (sym own) met) claim.steps legal claim.old claim.returns (claim.outcome.of p is)
+          (λ g at. ap (λ u. holds u g) own ∙ got.apart g (ap (in_span first (first + n)) at ∙ is))
+          (λ word lt. once_map (TakenWholeHere p word) (WholeHere p word) claim.steps (λ m b h. h.0) (since_once (TakenWholeHere p word) (KeptHere p) claim.steps (claim.outcome.holding.whole p word here.0 here.1 lt)));
+    }
+
+pub serves_named : {σ σ1 σ2 : Standing} (heap n first : ℕ) (found : Option ℕ) (tells : Bool) (claim : ClaimsNamed (large_directory heap) n found σ σ1 (Some first)) (block : Block) → IsValid σ.seat.profile → (tells ≡ true → Tells σ2)
+    → (tells ≡ true → (v : View) (l : Whole) → σ.stands v l → part σ.seat.actor l ≡ v) → GivesRun (large_directory heap) first n block σ1 σ2 → AllocatesLarge heap n found tells σ σ2 (Ok block)
+serves_named {σ} heap n first found tells claim block valid laws parts give =
     let d = large_directory heap in
     let calls = call_then (GaveLarge d first n block) (named_call d n first found claim) give.calls (named_pages d n first found claim)
     (λ v met got gave. record { does = undone (λ g. in_span first (first + n) (g / 256)) (in_span first (first + n)) got.apart got.lacked got.does gave.does; apart = got.apart; deeds = gave.deeds; turn = gave.turn }) in
@@ -181,7 +202,13 @@ serves_named heap n first found tells claim block give =
       returns = claim.returns;
       shows = claim.shows;
       few = omega (arith, k, a, b, most);
-      told = λ none. absurd (some_none first found claim.outcome.named none);
+      told = λ t v l stood met. record {
+        served = λ other is.
+            let same : first ≡ other = let both = sym claim.outcome.named ∙ is.named in cc in
+            (block, refl, ap (λ (b : Block). address_of b.name) give.block_is ∙ ap (λ x. x * 4096) same, omega (arith, k, a, b));
+        otherwise = λ none. absurd (none first (named_whole d n first found claim valid tt v l (parts t v l stood) met (claim.adds.agreed v l stood met)
+            (legal_earlier σ.seat.profile σ.seat.actor _ claim.steps l (legal_after calls.adds (laws t) v l stood met))));
+      };
       outcome = inl (
         block,
         refl,
@@ -206,26 +233,90 @@ serves_named heap n first found tells claim block give =
       );
     }
 
-pub scans_after : {σ σ1 σ2 : Standing} (heap n : ℕ) (found : Option ℕ) (tells : Bool) (claim : ClaimsNamed (large_directory heap) n found σ σ1 None) (answer : Result Block NoRoom) → AllocatesByScan heap n tells σ1 σ2 answer → AllocatesLarge heap n found tells σ σ2 answer
-scans_after {σ} {σ1} heap n found tells claim answer scan =
+-- ---- the scan, after what was tried
+gave_after : {d : Directory} {first n : ℕ} {block : Block} {v u w : View} → Does nothing v u → GaveLarge d first n block u w → GaveLarge d first n block v w
+gave_after does gave = record { does = does_then does gave.does; apart = λ g here. sym (does.held g) ∙ gave.apart g here; deeds = gave.deeds; turn = gave.turn }
+
+module _ {σ σ1 : Standing} (heap n : ℕ) (found : Option ℕ) (claim : ClaimsNamed (large_directory heap) n found σ σ1 None) where
+  abbrev d : Directory
+  d = large_directory heap
+
+  abbrev f : Profile
+  f = σ.seat.profile
+
+  abbrev tried : List Made
+  tried = claim.steps
+
+  module _ (v : View) (searched after : List Made) (agreed : Agreed f v ((after ++ searched) ++ tried)) where
+    at : (after ++ searched) ++ tried ≡ after ++ (searched ++ tried)
+    at = append_assoc after searched tried
+
+    search_agreed : Agreed f v (searched ++ tried)
+    search_agreed = agreed_later f v after (searched ++ tried) (subst (Agreed f v) at agreed)
+
+    -- what the scan's steps show all steps of the call do
+    whole_call : (answer : Result Block NoRoom) → MatchResult answer (IsAllocatedLarge f d n searched after) (IsRefusedLarge f d n searched after) → MatchResult answer (IsAllocatedLarge f d n (searched ++ tried) after) (IsRefusedLarge f d n (searched ++ tried) after)
+    whole_call (Ok block) is = record {
+      first = is.first;
+      found = found_run f d n tried searched claim.old claim.outcome.left claim.outcome.still v search_agreed is.first is.found;
+      backs = is.backs;
+      back_kinds = is.back_kinds;
+      back_pages = is.back_pages;
+      back_order = is.back_order;
+      back_few = is.back_few;
+      word = is.word;
+      answer = is.answer;
+      block_is = is.block_is;
+      left = is.left;
+      left_kinds = is.left_kinds;
+      left_order = is.left_order;
+      after_is = is.after_is;
+      few = is.few;
+      gave = subst (Leads f (MayFind d) (GaveLarge d is.first n block)) at (after_still d (after ++ searched) tried (λ v u w does gave. gave_after does gave) claim.outcome.still is.gave);
+    }
+    whole_call (Err why) is = record {
+      found = found_none f d n tried searched claim.old claim.outcome.left claim.outcome.still v search_agreed is.found;
+      scans = is.scans;
+      few = is.few;
+      reason = subst (λ xs. IsReason f d xs why) at (reason_before d tried claim.outcome.lacks f (after ++ searched) why is.reason);
+      still = subst (Leads f (MayFind d) (Does nothing)) at (after_still d (after ++ searched) tried (λ v u w a b. does_then a b) claim.outcome.still is.still);
+    }
+
+pub scans_after : {σ σ1 σ2 : Standing} (heap n : ℕ) (found : Option ℕ) (tells : Bool) (claim : ClaimsNamed (large_directory heap) n found σ σ1 None) → CanCall σ (MayFind (large_directory heap)) → IsValid σ.seat.profile → (tells ≡ true → Tells σ2)
+    → (tells ≡ true → (v : View) (l : Whole) → σ.stands v l → part σ.seat.actor l ≡ v) → (answer : Result Block NoRoom) → AllocatesByScan heap n tells σ1 σ2 answer → AllocatesLarge heap n found tells σ σ2 answer
+scans_after {σ} {σ1} heap n found tells claim can valid laws parts answer scan =
     let d = large_directory heap in
     let same : σ1.seat.profile ≡ σ.seat.profile = ap (λ (s : Seat). s.profile) claim.adds.seat_is in
     let k = length-append (scan.after ++ scan.searched) claim.steps in let a = scan.few in let b = claim.outcome.few in let e = ap (λ (x : Profile). x.pages) same in
+    let adds = adds_call claim.adds scan.adds (λ v l stood met. let agreed = claim.adds.agreed v l stood met in find_again σ.seat.profile d v claim.steps met agreed (claim.outcome.still.from v met agreed)) in
+    let own = subst (λ f. MatchResult answer (IsAllocatedLarge f d n scan.searched scan.after) (IsRefusedLarge f d n scan.searched scan.after)) same scan.outcome in
     record {
       tried = claim.steps;
       rest = scan.after ++ scan.searched;
-      adds = adds_call claim.adds scan.adds (λ v l stood met. let agreed = claim.adds.agreed v l stood met in find_again σ.seat.profile d v claim.steps met agreed (claim.outcome.still.from v met agreed));
+      adds = adds;
       old = claim.old;
       returns = claim.returns;
       shows = claim.shows;
       few = omega (arith, k, a, b, e);
-      told = λ none t v l stood met.
-          let no_steps = claim.outcome.unnamed none in
-          let stands = subst (λ xs. σ1.stands (xs ++ v) (triples σ.seat.actor xs ++ l)) no_steps (claim.adds.added v l stood met) in
-          let told = scan.told t v l stands met in
-          subst (λ xs. IsToldLarge σ.seat.profile d n l (triples σ.seat.actor ((scan.after ++ scan.searched) ++ xs) ++ l) answer) (sym no_steps)
-          (subst (λ xs. IsToldLarge σ.seat.profile d n l (triples σ.seat.actor xs ++ l) answer) (sym (append-nil (scan.after ++ scan.searched)))
-          (subst (λ (s : Seat). IsToldLarge s.profile d n l (triples s.actor (scan.after ++ scan.searched) ++ l) answer) claim.adds.seat_is told));
+      told = λ t v l stood met.
+          let f = σ.seat.profile in let actor = σ.seat.actor in let tried = claim.steps in let rest = scan.after ++ scan.searched in
+          let own = parts t v l stood in
+          let agreed = claim.adds.agreed v l stood met in
+          let does = claim.outcome.still.from v met agreed in
+          let at_entry : MayFind d (part actor l) = subst (MayFind d) (sym own) met in
+          let still : Does nothing (part actor l) (tried ++ part actor l) = subst (λ u. Does nothing u (tried ++ u)) (sym own) does in
+          let legal : Legal f (triples actor tried ++ l) = legal_earlier f actor rest tried l (legal_after adds (laws t) v l stood met) in
+          record {
+            served = λ first is. let miss = claim.outcome.missed first is.named is.of_region.0 is.of_region.1 in
+                absurd (never_missed f actor l d miss.0 valid tt at_entry tried legal claim.old (is.whole miss.0 miss.1) miss.2);
+            otherwise = λ none.
+                let w : Whole = triples actor tried ++ l in
+                let told = scan.told t (tried ++ v) w (claim.adds.added v l stood met) (find_again f d v tried met agreed does) in
+                told_earlier f d n l w (triples actor (rest ++ tried) ++ l)
+                (λ p. usable_later f actor l d p valid tt at_entry tried legal claim.old claim.returns (claim.outcome.left p) still)
+                (λ p. usable_earlier f actor l d p valid tt at_entry tried legal claim.old claim.returns (claim.outcome.left p) still) answer
+                (subst (λ x. IsToldLarge f d n w x answer) (triples_append actor rest tried l) (subst (λ (s : Seat). IsToldLarge s.profile d n w (triples s.actor rest ++ w) answer) claim.adds.seat_is told));
+          };
       outcome = inr (record {
         misses = claim.outcome;
         searched = scan.searched;
@@ -234,6 +325,8 @@ scans_after {σ} {σ1} heap n found tells claim answer scan =
         kinds = scan.kinds;
         returns = scan.returns;
         shows = subst (λ f. OnlyDeedsShow f scan.searched) same scan.shows;
-        outcome = subst (λ f. MatchResult answer (IsAllocatedLarge f d n scan.searched scan.after) (IsRefusedLarge f d n scan.searched scan.after)) same scan.outcome;
+        looked = λ why is. subst (λ f. LooksAlone f d scan.searched) same (scan.looked why is);
+        own = own;
+        outcome = whole_call heap n found claim can.view scan.searched scan.after (adds.agreed can.view can.whole can.stood can.met) answer own;
       });
     }

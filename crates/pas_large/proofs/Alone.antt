@@ -28,7 +28,7 @@ use Rattle.pas_search.specs.Telling.{IsInHands, IsTrueReason}
 use Rattle.pas_large.specs.Allocates.{IsRefusedLarge, IsServedNamed, IsScanned, AllocatesLarge}
 use Rattle.pas_large.specs.Alone.{FindsTheRunThereIs}
 use Rattle.pas_large.specs.Evidence.{BadHere, IsVain}
-use Rattle.pas_large.specs.Finds.{MayFind}
+use Rattle.pas_large.specs.Finds.{MayFind, LooksAlone}
 use Rattle.pas_large.specs.Telling.{HasNoUsableRun}
 use Rattle.pas_large.proofs.Allocates.{scans_only}
 use Rattle.pas_large.proofs.Told.{once_of, unusable_here}
@@ -54,15 +54,23 @@ no_run f k l d n steps legal only vain first low le usable =
     ]) bad.2
 
 -- ---- the refusal is true
-module _ (f : Profile) (k : ℕ) (l : Whole) (d : Directory) (n : ℕ) (searched after : List Made) (why : NoRoom) (valid : IsValid f) (is : IsRefusedLarge f d n searched after why) (legal : Legal f (triples k (after ++ searched) ++ l)) (met : MayFind d (part k l)) where
+-- the scan found no run, and where no other actor made a step meanwhile it made looks alone
+pub record IsRefusedByScan (f : Profile) (d : Directory) (n : ℕ) (searched after : List Made) (why : NoRoom) : Type 0 where
+  pub is : IsRefusedLarge f d n searched after why
+  pub alone : LooksAlone f d searched
+
+module _ (f : Profile) (k : ℕ) (l : Whole) (d : Directory) (n : ℕ) (searched after : List Made) (why : NoRoom) (valid : IsValid f) (refused : IsRefusedByScan f d n searched after why) (legal : Legal f (triples k (after ++ searched) ++ l)) (met : MayFind d (part k l)) where
   abbrev w : Whole
   w = triples k (after ++ searched) ++ l
+
+  abbrev is : IsRefusedLarge f d n searched after why
+  is = refused.is
 
   before : Legal f (triples k searched ++ l)
   before = legal_earlier f k after searched l legal
 
   looked : Only looking searched
-  looked = is.found.looked k l before met
+  looked = refused.alone k l before met
 
   only : Only looking (after ++ searched)
   only = only_both looking after searched (scans_only after is.scans) looked
@@ -94,9 +102,9 @@ module _ (f : Profile) (k : ℕ) (l : Whole) (d : Directory) (n : ℕ) (searched
 
 -- ---- the whole request, where the door named no run
 -- nothing was tried before the scan then
-pub scanned : (f : Profile) (d : Directory) (n : ℕ) (tried rest : List Made) (why : NoRoom) → IsServedNamed f d n None tried rest (Err why) ⊎ IsScanned f d n None tried rest (Err why) → (searched : List Made) × (after : List Made) × IsRefusedLarge f d n searched after why × (rest ++ tried ≡ after ++ searched)
+pub scanned : (f : Profile) (d : Directory) (n : ℕ) (tried rest : List Made) (why : NoRoom) → IsServedNamed f d n None tried rest (Err why) ⊎ IsScanned f d n None tried rest (Err why) → (searched : List Made) × (after : List Made) × IsRefusedByScan f d n searched after why × (rest ++ tried ≡ after ++ searched)
 scanned f d n tried rest why (inl served) = absurd (let bad : Err why ≡ Ok served.0 = served.1 in cc)
-scanned f d n tried rest why (inr is) = (is.searched, is.after, is.outcome, ap (λ xs. rest ++ xs) (is.misses.unnamed refl) ∙ append-nil rest ∙ is.rest_is)
+scanned f d n tried rest why (inr is) = (is.searched, is.after, record { is = is.own; alone = is.looked why refl }, ap (λ xs. rest ++ xs) (is.misses.unnamed refl) ∙ append-nil rest ∙ is.rest_is)
 
 large_of : (f : Profile) (heap : ℕ) → heap < f.heaps → IsDirectoryOf f (large_directory heap)
 large_of f heap lt = record { heap = lt; kind = tt; class = tt }
@@ -107,7 +115,7 @@ request_alone {σ} heap n tells answer call l valid lt legal met =
     let f = σ.seat.profile in
     let k = σ.seat.actor in
     let d = large_directory heap in
-    let refused : (why : NoRoom) → answer ≡ Err why → (searched : List Made) × (after : List Made) × IsRefusedLarge f d n searched after why × (call.rest ++ call.tried ≡ after ++ searched)
+    let refused : (why : NoRoom) → answer ≡ Err why → (searched : List Made) × (after : List Made) × IsRefusedByScan f d n searched after why × (call.rest ++ call.tried ≡ after ++ searched)
     = λ why is. scanned f d n call.tried call.rest why (subst (λ a. IsServedNamed f d n None call.tried call.rest a ⊎ IsScanned f d n None call.tried call.rest a) is call.outcome) in
     record {
       none_usable = λ why is. let r = refused why is in no_run_before f k l d n r.0 r.1 why valid r.2 (subst (λ xs. Legal f (triples k xs ++ l)) r.3 legal) met;

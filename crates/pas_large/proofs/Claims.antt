@@ -1,7 +1,7 @@
 -- The claim of the pages of a run, one page more, and how they are left.
 use Rattle.pas_steps.specs.Clear.{IsClear}
 use Rattle.pas_steps.proofs.SpareRoom.{Spares, spare_falls}
-use Rattle.std.proofs.Common.{◌≡◌, ◌≢◌, ℕ, ◌+◌, ◌/◌, ◌-◌, ◌<◌, ◌≤◌, ◌==◌, ◌*◌, min, nat_le, nat_lt, Bool, true, false, ◌||◌, if◌then◌else◌, List, [], ◌∷◌, ◌++◌, inl, inr, refl, ap, sym, ◌∙◌, arith, true≢false, length, subst, append_assoc, length-append, Some, None}
+use Rattle.std.proofs.Common.{◌≡◌, ◌≢◌, ℕ, ◌+◌, ◌/◌, ◌-◌, ◌<◌, ◌≤◌, ◌==◌, ◌*◌, min, nat_le, nat_lt, Bool, true, false, ◌||◌, if◌then◌else◌, List, [], ◌∷◌, ◌++◌, inl, inr, refl, ap, sym, ◌∙◌, arith, true≢false, length, subst, append_assoc, length-append, append-nil, Some, None}
 use Rattle.std.proofs.lemmas.Bool.{and_parts, cases_Bool, cases_eq, eqb-true}
 use Rattle.std.proofs.lemmas.Bool.Decides.{nat_tests}
 use Rattle.pas_profile.specs.declared.directory.Directory.{Directory}
@@ -10,20 +10,21 @@ use Rattle.pas_steps.specs.Frames.{IsOnPage, OnlyOn}
 use Rattle.pas_steps.specs.Past.{Once, Always, Since}
 use Rattle.pas_steps.specs.Evidence.{KeptHere, GetsHere}
 use Rattle.pas_steps.specs.Views.{View, Stays, grain_move, held_after, holds, has_right, KnowsDeed}
-use Rattle.pas_steps.specs.declared.step.Step.{Step}
 use Rattle.pas_steps.specs.declared.step.Made.{Made}
-use Rattle.pas_steps.specs.declared.step.Step.TheVariants.{Deed, Park}
+use Rattle.pas_steps.specs.declared.step.Step.TheVariants.{Deed}
 use Rattle.pas_steps.proofs.Calls.{does_as, does_then, does_after_nothing, does_none}
 use Rattle.pas_steps.proofs.Kept.{right_on, on_grain, holds_on_page, knows_still}
 use Rattle.pas_steps.proofs.Past.{always_both, always_map, once_later, once_earlier}
 use Rattle.pas_steps.proofs.Sets.{both_fates}
-use Rattle.pas_scan.specs.Usable.{ParksNotHere, MakesNoDeedHere, LeftAlone}
+use Rattle.pas_scan.specs.Runs.{page_looks}
+use Rattle.pas_scan.specs.Usable.{LeftAlone}
 use Rattle.pas_large.specs.Pages.{of_pages, GotPages, MayClaim, DeedsOn, OnlyDeedsShow, claiming, claiming_old, LosesPage, BreaksPage, WinsPage, ClaimsPage}
 use Rattle.pas_large.specs.Claims.{in_span, MayClaimPages, HasRunRoom, AloneFrom, DeedsIn, HoldsSpan, FailsAt, ClaimsPages, HasPages, Releases, ClaimsRun, LacksAll, StaysPut}
 use Rattle.pas_search.specs.Kinds.{IsReturnOf, ReturnsDuly}
 use Rattle.pas_search.proofs.Returns.{duly_both, duly_in, return_page}
 use Rattle.pas_rights.proofs.Hints.{put_and_leave_due}
 use Rattle.pas_large.proofs.Pages.{DeedsFrom, from_on, from_none, rise_none, rise_both, MadeHere, since_more, undone, no_deeds, knew_before, shows_both, shows_taking, after_more}
+use Rattle.pas_profile.specs.Directories.{IsDirectory}
 use Rattle.pas_profile.specs.declared.profile.Profile.{Profile}
 use Rattle.pas_rights.specs.Puts.{masked}
 use Rattle.pas_rights.specs.PutsBack.{giving_back, taking_grains, GivesDuly, MayPutAndLeave, PutsAndLeaves}
@@ -36,9 +37,10 @@ use Rattle.pas_steps.specs.Unknown.{unknown_pages}
 use Rattle.pas_steps.proofs.Adding.{adds_none, adds_call, can_call, agreed_first, agreed_later, adds_under}
 use Rattle.pas_steps.proofs.Apart.{only_both, only_within}
 use Rattle.pas_steps.proofs.Called.{call_none, call_then, next_call, call_as}
-use Rattle.pas_scan.proofs.LeftPages.{usable_later, holds_own}
-use Rattle.pas_large.specs.Evidence.{LostHere, BrokenHere, TakenWholeHere, DeedsBelow}
+use Rattle.pas_scan.proofs.LeftPages.{usable_later, left_alone_by, holds_own}
+use Rattle.pas_large.specs.Evidence.{LostHere, BrokenHere, TakenWholeHere, DeedsBelow, MissedHere, GotOf, LeftOrBroken}
 use Rattle.pas_large.specs.declared.claiming.Claimed.{Claimed}
+use Rattle.pas_large.proofs.Left.{parks_both, deeds_both, OffPage, off_on, off_parks, off_deeds, left_of_alone, left_off, got_off, left_before, got_before, missed_before, left_hints, released}
 
 -- ---- pages from one to below another, one page more, and what becomes of them
 pub span_in : (first stop p : ℕ) → first ≤ p → p < stop → in_span first stop p ≡ true
@@ -115,21 +117,17 @@ pub narrower : (first stop end p : ℕ) → stop ≤ end → in_span first end p
 narrower first stop end p le out = grind (arith, nat_tests)
 
 -- ---- steps on one page leave another alone
-not_parked : (q p : ℕ) (s : Step) → p ≢ q → IsOnPage q s → s ≡ Park p → ⊥
-not_parked q p s ne IsOnPage.Parks e = let same : q ≡ p = cc in ne (sym same)
-not_parked q p s ne on e = cc
-
-not_deeded : (q p : ℕ) (s : Step) (x : Directory) → p ≢ q → IsOnPage q s → s ≡ Deed p x → ⊥
-not_deeded q p s x ne (IsOnPage.Deeds d) e = let same : q ≡ p = cc in ne (sym same)
-not_deeded q p s x ne on e = cc
-
 pub alone_on : (q p : ℕ) (ys xs : List Made) → OnlyOn q ys → p ≢ q → LeftAlone p xs → LeftAlone p (ys ++ xs)
 alone_on q p ys xs on ne alone = record {
   right = right_on q p ys xs on ne ∙ alone.right;
   none = λ g at. holds_on_page q g ys xs on (λ e. ne (sym at ∙ e)) ∙ alone.none g at;
-  parks = always_both (λ m before. IsOnPage q m.step) (ParksNotHere p) ys xs (λ m before h e. not_parked q p m.step ne h e) on alone.parks;
-  deeds = always_both (λ m before. IsOnPage q m.step) (MakesNoDeedHere p) ys xs (λ m before h x e z. not_deeded q p m.step x ne h e) on alone.deeds;
+  parks = parks_both p ys xs (off_parks p ys (off_on q p ys ne on)) alone.parks;
+  deeds = deeds_both p ys xs (off_deeds p ys (off_on q p ys ne on)) alone.deeds;
 }
+
+-- nothing was done yet
+pub alone_at_first : (first : ℕ) → AloneFrom first []
+alone_at_first first p low = left_alone_by page_looks refl refl p [] tt
 
 -- ---- the claim of the pages of a run, one page more
 pub claims_fewer : (d : Directory) (first stop end : ℕ) → stop ≤ end → (v : View) → MayClaimPages d first end v → MayClaimPages d first stop v
@@ -176,6 +174,9 @@ pages_none deeds d first = record {
     alone = λ before alone p ge. alone p (omega (arith, ge));
     steady = λ g out. tt;
     failed = λ lt may. absurd (omega (arith, lt));
+    missed = λ lt bare. absurd (omega (arith, lt));
+    of = λ bare p is. absurd (true≢false (sym is ∙ span_none first p));
+    left = λ bare p out. left_of_alone d p [] (left_alone_by page_looks refl refl p [] tt);
   };
 }
 
@@ -233,8 +234,9 @@ module _ {σ σ1 : Standing} (deeds : Bool) (d : Directory) (first end page : �
     turn_alone before free p ge = subst (LeftAlone p) (sym (all_at before)) (alone_on page p ys (xs ++ before) h.on (λ e. absurd (omega (arith, e, ge))) (below.alone before free p (omega (arith, ge))))
 
     turned : (stop : ℕ) → (page ≤ stop) × (stop ≤ end) → Leads σ.seat.profile (MayClaimPages d first end) (GotPages (in_span first stop) d) (ys ++ xs) → ((before : List Made) → AloneFrom first before → HoldsSpan first stop ((ys ++ xs) ++ before))
-        → ((before : List Made) → LacksAll before → (p : ℕ) → in_span first stop p ≡ false → has_right ((ys ++ xs) ++ before) p ≡ false) → (stop < end → deeds ≡ true → FailsAt σ.seat.profile d first stop (ys ++ xs)) → length ys ≤ 6 * (stop - page) + 21 * (min (stop + 1) end - stop) → ((p : ℕ) → first ≤ p → p < stop → Once (GetsHere p) (ys ++ xs)) → ClaimsPages deeds d first end σ σ2 stop
-    turned stop at got holding lacks failed few gets = let low = so_far.span.0 in let above = at.0 in record {
+        → ((before : List Made) → LacksAll before → (p : ℕ) → in_span first stop p ≡ false → has_right ((ys ++ xs) ++ before) p ≡ false) → (stop < end → deeds ≡ true → FailsAt σ.seat.profile d first stop (ys ++ xs)) → length ys ≤ 6 * (stop - page) + 21 * (min (stop + 1) end - stop) → ((p : ℕ) → first ≤ p → p < stop → Once (GetsHere p) (ys ++ xs))
+        → (stop < end → deeds ≡ false → Once (MissedHere d stop) (ys ++ xs)) → (deeds ≡ false → (p : ℕ) → in_span first stop p ≡ true → GotOf d p (ys ++ xs)) → (deeds ≡ false → (p : ℕ) → in_span first stop p ≡ false → LeftOrBroken d p (ys ++ xs)) → ClaimsPages deeds d first end σ σ2 stop
+    turned stop at got holding lacks failed few gets missed of left = let low = so_far.span.0 in let above = at.0 in record {
       steps = ys ++ xs;
       adds = adds_call {D = MayClaim d page} so_adds h.adds (λ v l stood met. page_may v met (so_adds.agreed v l stood met));
       kinds = only_both claiming ys xs h.kinds so_far.kinds;
@@ -252,7 +254,23 @@ module _ {σ σ1 : Standing} (deeds : Bool) (d : Directory) (first end page : �
       alone = λ before free p ge. turn_alone before free p (omega (arith, ge, above, high));
       steady = λ g out. steady_both g ys xs (steady_on page g ys h.on (out_of first end (g / 256) page out low high)) (so_far.steady g (narrower first page end (g / 256) (omega (arith, high)) out));
       failed = failed;
+      missed = missed;
+      of = of;
+      left = left;
     }
+
+    -- the page was left alone until now, and the others are since
+    page_alone : LeftAlone page xs
+    page_alone = subst (LeftAlone page) (append-nil xs) (below.alone [] (alone_at_first first) page (omega arith))
+
+    others_off : (p : ℕ) → p ≢ page → OffPage p ys
+    others_off p ne = off_on page p ys ne h.on
+
+    others_of : deeds ≡ false → (p : ℕ) → in_span first page p ≡ true → GotOf d p (ys ++ xs)
+    others_of bare p is = let lt = (in_parts first page p is).1 in got_off d p ys xs (others_off p (λ e. absurd (omega (arith, e, lt)))) (so_far.of bare p is)
+
+    others_left : deeds ≡ false → (p : ℕ) → p ≢ page → in_span first page p ≡ false → LeftOrBroken d p (ys ++ xs)
+    others_left bare p ne out = left_off d p ys xs (others_off p ne) (so_far.left bare p out)
 
     others_held : (before : List Made) → AloneFrom first before → HoldsSpan first page ((ys ++ xs) ++ before)
     others_held before free = let old = so_far.holding before free in record {
@@ -261,8 +279,8 @@ module _ {σ σ1 : Standing} (deeds : Bool) (d : Directory) (first end page : �
     }
 
     -- it was lost or broken
-    stopped : Leads σ.seat.profile (MayClaim d page) (Does nothing) h.steps → ((before : List Made) → has_right before page ≡ false → has_right (h.steps ++ before) page ≡ false) → (deeds ≡ true → FailsAt σ.seat.profile d first page (h.steps ++ so_far.steps)) → ClaimsPages deeds d first end σ σ2 page
-    stopped still lack failed = turned page (omega arith, omega (arith, high))
+    stopped : Leads σ.seat.profile (MayClaim d page) (Does nothing) h.steps → ((before : List Made) → has_right before page ≡ false → has_right (h.steps ++ before) page ≡ false) → (deeds ≡ true → FailsAt σ.seat.profile d first page (h.steps ++ so_far.steps)) → (deeds ≡ false → LeftOrBroken d page h.steps) → (deeds ≡ false → Once (MissedHere d page) h.steps) → ClaimsPages deeds d first end σ σ2 page
+    stopped still lack failed left missed = turned page (omega arith, omega (arith, high))
         (record {
           from = λ v met agreed.
               let mine = agreed_later σ.seat.profile v ys xs agreed in let next = agreed_first σ.seat.profile v ys xs agreed in
@@ -276,21 +294,24 @@ module _ {σ σ1 : Standing} (deeds : Bool) (d : Directory) (first end page : �
         (λ lt. failed)
         (let few = h.few in omega (arith, few, high))
         (λ p ge lt. once_later (GetsHere p) ys xs (so_far.gets p ge lt))
+        (λ lt bare. missed_before d page ys xs page_alone (missed bare))
+        others_of
+        (λ bare p out. elim (cases_eq p page) [ inl e ↦ subst (λ q. LeftOrBroken d q (ys ++ xs)) (sym e) (left_before d page ys xs page_alone (left bare)) | inr ne ↦ others_left bare p ne out ])
 
     pub lost_turn : LosesPage deeds σ1.seat.profile d page h.steps → ClaimsPages deeds d first end σ σ2 page
     lost_turn lost =
         let loses = subst (λ (s : Seat). LosesPage deeds s.profile d page ys) so_adds.seat_is lost in
-        stopped loses.still loses.lacks (λ may before v free usable agreed. inl (after_more (LostHere d page) ys xs before (loses.lost may (xs ++ before) v (below.alone before free page (omega arith)) (usable_later d page xs before usable) (subst (Agreed σ.seat.profile v) (all_at before) agreed))))
+        stopped loses.still loses.lacks (λ may before v free usable agreed. inl (after_more (LostHere d page) ys xs before (loses.lost may (xs ++ before) v (below.alone before free page (omega arith)) (usable_later d page xs before usable) (subst (Agreed σ.seat.profile v) (all_at before) agreed)))) (λ bare. left_of_alone d page ys loses.alone) loses.missed
 
-    pub broken_turn : BreaksPage σ1.seat.profile d page h.steps → ClaimsPages deeds d first end σ σ2 page
+    pub broken_turn : BreaksPage deeds σ1.seat.profile d page h.steps → ClaimsPages deeds d first end σ σ2 page
     broken_turn broken =
-        let breaks = subst (λ (s : Seat). BreaksPage s.profile d page ys) so_adds.seat_is broken in
-        stopped breaks.still breaks.lacks (λ may before v free usable agreed. inr (after_more (BrokenHere page) ys xs before (breaks.broken (xs ++ before) (below.alone before free page (omega arith)))))
+        let breaks = subst (λ (s : Seat). BreaksPage deeds s.profile d page ys) so_adds.seat_is broken in
+        stopped breaks.still breaks.lacks (λ may before v free usable agreed. inr (after_more (BrokenHere page) ys xs before (breaks.broken (xs ++ before) (below.alone before free page (omega arith))))) breaks.left breaks.missed
 
     -- it was won
-    won_claims : end ≡ page + 1 → WinsPage σ1.seat.profile d page h.steps → ClaimsPages deeds d first end σ σ2 (page + 1)
+    won_claims : end ≡ page + 1 → WinsPage deeds σ1.seat.profile d page h.steps → ClaimsPages deeds d first end σ σ2 (page + 1)
     won_claims last won =
-        let wins = subst (λ (s : Seat). WinsPage s.profile d page ys) so_adds.seat_is won in let low = so_far.span.0 in
+        let wins = subst (λ (s : Seat). WinsPage deeds s.profile d page ys) so_adds.seat_is won in let low = so_far.span.0 in
         turned (page + 1) (omega arith, omega (arith, high))
         (record {
           from = λ v met agreed.
@@ -315,6 +336,12 @@ module _ {σ σ1 : Standing} (deeds : Bool) (d : Directory) (first end page : �
           | inl e ↦ subst (λ q. Once (GetsHere q) (ys ++ xs)) (sym e) (once_earlier (GetsHere page) (GetsHere page) ys xs (λ m before gets. gets) wins.gets)
           | inr ne ↦ once_later (GetsHere p) ys xs (so_far.gets p ge (omega (arith, lt, ne)))
         ])
+        (λ lt. absurd (omega (arith, lt, last)))
+        (λ bare p is. elim (cases_eq p page) [
+          | inl e ↦ subst (λ q. GotOf d q (ys ++ xs)) (sym e) (got_before d page ys xs page_alone (wins.of bare))
+          | inr ne ↦ let at = in_parts first (page + 1) p is in let ge = at.0 in let lt = at.1 in others_of bare p (span_in first page p ge (omega (arith, lt, ne)))
+        ])
+        (λ bare p out. others_left bare p (not_in first page p low out) (narrower first page (page + 1) p (omega arith) out))
 
 pub won_turn : {σ σ1 σ2 : Standing} (deeds : Bool) (d : Directory) (first page : ℕ) → ClaimedBelow deeds d first page σ σ1 → (h : ClaimsPage deeds d page σ1 σ2 Claimed.Whole) → ClaimedBelow deeds d first (page + 1) σ σ2
 unfolding won_claims turned
@@ -351,7 +378,10 @@ left_none d first = record {
   calls = call_none (λ v met. does_as (of_pages (in_span first first) Lost) (does_none v) (λ g. inl (ap (λ t. if t then Lost else Kept) (sym (span_none first (g / 256))))) (λ q. ap (λ t. if t then Lost else Kept) (sym (span_none first q))) (λ q h. h));
   kinds = tt;
   within = tt;
+  hints = tt;
+  on = tt;
   due = λ before held all. all;
+  left = λ before p is. absurd (true≢false (sym is ∙ span_none first p));
   few = omega arith;
   lacks = λ before p none. none (span_none first p);
   alone = λ before p ge alone. alone;
@@ -377,11 +407,17 @@ module _ {σ σ1 : Standing} (d : Directory) (first end page : ℕ) (low : first
   pub leave_call : CanCall σ (HasPages d first end) → CanCall σ1 (MayPutAndLeave page d (masked page full))
   leave_call can = next_call known can leave_may
 
+abbrev OnSpan : ℕ → ℕ → Made → List Made → Type 0
+OnSpan first end m before = (p : ℕ) × (in_span first end p ≡ true) × IsOnPage p m.step
+
+off_span : (first end p : ℕ) (ys : List Made) → in_span first end p ≡ false → Always (OnSpan first end) ys → OffPage p ys
+off_span first end p ys out = always_map (OnSpan first end) (λ m before. (q : ℕ) × (p ≢ q) × IsOnPage q m.step) ys (λ m before on. (on.0, (λ e. true≢false (sym on.1 ∙ ap (in_span first end) (sym e) ∙ out)), on.2))
+
 abbrev ReturnsHere : (ℕ → Bool) → Made → List Made → Type 0
 ReturnsHere pages m before = (p : ℕ) → IsReturnOf p m.step → pages p ≡ true
 
-pub left_more : {σ σ1 σ2 : Standing} (d : Directory) (first page : ℕ) → first ≤ page → Releases d first page σ σ1 → PutsAndLeaves page d full σ1 σ2 → Releases d first (page + 1) σ σ2
-left_more d first page low so_far h =
+pub left_more : {σ σ1 σ2 : Standing} (d : Directory) → IsDirectory d → (first page : ℕ) → first ≤ page → Releases d first page σ σ1 → PutsAndLeaves page d full σ1 σ2 → Releases d first (page + 1) σ σ2
+left_more d directory first page low so_far h =
     let ys = h.after ++ h.puts in
     record {
       steps = ys ++ so_far.steps;
@@ -392,6 +428,15 @@ left_more d first page low so_far h =
       kinds = only_both giving_back ys so_far.steps h.kinds so_far.kinds;
       within = always_both (λ m before. IsOnPage page m.step) (ReturnsHere (in_span first (page + 1))) ys so_far.steps (λ m before on p is. ap (in_span first (page + 1)) (return_page page p m.step is on) ∙ span_in first (page + 1) page low (omega arith)) h.on
           (always_map (ReturnsHere (in_span first page)) (ReturnsHere (in_span first (page + 1))) so_far.steps (λ m before h p is. span_wider first page (page + 1) p (omega arith) (h p is)) so_far.within);
+      hints = left_hints page d full h so_far.steps so_far.hints;
+      on = always_both (λ m before. IsOnPage page m.step) (OnSpan first (page + 1)) ys so_far.steps (λ m before on. (page, span_in first (page + 1) page low (omega arith), on)) h.on
+          (always_map (OnSpan first page) (OnSpan first (page + 1)) so_far.steps (λ m before on. (on.0, span_wider first page (page + 1) on.0 (omega arith) on.1, on.2)) so_far.on);
+      left = λ before p is got. subst (LeftOrBroken d p) (sym (append_assoc ys so_far.steps before)) (elim (cases_eq p page) [
+        | inl e ↦ subst (λ q. GotOf d q before → LeftOrBroken d q (ys ++ (so_far.steps ++ before))) (sym e)
+            (λ here. released page d directory (so_far.steps ++ before) (got_off d page so_far.steps before (off_span first page page so_far.steps (span_past first page page (omega arith)) so_far.on) here) h) got
+        | inr ne ↦ let at = in_parts first (page + 1) p is in let ge = at.0 in let lt = at.1 in
+            left_off d p ys (so_far.steps ++ before) (off_on page p ys ne h.on) (so_far.left before p (span_in first page p ge (omega (arith, lt, ne))) got)
+      ]);
       due = λ before held all. subst (Always GivesDuly) (sym (append_assoc ys so_far.steps before)) (put_and_leave_due page d full (so_far.steps ++ before)
           (λ g is. let at : page ≡ g / 256 = eqb-true page (g / 256) (sym (on_full page g) ∙ is) in
           steady_holds g so_far.steps before (so_far.steady g (span_past first page (g / 256) (omega (arith, at)))) ∙ held g (span_in first (page + 1) (g / 256) (omega (arith, at, low)) (omega (arith, at))))
@@ -419,6 +464,7 @@ run_claimed {σ} {σ1} deeds d first end stop e h =
       rise = all.rise;
       shows = all.shows;
       steady = all.steady;
+      of = λ bare none. all.of bare;
       outcome = record { few = (let few = all.few in omega (arith, few)); got = all.got; holding = all.holding; lacks = all.lacks; alone = λ before free p ge. all.alone before free p (omega (arith, ge)) };
     }
 
@@ -455,6 +501,7 @@ module _ {σ σ1 : Standing} (deeds : Bool) (d : Directory) (first end stop : �
         rise = rise_both (stop + 1) r.steps h.steps (rise_none giving_back r.steps refl r.kinds) h.rise (from_none giving_back (stop + 1) r.steps refl r.kinds) (deeds_below d first (min (stop + 1) end) (stop + 1) h.steps (omega arith) h.made);
         shows = shows_both σ.seat.profile r.steps h.steps (shows_taking σ.seat.profile r.steps (only_within giving_back taking_grains r.steps refl r.kinds)) h.shows;
         steady = λ g out. steady_both g r.steps h.steps (r.steady g (narrower first stop end (g / 256) h.span.1 out)) (h.steady g out);
+        of = λ bare none. cc;
         outcome = record {
           in_run = (h.span.0, before_end);
           made = made_below;
@@ -468,5 +515,10 @@ module _ {σ σ1 : Standing} (deeds : Bool) (d : Directory) (first end stop : �
                 | inl lost ↦ inl (once_later (λ m b. LostHere d stop m (b ++ before)) r.steps h.steps lost)
                 | inr broken ↦ inr (once_later (λ m b. BrokenHere stop m (b ++ before)) r.steps h.steps broken)
               ];
+          missed = λ bare. once_later (MissedHere d stop) r.steps h.steps (h.missed before_end bare);
+          left = λ bare p. elim (cases_Bool (in_span first stop p)) [
+            | inl here ↦ r.left h.steps p here (h.of bare p here)
+            | inr out ↦ left_off d p r.steps h.steps (off_span first stop p r.steps out r.on) (h.left bare p out)
+          ];
         };
       }

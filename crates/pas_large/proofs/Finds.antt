@@ -268,8 +268,8 @@ module _ {σ σ1 : Standing} (d : Directory) (n from next : ℕ) (low : 1 ≤ fr
       deeds = deeds_looks d n (λ other. HasFailed d n other (find.steps ++ xs)) find.steps xs find.kinds (deeds_map d n (λ other. HasFailed d n other xs) (λ other. HasFailed d n other (find.steps ++ xs)) xs (λ s h. once_later _ find.steps xs h) so_far.deeds);
       rise = look_rise find;
       lacks = look_lacks find;
-      looked = λ k l legal met. let at = alone k l (legal_earlier f k find.steps xs l legal) met in subst (Only looking) (sym (all_alone find at.2)) (looks_alone find at.2);
     };
+    looked = λ none k l legal met. let at = alone k l (legal_earlier f k find.steps xs l legal) met in subst (Only looking) (sym (all_alone find at.2)) (looks_alone find at.2);
   }
 
   -- it found one
@@ -400,6 +400,7 @@ module _ {σ σ1 : Standing} (d : Directory) (n from next : ℕ) (low : 1 ≤ fr
           steps = claim.steps ++ ls;
           adds = claim_adds claim;
           told = λ t v l stood met. lowest_told l (legal_alone find (laws t) (alone t).2 v l stood met) (alone t);
+          looked = λ none. cc;
           kinds = claim_kinds claim;
           returns = claim_returns claim;
           shows = claim_shows claim;

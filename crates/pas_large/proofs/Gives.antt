@@ -30,9 +30,10 @@ use Rattle.pas_large.specs.Gives.{BackStep, pages_from, BackedRun, BacksRun, May
 use Rattle.pas_rights.specs.Gives.{MayGive, block_of, give_steps, GivesRun as GivesBlock}
 use Rattle.pas_rights.proofs.Gives.{bears_by}
 use Rattle.pas_profile.specs.Lives.{turn_of}
-use Rattle.pas_profile.specs.Runs.{in_run, grain_of, length_of}
+use Rattle.pas_bits.specs.Runs.{in_run}
+use Rattle.pas_profile.specs.Blocks.{grain_of, length_of}
 use Rattle.pas_profile.specs.declared.name.Block.{Block}
-use Rattle.pas_profile.proofs.Runs.{run_of, to_run}
+use Rattle.pas_bits.proofs.Runs.{run_of, to_run}
 use Rattle.pas_large.specs.Pages.{of_pages}
 
 -- ---- pages in turn

@@ -1,3 +1,4 @@
+mod Left
 pub mod Pages
 pub mod Claims
 mod Refusals
@@ -8,5 +9,6 @@ pub mod Allocates
 pub mod Outcomes
 mod Told
 mod ToldReasons
+mod ToldByDoor
 pub mod Alone
 mod Lifted

@@ -1,39 +1,39 @@
 -- The evidence of a scan, where the claim of a run by the door failed before it: what is said of the scan's steps holds of all steps of the call.
-use Rattle.std.proofs.Common.{◌≡◌, ℕ, ◌+◌, ◌*◌, ◌<◌, ◌⊎◌, Bool, ◌||◌, List, [], ◌∷◌, ◌++◌, inl, inr, ap, sym, ◌∙◌, arith}
-use Rattle.pas_profile.specs.Classes.{has_bit}
+use Rattle.std.proofs.Common.{◌≡◌, ℕ, ◌+◌, ◌<◌, ◌⊎◌, ◌||◌, List, [], ◌∷◌, ◌++◌, inl, inr, true, refl, ap, sym, ◌∙◌, subst, append_assoc, true≢false}
+use Rattle.pas_bits.specs.Bits.{has_bit}
 use Rattle.pas_profile.specs.declared.directory.Directory.{Directory}
 use Rattle.pas_profile.specs.declared.profile.Profile.{Profile}
 use Rattle.pas_profile.proofs.Codecs.{deed_word_of-positive}
 use Rattle.pas_steps.specs.Agreement.{Agreed}
-use Rattle.pas_steps.specs.Evidence.{OneHere, NoDeedHere, ShowsHere, KeptHere, GetsHere}
+use Rattle.pas_steps.specs.Calls.{Leads, nothing, Does}
+use Rattle.pas_steps.specs.Evidence.{OneHere, NoDeedHere, KeptHere}
+use Rattle.pas_steps.specs.Kinds.{Only, kind_of, is_in}
 use Rattle.pas_steps.specs.Past.{Once, Always, Since}
-use Rattle.pas_steps.specs.Views.{View, holds, has_right, KnowsDeed}
+use Rattle.pas_steps.specs.Views.{View, KnowsDeed}
 use Rattle.pas_steps.specs.declared.step.Made.{Made}
 use Rattle.pas_steps.proofs.Adding.{agreed_first, agreed_later}
+use Rattle.pas_steps.proofs.Calls.{does_then, still_clear}
 use Rattle.pas_steps.proofs.Frames.{right_own}
-use Rattle.pas_steps.proofs.Past.{once_later, once_earlier, once_map, always_both}
+use Rattle.pas_steps.proofs.Past.{once_later, once_earlier, once_map, always_both, always_map}
 use Rattle.pas_scan.specs.Usable.{OfHere, WholeHere, ReadUsable, ParksNotHere, IsFresh, MakesNoDeedHere, LeftAlone}
-use Rattle.pas_scan.proofs.LeftPages.{holds_own, since_earlier, unusable_here, deed_before}
-use Rattle.pas_large.specs.Evidence.{LostHere, BrokenHere, BadHere, HasBad, IsVain, AllUsable, FailsHere, HasFailed, TakenWholeHere, IsTakenRun, LeftOrBroken}
-use Rattle.pas_large.proofs.Pages.{known_of}
+use Rattle.pas_scan.proofs.LeftPages.{since_earlier, unusable_here, deed_before}
+use Rattle.pas_large.specs.Evidence.{LostHere, BrokenHere, BadHere, HasBad, IsVain, AllUsable, FailsHere, HasFailed, DeedsOf, DeedsRise, TakenWholeHere, IsTakenRun, LeftOrBroken}
+use Rattle.pas_large.specs.Claims.{in_span}
+use Rattle.pas_large.specs.Finds.{MayFind, FoundRun, FoundNone}
+use Rattle.pas_large.specs.Pages.{claiming_old}
+use Rattle.pas_large.proofs.Claims.{got_after}
+use Rattle.pas_large.proofs.Finds.{DeedOf}
+use Rattle.pas_large.proofs.Left.{right_at, held_at, kept_at, broken_at}
+use Rattle.pas_large.proofs.Pages.{known_of, knew_before, from_first, rise_none, rise_both, below_none}
 use Rattle.pas_steps.proofs.Evidence.{unknown}
 
 -- ---- one page
 module _ (d : Directory) (p : ℕ) (xs : List Made) (left : LeftOrBroken d p xs) where
-  right_at : (b : List Made) → has_right (b ++ xs) p ≡ has_right b p
-  right_at b = right_own p b xs left.right
-
-  held_at : (b : List Made) (word i : ℕ) → word < 4 → i < 64 → holds (b ++ xs) (p * 256 + (64 * word + i)) ≡ holds b (p * 256 + (64 * word + i))
-  held_at b word i w lt = holds_own (p * 256 + (64 * word + i)) b xs (left.none (p * 256 + (64 * word + i)) (omega (arith, w, lt)))
-
   whole_at : (word : ℕ) → word < 4 → (m : Made) (b : List Made) → WholeHere p word m b → WholeHere p word m (b ++ xs)
-  whole_at word w m b h = (h.0, λ i lt. ap (λ t. has_bit m.answer i || t) (held_at b word i w lt) ∙ h.1 i lt)
+  whole_at word w m b h = (h.0, λ i lt. ap (λ t. has_bit m.answer i || t) (held_at d p xs left b word i w lt) ∙ h.1 i lt)
 
   one_at : (m : Made) (b : List Made) → OneHere d p m b → OneHere d p m (b ++ xs)
-  one_at m b h = (h.0, h.1, right_at b ∙ h.2)
-
-  kept_at : (m : Made) (b : List Made) → KeptHere p m b → KeptHere p m (b ++ xs)
-  kept_at m b h = right_at b ∙ h
+  one_at m b h = (h.0, h.1, right_at d p xs left b ∙ h.2)
 
   usable_at : (b : List Made) → ReadUsable d p b → ReadUsable d p (b ++ xs)
   usable_at b (inl bare) = inl (once_earlier (NoDeedHere p) (NoDeedHere p) b xs (λ m c h. h) bare)
@@ -41,19 +41,6 @@ module _ (d : Directory) (p : ℕ) (xs : List Made) (left : LeftOrBroken d p xs)
     of = once_earlier (OfHere d p) (OfHere d p) b xs (λ m c h. h) whole.of;
     offered = once_earlier (OneHere d p) (OneHere d p) b xs one_at whole.offered;
     free = λ word lt. once_earlier (WholeHere p word) (WholeHere p word) b xs (whole_at word lt) (whole.free word lt);
-  }
-
-  shows_at : (word : ℕ) → word < 4 → (r : ℕ → Bool) (m : Made) (b : List Made) → ShowsHere p word r m b → ShowsHere p word r m (b ++ xs)
-  shows_at word w r m b h = (h.0, right_at b ∙ h.1, λ i lt. h.2 i lt ∙ ap (λ t. has_bit m.answer i || t) (sym (held_at b word i w lt)))
-
-  broken_at : (m : Made) (b : List Made) → BrokenHere p m b → BrokenHere p m (b ++ xs)
-  broken_at m b h = record {
-    left = h.left;
-    kept = right_at b ∙ h.kept;
-    got = once_earlier (GetsHere p) (GetsHere p) b xs (λ m c h. h) h.got;
-    readings = h.readings;
-    none = h.none;
-    read = λ word lt. since_earlier (ShowsHere p word h.readings) (KeptHere p) (ShowsHere p word h.readings) (KeptHere p) b xs (shows_at word lt h.readings) kept_at (h.read word lt);
   }
 
   -- the page wasn't parked
@@ -66,13 +53,13 @@ module _ (d : Directory) (p : ℕ) (xs : List Made) (left : LeftOrBroken d p xs)
     fresh_at b (inr since) = inr (since_earlier (OneHere d p) (ParksNotHere p) (OneHere d p) (ParksNotHere p) b xs one_at (λ m c h. h) since)
 
     lost_at : (m : Made) (b : List Made) → LostHere d p m b → LostHere d p m (b ++ xs)
-    lost_at m b (inl h) = inl (h.0, h.1, right_at b ∙ h.2, fresh_at b h.3)
+    lost_at m b (inl h) = inl (h.0, h.1, right_at d p xs left b ∙ h.2, fresh_at b h.3)
     lost_at m b (inr h) = inr (h.0, h.1, once_earlier (NoDeedHere p) (NoDeedHere p) b xs (λ m c h. h) h.2, always_both (MakesNoDeedHere p) (MakesNoDeedHere p) b xs (λ m c h. h) h.3 left.deeds)
 
     bad_at : (m : Made) (b : List Made) → BadHere d p m b → BadHere d p m (b ++ xs)
     bad_at m b (inl h) = inl (unusable_here d p xs alone m b h)
     bad_at m b (inr (inl h)) = inr (inl (lost_at m b h))
-    bad_at m b (inr (inr h)) = inr (inr (broken_at m b h))
+    bad_at m b (inr (inr h)) = inr (inr (broken_at d p xs left m b h))
 
   bad_once : (ys : List Made) → Once (BadHere d p) ys → Once (BadHere d p) (ys ++ xs)
   bad_once ys h = elim left.parks [
@@ -99,10 +86,10 @@ module _ (d : Directory) (p : ℕ) (xs : List Made) (left : LeftOrBroken d p xs)
   lost_again : (f : Profile) (v : View) (m : Made) (b : List Made) → Agreed f v (b ++ xs) → Once (OfHere d p) xs → ReadUsable d p b → LostHere d p m b → LostHere d p m (b ++ xs)
   lost_again f v m b agreed of (inl bare) h = absurd (not_bare f v b agreed of bare)
   lost_again f v m b agreed of (inr whole) (inr h) = absurd (not_bare f v b agreed of h.2)
-  lost_again f v m b agreed of (inr whole) (inl h) = inl (h.0, h.1, right_at b ∙ h.2, inr (since_earlier (OneHere d p) (ParksNotHere p) (OneHere d p) (ParksNotHere p) b xs one_at (λ m c h. h) (still_fresh b whole.offered h.3)))
+  lost_again f v m b agreed of (inr whole) (inl h) = inl (h.0, h.1, right_at d p xs left b ∙ h.2, inr (since_earlier (OneHere d p) (ParksNotHere p) (OneHere d p) (ParksNotHere p) b xs one_at (λ m c h. h) (still_fresh b whole.offered h.3)))
 
   failed_at : (f : Profile) (v : View) (m : Made) (b : List Made) → Agreed f v (b ++ xs) → ReadUsable d p b → LostHere d p m b ⊎ BrokenHere p m b → LostHere d p m (b ++ xs) ⊎ BrokenHere p m (b ++ xs)
-  failed_at f v m b agreed usable (inr broken) = inr (broken_at m b broken)
+  failed_at f v m b agreed usable (inr broken) = inr (broken_at d p xs left m b broken)
   failed_at f v m b agreed usable (inl lost) = elim left.parks [ inl parks ↦ inl (lost_at parks m b lost) | inr broken ↦ inl (lost_again f v m b agreed broken.0 usable lost) ]
 
 -- ---- runs
@@ -131,3 +118,48 @@ module _ (d : Directory) (n : ℕ) (xs : List Made) (left : (p : ℕ) → LeftOr
     right = λ p here. right_own p ys xs (left p).right ∙ taken.right p here;
     whole = λ p word here lt. since_earlier (TakenWholeHere p word) (KeptHere p) (TakenWholeHere p word) (KeptHere p) ys xs (λ m b h. (whole_at d p xs (left p) word lt m b h.0, kept_at d p xs (left p) m b h.1)) (kept_at d p xs (left p)) (taken.whole p word here lt);
   }
+
+-- ---- the whole search
+-- the actor may find a run again
+pub find_again : (f : Profile) (d : Directory) (v : View) (xs : List Made) → MayFind d v → Agreed f v xs → Does nothing v (xs ++ v) → MayFind d (xs ++ v)
+find_again f d v xs met agreed does = record { lacks = λ p knows. does.right p ∙ met.lacks p (knew_before f d p xs v agreed knows); clear = still_clear does met.clear }
+
+-- after these steps all is as it was, so those that follow do what they do alone
+pub after_still : {f : Profile} {R : View → View → Type 0} (d : Directory) (ys xs : List Made) → ((v u w : View) → Does nothing v u → R u w → R v w) → Leads f (MayFind d) (Does nothing) xs → Leads f (MayFind d) R ys → Leads f (MayFind d) R (ys ++ xs)
+after_still {f} {R} d ys xs join still leads = record {
+  from = λ v met agreed.
+      let first = agreed_later f v ys xs agreed in
+      let does = still.from v met first in
+      subst (R v) (sym (append_assoc ys xs v)) (join v (xs ++ v) (ys ++ (xs ++ v)) does (leads.from (xs ++ v) (find_again f d v xs met first does) (agreed_first f v ys xs agreed)));
+}
+
+module _ (f : Profile) (d : Directory) (n : ℕ) (xs ys : List Made) (old : Only claiming_old xs) (left : (p : ℕ) → LeftOrBroken d p xs) (still : Leads f (MayFind d) (Does nothing) xs) where
+  deeds_run : (P Q : ℕ → Type 0) → ((s : ℕ) → P s → Q s) → DeedsOf d n P ys → DeedsOf d n Q (ys ++ xs)
+  deeds_run P Q more deeds = always_both (DeedOf d n P) (DeedOf d n Q) ys xs (λ m b h p e same z. let its = h p e same z in (its.0, (its.1.0, its.1.1, all_usable d n xs left its.1.0 b its.1.2, more its.1.0 its.1.3)))
+      deeds
+      (always_map (λ m before. is_in claiming_old (kind_of m.step) ≡ true) (DeedOf d n Q) xs (λ m before is p e same z. absurd (true≢false (sym is ∙ ap (λ s. is_in claiming_old (kind_of s)) same))) old)
+
+  rise_run : DeedsRise ys → DeedsRise (ys ++ xs)
+  rise_run rise = rise_both 0 ys xs rise (rise_none claiming_old xs refl old) (from_first ys rise) (below_none claiming_old 0 xs refl old)
+
+  -- with a view that the answers agree with
+  module _ (v : View) (agreed : Agreed f v (ys ++ xs)) where
+    pub found_run : (first : ℕ) → FoundRun f d n ys first → FoundRun f d n (ys ++ xs) first
+    found_run first found = record {
+      of_region = found.of_region;
+      got = after_still d ys xs (λ v u w does got. got_after (in_span first (first + n)) d does got) still found.got;
+      taken = taken_run d n xs left first ys found.taken;
+      lower = λ other some lt. bad_run d n xs left other ys (found.lower other some lt);
+      deeds = deeds_run (λ other. (other ≡ first) ⊎ HasFailed d n other ys) (λ other. (other ≡ first) ⊎ HasFailed d n other (ys ++ xs))
+          (λ s chosen. elim chosen [ inl same ↦ inl same | inr failed ↦ inr (failed_run d n xs left f v s ys agreed failed) ]) found.deeds;
+      rise = rise_run found.rise;
+    }
+
+    pub found_none : FoundNone f d n ys → FoundNone f d n (ys ++ xs)
+    found_none none = record {
+      still = after_still d ys xs (λ v u w a b. does_then a b) still none.still;
+      vain = vain_run d n xs left f ys none.vain;
+      deeds = deeds_run (λ other. HasFailed d n other ys) (λ other. HasFailed d n other (ys ++ xs)) (λ s failed. failed_run d n xs left f v s ys agreed failed) none.deeds;
+      rise = rise_run none.rise;
+      lacks = λ p. right_own p ys xs (left p).right ∙ none.lacks p;
+    }

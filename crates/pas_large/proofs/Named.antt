@@ -1,23 +1,20 @@
 -- The claim of the run that a door names.
-use Rattle.std.proofs.Common.{◌≡◌, ℕ, ◌+◌, ◌*◌, ◌≤◌, false, [], Option, Some, None, refl, ap, subst, arith}
+use Rattle.std.proofs.Common.{◌≡◌, ℕ, ◌+◌, ◌*◌, ◌≤◌, false, [], Option, Some, None, refl, ap, sym, ◌∙◌, subst, arith}
 use Rattle.std.proofs.lemmas.List.{append-nil}
 use Rattle.pas_profile.specs.declared.directory.Directory.{Directory}
-use Rattle.pas_scan.specs.Runs.{page_looks}
-use Rattle.pas_scan.proofs.LeftPages.{left_alone_by}
 use Rattle.pas_steps.specs.Desks.{Standing}
 use Rattle.pas_steps.specs.Views.{View}
 use Rattle.pas_steps.proofs.Adding.{adds_under}
 use Rattle.pas_steps.proofs.Calls.{leads_as}
-use Rattle.pas_large.specs.Claims.{AloneFrom, ClaimsRun, HoldsSpan, LacksAll, MayClaimPages}
+use Rattle.pas_large.specs.Claims.{ClaimsRun, HoldsSpan, LacksAll, MayClaimPages}
 use Rattle.pas_large.specs.Finds.{MayFind}
 use Rattle.pas_large.specs.Named.{missed_steps, ClaimsNamed}
+use Rattle.pas_scan.specs.Runs.{IsInRun}
+use Rattle.pas_large.proofs.Claims.{alone_at_first}
 
 -- whatever the door names may be claimed
 may_claim_named : (d : Directory) (first end : ℕ) (v : View) → MayFind d v → MayClaimPages d first end v
 may_claim_named d first end v met = record { lacks = λ p low high knows. met.lacks p knows; clear = met.clear }
-
-alone_at_first : (first : ℕ) → AloneFrom first []
-alone_at_first first p low = left_alone_by page_looks refl refl p [] tt
 
 pub some_none : (first : ℕ) (found : Option ℕ) → found ≡ Some first → found ≡ None → ⊥
 some_none first found named none = cc
@@ -37,6 +34,7 @@ holds_named d n first found named region claim = record {
     named = named;
     of_region = region;
     got = leads_as claim.outcome.got (λ v met. may_claim_named d first (first + n) v met) (λ v w met got. got);
+    of = claim.of refl refl;
     holding = subst (HoldsSpan first (first + n)) (append-nil claim.steps) (claim.outcome.holding [] (alone_at_first first));
     few = (let few = claim.outcome.few in omega (arith, few));
   };
@@ -51,8 +49,10 @@ misses_named d n first page found named claim = record {
   shows = claim.shows;
   outcome = record {
     unnamed = λ none. absurd (some_none first found named none);
+    missed = λ other is some within. let same : first ≡ other = let both = sym named ∙ is in cc in (page, subst (λ s. IsInRun s n page) same claim.outcome.in_run, claim.outcome.missed refl);
     still = leads_as claim.outcome.still (λ v met. may_claim_named d first (first + n) v met) (λ v w met does. does);
     lacks = subst LacksAll (append-nil claim.steps) (claim.outcome.lacks [] (λ p. refl));
+    left = claim.outcome.left refl;
     few = (let few = claim.outcome.few in let lt = claim.outcome.in_run.1 in let most = named_steps n first found named in omega (arith, few, lt, most));
   };
 }

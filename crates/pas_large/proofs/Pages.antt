@@ -12,7 +12,7 @@ use Rattle.pas_rights.specs.Words.{words, full}
 use Rattle.pas_rights.proofs.Hints.{due_none, put_and_leave_due}
 use Rattle.pas_rights.proofs.Puts.{puts_kinds}
 use Rattle.pas_rights.proofs.Looks.{full_set, full_word}
-use Rattle.pas_rights.proofs.Takes.{takes_only, takes_on, takes_keep, takes_few, takes_right, takes_got, takes_read}
+use Rattle.pas_rights.proofs.Takes.{takes_only, takes_on, takes_keep, takes_few, takes_right, takes_leave, takes_got, takes_read}
 use Rattle.pas_rights.proofs.Words.{keeps_by}
 use Rattle.pas_steps.specs.Calls.{Calls, Kept, Lost, later, Does, ClearAfter, Gained, now, Fate, nothing}
 use Rattle.pas_steps.specs.Desks.{Standing, CanCall, AnyView, Makes, Adds, made}
@@ -25,16 +25,16 @@ use Rattle.pas_steps.proofs.Calls.{does_as, does_then, kept_first, does_on_page,
 use Rattle.pas_steps.proofs.Kept.{looks_read, right_reads, deed_stays, knows_still}
 use Rattle.pas_steps.proofs.Past.{always_both, always_pair, once_later, once_earlier, always_map, once_map}
 use Rattle.pas_large.specs.Pages.{OnceAfter, TookPage, TakesPage, getting, DeedsOn, OnlyDeedsShow, GetsPage, MayClaim, of_pages, GotPages, getting_old, claiming, claiming_old, IsClaimed, ClaimsPage, GetsRightOf, LosesRightOf}
-use Rattle.pas_profile.specs.Classes.{has_bit}
+use Rattle.pas_bits.specs.Bits.{has_bit}
 use Rattle.pas_profile.specs.declared.profile.Profile.{Profile}
 use Rattle.pas_bits.specs.Masks.{is_set, AllSetBelow, IsLowestClear}
 use Rattle.pas_steps.specs.Evidence.{GetsHere, ShowsHere, KeptHere, ReadsDeed, GetsRight, NoDeedHere}
 use Rattle.pas_steps.specs.Past.{Once, Since, Always}
 use Rattle.pas_steps.specs.declared.step.Made.{Made}
 use Rattle.pas_steps.proofs.Frames.{rights_stay, events_append}
-use Rattle.pas_search.specs.Serving.{MayServe, GotBefore, right_of}
+use Rattle.pas_search.specs.Serving.{MayServe, HoldsNone, GotBefore, right_of}
 use Rattle.pas_search.proofs.Returns.{duly_none, duly_on}
-use Rattle.pas_large.specs.Evidence.{BrokenHere, TakenWholeHere, LostHere, DeedsBelow, DeedsRise}
+use Rattle.pas_large.specs.Evidence.{BrokenHere, TakenWholeHere, LostRightHere, LostHere, DeedsBelow, DeedsRise, MissedHere}
 use Rattle.pas_profile.specs.Directories.{number_of, deed_word_of}
 use Rattle.pas_profile.specs.Profiles.{IsPage}
 use Rattle.pas_profile.specs.declared.event.Event.{Event}
@@ -48,7 +48,7 @@ use Rattle.pas_steps.proofs.Adding.{adds_none, adds_step, adds_call, adds_under,
 use Rattle.pas_steps.proofs.Unknown.{unknown_stays, unknown_less}
 use Rattle.pas_rights.specs.Claims.{Claims}
 use Rattle.pas_scan.specs.Runs.{page_looks}
-use Rattle.pas_scan.specs.Usable.{OfHere, ReadUsable, LeftAlone}
+use Rattle.pas_scan.specs.Usable.{OfHere, ReadUsable, MakesNoDeedHere, LeftAlone}
 use Rattle.pas_scan.proofs.LeftPages.{left_alone_by}
 use Rattle.std.proofs.lemmas.List.{append-nil}
 use Rattle.pas_steps.specs.Unknown.{unknown_pages}
@@ -57,6 +57,7 @@ use Rattle.pas_steps.proofs.Evidence.{deed_known}
 use Rattle.pas_steps.proofs.Sets.{got_lost}
 use Rattle.std.proofs.Math.Bool.{and-true}
 use Rattle.pas_core.proofs.Deeds.{looked}
+use Rattle.pas_large.proofs.Left.{deeds_none, deeds_both, parks_none, parks_kept, parks_both, nothing_held}
 
 -- ---- all grains of a page of a run: four takes, and where some grain wasn't free, what was got is put back and the page is left
 since_map : (P P' Q : Made → List Made → Type 0) (xs : List Made) → ((m : Made) (before : List Made) → P m before → P' m before) → Since P Q xs → Since P' Q xs
@@ -167,6 +168,10 @@ module _ (d : Directory) (page : ℕ) (got : Mask4) {σ σ1 : Standing} (taken :
               (since_more shows (KeptHere page) (λ m c. GivesUp page m.step → ⊥) back.puts xs (λ m c is keeps. rights_stay c xs page keeps right) puts_keep (ts_read before met word lt));
         }) back.left))
 
+    -- of what was taken nothing is held
+    all_back : (before : List Made) → HoldsNone page before → HoldsNone page (((back.after ++ back.puts) ++ ts) ++ before)
+    all_back before none g at = ap (λ s. holds s g) (append_assoc (back.after ++ back.puts) ts before) ∙ nothing_held page d got back (ts ++ before) g (λ other. takes_leave page full taken.answers got taken.got_is g before other ∙ none g at)
+
     pub leaves_broken : TakesPage d page σ σ2 false
     leaves_broken = record {
       steps = (back.after ++ back.puts) ++ ts;
@@ -175,7 +180,7 @@ module _ (d : Directory) (page : ℕ) (got : Mask4) {σ σ1 : Standing} (taken :
       kinds = only_both taking_grains (back.after ++ back.puts) ts (only_within giving_back taking_grains (back.after ++ back.puts) refl back.kinds) (only_within (Taking ∷ []) taking_grains ts refl (takes_only page (words full) answers 4));
       due = put_and_leave_due page d got ts (takes_got page full taken.answers got taken.got_is) ts_due back;
       few = let n = length-append (back.after ++ back.puts) ts in let a = back.few in let b = takes_few page (words full) answers 4 in omega (arith, n, a, b);
-      outcome = record { leads = left_call.leads; lacks = λ before. ap (λ s. has_right s page) (append_assoc (back.after ++ back.puts) ts before) ∙ back.lacks (ts ++ before); broken = broken };
+      outcome = record { leads = left_call.leads; lacks = λ before. ap (λ s. has_right s page) (append_assoc (back.after ++ back.puts) ts before) ∙ back.lacks (ts ++ before); none = all_back; broken = broken };
     }
 
 -- ---- the right of a page of a run: a look at its deed word, and a claim or a deed
@@ -215,25 +220,28 @@ module _ {σ σ1 : Standing} (deeds : Bool) (d : Directory) (page a : ℕ) (m : 
       }) in
       does_as (right_of page r) does (λ x. inl refl) (λ q. refl) (λ q h. subst (λ t. ClearAfter t q v (pair ++ v)) (looked (page == q) Kept) h)
 
-  pair_outcome : (got : Bool) → ((v : View) → has_right (pair ++ v) page ≡ now (if got then Gained else Kept) (has_right v page)) → (got ≡ true → (v : View) → Agreed σ.seat.profile v pair → KnowsDeed page d (pair ++ v)) → (got ≡ true → GetsRight page m.step m.answer)
+  pair_outcome : (got : Bool) → ((v : View) → has_right (pair ++ v) page ≡ now (if got then Gained else Kept) (has_right v page)) → (got ≡ true → (v : View) → Agreed σ.seat.profile v pair → KnowsDeed page d (pair ++ v)) → (got ≡ true → GetsRight page m.step m.answer) → (got ≡ false → (x : Directory) → m.step ≡ Deed page x → m.answer ≡ 0 → ⊥) → (got ≡ false → deeds ≡ false → LostRightHere d page m (deed_look page a ∷ []))
       → (got ≡ false → (before : List Made) (v : View) → LeftAlone page before → ReadUsable d page before → Agreed σ.seat.profile v (pair ++ before) → LostHere d page m (deed_look page a ∷ before)) → MatchBool got (GetsRightOf σ.seat.profile d page pair) (LosesRightOf deeds σ.seat.profile d page pair)
-  pair_outcome true right known gets lost = record {
+  pair_outcome true right known gets undeeded missed lost = record {
     leads = record { from = λ v met agreed. let does = pair_does Gained v agreed (right v) in record { does = does; may = record { right = right v; deed = known refl v agreed; clear = does.clear page (met.clear.on page) } } };
     got = λ before alone. record { right = right before; got = inl (gets refl); none = λ g at. holds_same getting refl g pair before (kind, (refl, tt)) ∙ alone.none g at; newest = gets refl };
   }
-  pair_outcome false right known gets lost = record {
+  pair_outcome false right known gets undeeded missed lost = record {
     leads = record { from = λ v met agreed. does_as nothing (pair_does Kept v agreed (right v)) (λ x. inl refl) (λ q. looked (page == q) Kept) (λ q h. h) };
+    alone = record { right = right []; none = λ g at. holds_same getting refl g pair [] (kind, (refl, tt)); parks = parks_none getting page pair refl (kind, (refl, tt)); deeds = (undeeded refl, ((λ x e z. cc), tt)) };
+    missed = λ none. inl (inr (inl (missed refl none)));
     lacks = λ before none. right before ∙ none;
     lost = λ may before v alone usable agreed. inl (lost refl before v alone usable agreed);
   }
 
-  pair_gets : (got : Bool) → (deeds ≡ false → Only getting_old pair) → DeedsOn d page (m ∷ []) → OnlyDeedsShow σ.seat.profile pair → MatchBool got (GetsRightOf σ.seat.profile d page pair) (LosesRightOf deeds σ.seat.profile d page pair) → GetsPage deeds d page σ σ1 got
-  pair_gets got old made shows outcome = record {
+  pair_gets : (got : Bool) → (deeds ≡ false → Only getting_old pair) → (deeds ≡ false → got ≡ true → Once (OfHere d page) pair) → DeedsOn d page (m ∷ []) → OnlyDeedsShow σ.seat.profile pair → MatchBool got (GetsRightOf σ.seat.profile d page pair) (LosesRightOf deeds σ.seat.profile d page pair) → GetsPage deeds d page σ σ1 got
+  pair_gets got old of made shows outcome = record {
     steps = pair;
     adds = adds;
     on = (on, (IsOnPage.Looks (Word.Deed page), tt));
     kinds = (kind, (refl, tt));
     old = old;
+    of = of;
     few = omega arith;
     made = (made.0, (λ p e same z. cc, tt));
     rise = ((λ p e same z. ((λ q x other y. cc), tt)), ((λ p e same z. cc), tt));
@@ -246,9 +254,9 @@ pub claim_gets : {σ σ1 σ2 : Standing} (deeds : Bool) (d : Directory) (page a 
 claim_gets {σ} {σ1} {σ2} deeds d page a is look got h =
     let m : Made = made (TakeRight page d) h.answer in let f : Profile = σ.seat.profile in let known = λ (v : View). read_here page a (known_deed v page) ∙ is in
     let adds : Adds σ σ2 AnyView (m ∷ deed_look page a ∷ []) = adds_call {D = KnowsDeed page d} (adds_step adds_none look (λ v l stood met. tt)) h.calls.adds (λ v l stood met. known v) in
-    pair_gets deeds d page a m adds (IsOnPage.Claims d) refl got (λ none. (refl, (refl, tt))) ((λ p e same z. cc), tt) (λ k v agreed. let still = unknown_stays f (m ∷ deed_look page a ∷ []) v agreed in omega (arith, still))
+    pair_gets deeds d page a m adds (IsOnPage.Claims d) refl got (λ none. (refl, (refl, tt))) (λ none gets. inr (inl (ReadsDeed.Looks, is))) ((λ p e same z. cc), tt) (λ k v agreed. let still = unknown_stays f (m ∷ deed_look page a ∷ []) v agreed in omega (arith, still))
     (pair_outcome deeds d page a m adds (IsOnPage.Claims d) refl got (λ v. way_taken page (has_bit h.answer (page % 64)) got (has_right v page) (FromOffer (number_of d)) refl (sym h.got_is))
-    (λ e v agreed. knows_still f d page (m ∷ []) (deed_look page a ∷ v) (agreed.0, tt) (known v)) (λ e. GetsRight.Claims d h.answer (sym h.got_is ∙ e))
+    (λ e v agreed. knows_still f d page (m ∷ []) (deed_look page a ∷ v) (agreed.0, tt) (known v)) (λ e. GetsRight.Claims d h.answer (sym h.got_is ∙ e)) (λ e x same z. cc) (λ e none. (refl, sym h.got_is ∙ e, refl, inl ((λ x. cc), tt)))
     (λ e before v alone usable agreed. inl (refl, sym h.got_is ∙ e, alone.right, inl ((λ e. cc), alone.parks))))
 
 -- ---- the deed of a page whose deed word was read as another word
@@ -284,25 +292,28 @@ module _ {σ σ1 σ2 : Standing} (d : Directory) (page a b : ℕ) (is : IsPage �
       ]
 
   pub deed_gets : GetsPage true d page σ σ2 (b == 0)
-  deed_gets = pair_gets true d page a (made (Deed page d) b) deed_adds (IsOnPage.Deeds d) refl (b == 0) (λ none. absurd (true≢false none)) ((λ p e same z. (cc, cc)), tt) deed_shows
+  deed_gets = pair_gets true d page a (made (Deed page d) b) deed_adds (IsOnPage.Deeds d) refl (b == 0) (λ none. absurd (true≢false none)) (λ none. absurd (true≢false none)) ((λ p e same z. (cc, cc)), tt) deed_shows
       (pair_outcome true d page a (made (Deed page d) b) deed_adds (IsOnPage.Deeds d) refl (b == 0) (λ v. way_taken page (b == 0) (b == 0) (has_right v page) ByDeed refl refl)
-      (λ e v agreed. deed_known page d b (deed_look page a ∷ v) (eqb-true b 0 e)) (λ e. GetsRight.Deeds d b (eqb-true b 0 e))
+      (λ e v agreed. deed_known page d b (deed_look page a ∷ v) (eqb-true b 0 e)) (λ e. GetsRight.Deeds d b (eqb-true b 0 e)) (λ e x same z. eqb-false b 0 e z) (λ e none. absurd (true≢false none))
       (λ e before v alone usable agreed. inr (refl, eqb-false b 0 e, inr (other_known σ.seat.profile d page a before v ne usable agreed.1), ((λ x h z. cc), alone.deeds))))
 
 -- ---- no deed may be made: only its deed word was read
-pub look_gets : {σ σ1 : Standing} (d : Directory) (page a : ℕ) → Makes σ σ1 (Look (Word.Deed page)) a → GetsPage false d page σ σ1 false
-look_gets {σ} d page a look = record {
+pub look_gets : {σ σ1 : Standing} (d : Directory) (page a : ℕ) → a ≢ deed_word_of d → Makes σ σ1 (Look (Word.Deed page)) a → GetsPage false d page σ σ1 false
+look_gets {σ} d page a other look = record {
   steps = deed_look page a ∷ [];
   adds = adds_step adds_none look (λ v l stood met. tt);
   on = (IsOnPage.Looks (Word.Deed page), tt);
   kinds = (refl, tt);
   old = λ none. (refl, tt);
+  of = λ none gets. absurd (true≢false (sym gets));
   few = omega arith;
   made = ((λ p e same z. cc), tt);
   rise = ((λ p e same z. cc), tt);
   shows = λ k v agreed. let still = unknown_stays σ.seat.profile (deed_look page a ∷ []) v agreed in omega (arith, still);
   outcome = record {
     leads = leads_idly σ.seat.profile (LookDeed ∷ []) refl (deed_look page a ∷ []) (refl, tt);
+    alone = left_alone_by (LookDeed ∷ []) refl refl page (deed_look page a ∷ []) (refl, tt);
+    missed = λ none. inl (inl (ReadsDeed.Looks, other));
     lacks = λ before none. none;
     lost = λ may. absurd (true≢false (sym may));
   };
@@ -328,7 +339,7 @@ claim_lost deeds d page get = record {
   made = get.made;
   rise = get.rise;
   shows = get.shows;
-  outcome = record { still = leads_as get.outcome.leads (λ v met. tt) (λ v w met does. does); lacks = get.outcome.lacks; lost = get.outcome.lost };
+  outcome = record { still = leads_as get.outcome.leads (λ v met. tt) (λ v w met does. does); lacks = get.outcome.lacks; alone = get.outcome.alone; missed = get.outcome.missed; lost = get.outcome.lost };
 }
 
 abbrev pub MadeHere : Directory → ℕ → Made → List Made → Type 0
@@ -371,6 +382,10 @@ rise_none ks steps none = always_map (λ m before. is_in ks (kind_of m.step) ≡
 pub from_none : (ks : Kinds) (first : ℕ) (steps : List Made) → is_in ks Deeding ≡ false → Only ks steps → DeedsFrom first steps
 from_none ks first steps none = always_map (λ m before. is_in ks (kind_of m.step) ≡ true) (FromHere first) steps (λ m before is p e same z. absurd (true≢false (sym is ∙ ap (λ s. is_in ks (kind_of s)) same ∙ none)))
 
+-- any deed is of a page from the first on
+pub from_first : (steps : List Made) → DeedsRise steps → DeedsFrom 0 steps
+from_first steps = always_map RisesHere (FromHere 0) steps (λ m before h p e same z. omega arith)
+
 pub below_none : (ks : Kinds) (end : ℕ) (steps : List Made) → is_in ks Deeding ≡ false → Only ks steps → DeedsBelow end steps
 below_none ks end steps none = always_map (λ m before. is_in ks (kind_of m.step) ≡ true) (BelowHere end) steps (λ m before is p e same z. absurd (true≢false (sym is ∙ ap (λ s. is_in ks (kind_of s)) same ∙ none)))
 
@@ -409,11 +424,14 @@ module _ (deeds : Bool) (d : Directory) (page : ℕ) {σ σ1 : Standing} (get : 
     abbrev all : List Made
     all = takes.steps ++ get.steps
 
-    just_got : Once (GetsHere page) get.steps
-    just_got = subst (Once (GetsHere page)) (append-nil get.steps) (get.outcome.got [] (left_alone_by page_looks refl refl page [] tt)).got
+    just_before : GotBefore page get.steps
+    just_before = subst (GotBefore page) (append-nil get.steps) (get.outcome.got [] (left_alone_by page_looks refl refl page [] tt))
 
     all_adds : Adds σ σ2 (MayClaim d page) all
     all_adds = adds_call {D = MayServe page d} (adds_under get.adds (λ v l stood met. tt)) takes.adds (λ v l stood met. (get.outcome.leads.from v met (get.adds.agreed v l stood tt)).may)
+
+    no_deed : deeds ≡ false → Always (MakesNoDeedHere page) all
+    no_deed none = deeds_both page takes.steps get.steps (deeds_none taking_grains page takes.steps refl takes.kinds) (deeds_none getting_old page get.steps refl (get.old none))
 
     pub claims : (claimed : Claimed) → IsClaimed deeds σ.seat.profile d page (takes.steps ++ get.steps) claimed → ClaimsPage deeds d page σ σ2 claimed
     claims claimed outcome = record {
@@ -422,7 +440,7 @@ module _ (deeds : Bool) (d : Directory) (page : ℕ) {σ σ1 : Standing} (get : 
       on = always_both (λ m before. IsOnPage page m.step) (λ m before. IsOnPage page m.step) takes.steps get.steps (λ m before h. h) takes.on get.on;
       kinds = only_both claiming takes.steps get.steps (only_within taking_grains claiming takes.steps refl takes.kinds) (only_within getting claiming get.steps refl get.kinds);
       old = λ none. only_both claiming_old takes.steps get.steps (only_within taking_grains claiming_old takes.steps refl takes.kinds) (only_within getting_old claiming_old get.steps refl (get.old none));
-      returns = duly_on page takes.steps get.steps takes.on takes.due just_got (duly_none getting get.steps refl refl get.kinds);
+      returns = duly_on page takes.steps get.steps takes.on takes.due just_before.got (duly_none getting get.steps refl refl get.kinds);
       few = let n = length-append takes.steps get.steps in let a = takes.few in let b = get.few in omega (arith, n, a, b);
       rise = rise_both (page + 1) takes.steps get.steps (rise_none taking_grains takes.steps refl takes.kinds) get.rise (from_none taking_grains (page + 1) takes.steps refl takes.kinds) (below_on d page get.steps get.made);
       made = always_both (MadeHere d page) (MadeHere d page) takes.steps get.steps (λ m before h. h) (no_deeds taking_grains d page takes.steps refl takes.kinds) get.made;
@@ -453,7 +471,14 @@ module _ (deeds : Bool) (d : Directory) (page : ℕ) {σ σ1 : Standing} (get : 
                 deeds = λ p at. subst (λ q. KnowsDeed q d (zs ++ (get.steps ++ v))) (eqb-true page p at) (knows_still f d page zs (get.steps ++ v) now got.may.deed);
               });
         };
-        gets = once_later (GetsHere page) takes.steps get.steps (just_got takes);
+        gets = once_later (GetsHere page) takes.steps get.steps (just_before takes).got;
+        of = λ none. record {
+          right = rights_stay takes.steps get.steps page takes.outcome.keeps (just_before takes).right;
+          of = once_later (OfHere d page) takes.steps get.steps (get.of none refl);
+          got = once_later (GetsHere page) takes.steps get.steps (just_before takes).got;
+          deeds = no_deed takes none;
+          parks = parks_both page takes.steps get.steps (parks_kept page takes.steps takes.outcome.keeps) (parks_none getting page get.steps refl get.kinds);
+        };
         right = λ before alone. ap (λ s. has_right s page) (append_assoc takes.steps get.steps before) ∙ rights_stay takes.steps (get.steps ++ before) page takes.outcome.keeps (get.outcome.got before alone).right;
         whole = λ before alone word lt. subst (Since (TakenWholeHere page word) (KeptHere page)) (sym (append_assoc takes.steps get.steps before)) (takes.outcome.whole (get.steps ++ before) (get.outcome.got before alone) word lt);
       })
@@ -470,5 +495,15 @@ module _ (deeds : Bool) (d : Directory) (page : ℕ) {σ σ1 : Standing} (get : 
               subst (Does nothing v) (sym (append_assoc zs get.steps v)) (undone (λ g. false) (λ q. page == q) (λ g e. cc) (λ q e. subst (λ r. has_right v r ≡ false) (eqb-true page q e) (got_lacked v met (agreed_later f v zs get.steps agreed))) got.does (left.from (get.steps ++ v) got.may (agreed_first f v zs get.steps agreed)));
         };
         lacks = λ before none. ap (λ s. has_right s page) (append_assoc takes.steps get.steps before) ∙ takes.outcome.lacks (get.steps ++ before);
+        left = λ none. record {
+          right = takes.outcome.lacks get.steps;
+          none = takes.outcome.none get.steps (just_before takes).none;
+          deeds = no_deed takes none;
+          parks = inr (
+            once_later (OfHere d page) takes.steps get.steps (get.of none refl),
+            once_earlier (λ m b. BrokenHere page m (b ++ get.steps)) (BrokenHere page) takes.steps get.steps (λ m b x. x) (takes.outcome.broken get.steps (just_before takes)),
+          );
+        };
+        missed = λ none. once_earlier (λ m b. BrokenHere page m (b ++ get.steps)) (MissedHere d page) takes.steps get.steps (λ m b x. inr (inr x)) (takes.outcome.broken get.steps (just_before takes));
         broken = λ before alone. after_more (BrokenHere page) takes.steps get.steps before (takes.outcome.broken (get.steps ++ before) (get.outcome.got before alone));
       })

@@ -4,7 +4,7 @@ use Rattle.std.proofs.Common.{◌≡◌, ◌≢◌, ℕ, ◌+◌, ◌/◌, ◌%�
 use Rattle.std.proofs.Math.ListN.{set, get_or}
 use Rattle.std.proofs.lemmas.List.{get_or-set_same, get_or-set_other}
 use Rattle.std.proofs.lemmas.Bool.{MatchBool-at_false, cases_lt}
-use Rattle.pas_profile.specs.Classes.{has_bit}
+use Rattle.pas_bits.specs.Bits.{has_bit}
 use Rattle.pas_profile.specs.Directories.{number_of}
 use Rattle.pas_profile.specs.declared.directory.Directory.{Directory}
 use Rattle.pas_profile.specs.declared.word.Word.TheVariants as Word
@@ -15,15 +15,15 @@ use Rattle.pas_steps.specs.declared.step.Made.{Made}
 use Rattle.pas_steps.specs.declared.step.Step.{Step}
 use Rattle.pas_steps.specs.declared.step.Step.TheVariants.{Look}
 use Rattle.pas_scan.specs.Marks.{is_marked}
-use Rattle.pas_steps.specs.Evidence.{ReadsEligible, ZeroHere, OneHere, ParkedHere, ParkedLater, LacksAfter, MissingHere, HeldHere}
+use Rattle.pas_steps.specs.Evidence.{ReadsEligible, NoDeedHere, ZeroHere, OneHere, GetsHere, LeftHere, ParkedHere, ParkedLater, LacksAfter, MissingHere, HeldHere}
 use Rattle.pas_scan.proofs.Reading.{scans_lack, right_scans, place_of}
 use Rattle.pas_large.specs.Refusals.{LastOffered, NotReadHere, IsAccounted, AllAccounted, IsReason, MarksOffered, Refuses}
 use Rattle.pas_steps.specs.Kinds.{kind_of, is_in}
 use Rattle.pas_profile.specs.declared.profile.Profile.{Profile}
 use Rattle.pas_profile.specs.declared.event.NoRoom.{NoRoom}
 use Rattle.pas_profile.specs.declared.event.NoRoom.TheVariants.{NoSpace, Held}
-use Rattle.pas_steps.specs.Views.{View, has_right, known_deed}
-use Rattle.pas_steps.proofs.Adding.{adds_call}
+use Rattle.pas_steps.specs.Views.{View, has_right, known_deed, KnowsDeed}
+use Rattle.pas_steps.proofs.Adding.{adds_call, agreed_first}
 use Rattle.pas_steps.proofs.Past.{once_later, once_earlier, always_map}
 use Rattle.pas_scan.proofs.LeftPages.{since_earlier}
 use Rattle.pas_scan.specs.Scan.{AllParked, IsVerdict, Judges, judging, last_block}
@@ -160,3 +160,46 @@ module _ (d : Directory) (marks : List ℕ) {σ σ1 σ2 : Standing} (offers : Ma
 pub refuses_by : {σ σ1 σ2 : Standing} (d e h : Directory) (marks : List ℕ) → e ≡ d → h ≡ e → MarksOffered e marks σ σ1 → (room : NoRoom) → Judges marks h σ1 σ2 room → Refuses d σ σ2 room
 refuses_by {σ} {σ1} {σ2} d e h marks ed he offers room judges =
     subst (λ x. Refuses x σ σ2 room) ed (refuses e marks offers room (subst (λ x. Judges marks x σ1 σ2 room) he judges))
+
+-- ---- a reason, with steps that stood before and have no right any more
+module _ (d : Directory) (xs : List Made) (lacks : (p : ℕ) → has_right xs p ≡ false) where
+  left_at : (p : ℕ) (m : Made) (b : List Made) → LeftHere p m b → LeftHere p m (b ++ xs)
+  left_at p m b h = (h.0, right_own p b xs (lacks p) ∙ h.1, once_earlier (GetsHere p) (GetsHere p) b xs (λ n c x. x) h.2)
+
+  later_at : (p : ℕ) (m : Made) (b : List Made) → ParkedLater d p m b → ParkedLater d p m (b ++ xs)
+  later_at p m b h = (
+    (h.0.0, h.0.1, right_own p b xs (lacks p) ∙ h.0.2),
+    elim h.1 [
+      | inl zero_read ↦ inl (zero_before d p b xs (lacks p) zero_read)
+      | inr bare ↦ inr (once_earlier (NoDeedHere p) (NoDeedHere p) b xs (λ n c x. x) bare)
+    ],
+  )
+
+  accounted_before : (p : ℕ) (ys : List Made) → IsAccounted d p ys → IsAccounted d p (ys ++ xs)
+  accounted_before p ys (inl (inl left)) = inl (inl (once_earlier (LeftHere p) (LeftHere p) ys xs (left_at p) left))
+  accounted_before p ys (inl (inr later)) = inl (inr (once_earlier (ParkedLater d p) (ParkedLater d p) ys xs (later_at p) later))
+  accounted_before p ys (inr offered) = inr (since_earlier (OneHere d p) (NotReadHere d p) (OneHere d p) (NotReadHere d p) ys xs (λ m b x. (x.0, x.1, right_own p b xs (lacks p) ∙ x.2)) (λ m b x. x) offered)
+
+  missing_at : (p : ℕ) (m : Made) (b : List Made) → MissingHere d p m b → MissingHere d p m (b ++ xs)
+  missing_at p m b (inl zero_read, after) = (inl (zero_read.0, zero_read.1, right_own p b xs (lacks p) ∙ zero_read.2), right_own p (m ∷ b) xs (lacks p) ∙ after)
+  missing_at p m b (inr bare, after) = (inr bare, right_own p (m ∷ b) xs (lacks p) ∙ after)
+
+  held_at : (p : ℕ) (m : Made) (b : List Made) → HeldHere d p m b → HeldHere d p m (b ++ xs)
+  held_at p m b h = (
+    (h.0.0, h.0.1, right_own p b xs (lacks p) ∙ h.0.2),
+    since_earlier (MissingHere d p) (LacksAfter p) (MissingHere d p) (LacksAfter p) b xs (missing_at p) (λ n c x. right_own p (n ∷ c) xs (lacks p) ∙ x) h.1,
+  )
+
+  module _ (f : Profile) (ys : List Made) where
+    all_before : (end : ℕ) → AllAccounted f d end ys → AllAccounted f d end (ys ++ xs)
+    all_before end all v agreed p some lt knows =
+        accounted_before p ys (all (xs ++ v) (agreed_first f v ys xs agreed) p some lt (subst (KnowsDeed p d) (append_assoc ys xs v) knows))
+
+    pub reason_before : (why : NoRoom) → IsReason f d ys why → IsReason f d (ys ++ xs) why
+    reason_before NoSpace all = all_before (f.pages + 1) all
+    reason_before (Held page) is = record {
+      page_of = is.page_of;
+      of_directory = λ v agreed. subst (KnowsDeed page d) (sym (append_assoc ys xs v)) (is.of_directory (xs ++ v) (agreed_first f v ys xs agreed));
+      held = once_earlier (HeldHere d page) (HeldHere d page) ys xs (held_at page) is.held;
+      lower = all_before page is.lower;
+    }

@@ -1,7 +1,7 @@
 -- On a desk that tells the whole state: what the looks of a search tell of it, and that no page of a usable run is lost or broken.
 use Rattle.std.proofs.Common.{◌≡◌, ◌≢◌, ℕ, ◌+◌, ◌*◌, ◌/◌, ◌%◌, ◌<◌, ◌==◌, Bool, true, false, ◌||◌, ◌&&◌, if◌then◌else◌, List, [], ◌∷◌, ◌++◌, inl, inr, refl, ap, sym, ◌∙◌, subst, arith, true≢false}
 use Rattle.std.proofs.lemmas.Bool.{eqb-true, eq-eqb, false≢true}
-use Rattle.pas_profile.specs.Classes.{has_bit}
+use Rattle.pas_bits.specs.Bits.{has_bit}
 use Rattle.pas_profile.specs.Directories.{deed_word_of, number_of, IsKind}
 use Rattle.pas_profile.specs.Layouts.{same_word}
 use Rattle.pas_profile.specs.declared.directory.Directory.{Directory}
@@ -61,13 +61,13 @@ eligible_told l d p s a ReadsEligible.Claims is = ap (λ x. has_bit x (p % 64)) 
 pub parked_bit_told : (l : Whole) (p : ℕ) (s : Step) (a : ℕ) → ReadsParked p s → a ≡ word_after l (target s) → has_bit a (p % 64) ≡ parked_bit l p
 parked_bit_told l p s a (ReadsParked.Looks j e) is = ap (λ x. has_bit x (p % 64)) (is ∙ ap (λ i. word_after l (Word.Parked i)) e)
 
-free_told : (l : Whole) (p word : ℕ) (s : Step) (a : ℕ) → ReadsFree p word s → a ≡ word_after l (target s) → a ≡ word_after l (Word.Free p word)
+pub free_told : (l : Whole) (p word : ℕ) (s : Step) (a : ℕ) → ReadsFree p word s → a ≡ word_after l (target s) → a ≡ word_after l (Word.Free p word)
 free_told l p word s a ReadsFree.Looks is = is
 free_told l p word s a (ReadsFree.Takes mask) is = is
 
 -- ---- usable pages
 -- the bit of a grain in its free word
-grain_bit : (l : Whole) (p word b : ℕ) → word < 4 → b < 64 → has_bit (word_after l (Word.Free p word)) b ≡ free_of_page l p (64 * word + b)
+pub grain_bit : (l : Whole) (p word b : ℕ) → word < 4 → b < 64 → has_bit (word_after l (Word.Free p word)) b ≡ free_of_page l p (64 * word + b)
 grain_bit l p word b small lt =
     let page : (p * 256 + (64 * word + b)) / 256 ≡ p = omega (arith, small, lt) in
     let at : (p * 256 + (64 * word + b)) / 64 % 4 ≡ word = omega (arith, small, lt) in
@@ -131,7 +131,7 @@ has_unusable f k l d n first steps legal only h usable = unusable_told f k l d h
 
 -- ---- no page of a usable run is lost
 -- where the right of a page may be while one actor alone goes on that doesn't park it: nowhere, offered, or with that actor
-abbrev is_clean : ℕ → Spot → Bool
+abbrev pub is_clean : ℕ → Spot → Bool
 is_clean k (With j) = j == k
 is_clean k InParked = false
 is_clean k o = true
@@ -154,7 +154,7 @@ not_to_parked (Park q) a p ne e = if_way (q == p) ToParked (λ t h. ne (ap Park 
 not_to_parked (Unpark q) a p ne e = if_way ((q == p) && has_bit a (p % 64)) FromParked (λ t h. cc) e
 not_to_parked s a p ne e = cc
 
-clean_own : (k : ℕ) (l : Whole) (p : ℕ) (xs : List Made) → Always (ParksNotHere p) xs → is_clean k (spot_of l p) ≡ true → is_clean k (spot_of (triples k xs ++ l) p) ≡ true
+pub clean_own : (k : ℕ) (l : Whole) (p : ℕ) (xs : List Made) → Always (ParksNotHere p) xs → is_clean k (spot_of l p) ≡ true → is_clean k (spot_of (triples k xs ++ l) p) ≡ true
 clean_own k l p [] none h = h
 clean_own k l p (m ∷ more) none h = clean_after k (way m.step m.answer p) (spot_of (triples k more ++ l) p) (not_to_parked m.step m.answer p none.0) (clean_own k l p more none.1 h)
 
@@ -177,18 +177,18 @@ clean_fresh : (f : Profile) (k : ℕ) (l : Whole) (d : Directory) (p : ℕ) (xs 
 clean_fresh f k l d p xs legal first (inl never) = clean_own k l p xs never first
 clean_fresh f k l d p xs legal first (inr since) = clean_since f k l d p xs legal since
 
-usable_clean : (f : Profile) (k : ℕ) (l : Whole) (d : Directory) (p : ℕ) → Legal f l → IsUsablePage d l p → is_clean k (spot_of l p) ≡ true
+pub usable_clean : (f : Profile) (k : ℕ) (l : Whole) (d : Directory) (p : ℕ) → Legal f l → IsUsablePage d l p → is_clean k (spot_of l p) ≡ true
 usable_clean f k l d p legal (inl none) = ap (is_clean k) (no_deed (spot_of l p) (subst (DeedFits (spot_of l p)) none (spotted f l legal p).deed))
 usable_clean f k l d p legal (inr whole) = offered_clean k (number_of d) (spot_of l p) (sym ((spotted f l legal p).eligible (number_of d)) ∙ whole.offered)
 
 -- a page of the directory that is clean is offered or the actor's
-nowhere_else : (k : ℕ) (d : Directory) (o : Spot) (word : ℕ) → IsKind d.kind → is_clean k o ≡ true → is_with k o ≡ false → is_offered (number_of d) o ≡ false → DeedFits o word → word ≡ deed_word_of d → ⊥
+pub nowhere_else : (k : ℕ) (d : Directory) (o : Spot) (word : ℕ) → IsKind d.kind → is_clean k o ≡ true → is_with k o ≡ false → is_offered (number_of d) o ≡ false → DeedFits o word → word ≡ deed_word_of d → ⊥
 nowhere_else k d Nowhere word is clean mine offered fits deed = deed_word_of-positive d (sym deed ∙ fits)
 nowhere_else k d (With j) word is clean mine offered fits deed = true≢false (sym clean ∙ mine)
 nowhere_else k d (Offered m) word is clean mine offered fits deed = true≢false (sym (eq-eqb m (number_of d) (sym (number_told d m is (sym deed ∙ fits)))) ∙ offered)
 nowhere_else k d InParked word is clean mine offered fits deed = false≢true clean
 
-lost_right : (f : Profile) (k : ℕ) (l : Whole) (d : Directory) (p : ℕ) (m : Made) (before : List Made) → IsKind d.kind → Legal f (triples k (m ∷ before) ++ l) → has_right (part k l) p ≡ false → IsUsablePage d l p → LostRightHere d p m before → ⊥
+pub lost_right : (f : Profile) (k : ℕ) (l : Whole) (d : Directory) (p : ℕ) (m : Made) (before : List Made) → IsKind d.kind → Legal f (triples k (m ∷ before) ++ l) → has_right (part k l) p ≡ false → IsUsablePage d l p → LostRightHere d p m before → ⊥
 lost_right f k l d p m before is legal none usable lost =
     let w : Whole = triples k before ++ l in
     let at = spotted f w legal.1 p in
@@ -228,7 +228,7 @@ lost_deed f k l d p m before legal lost =
     lost.1 (legal.0.answer_is ∙ ap (λ s. word_after w (target s)) lost.0 ∙ none_kept f k l p before legal.1 lost.3 (none_read f k l p before legal.1 lost.2))
 
 -- ---- nor broken
-fewer_not_all : (r fewer : ℕ → Bool) → ((b : ℕ) → b < 256 → fewer b ≡ true → r b ≡ true) → NotAll r → NotAll fewer
+pub fewer_not_all : (r fewer : ℕ → Bool) → ((b : ℕ) → b < 256 → fewer b ≡ true → r b ≡ true) → NotAll r → NotAll fewer
 fewer_not_all r fewer less not all = not (λ b lt. less b lt (all b lt))
 
 -- no run of usable pages fails

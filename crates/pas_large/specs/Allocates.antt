@@ -1,5 +1,5 @@
 -- The allocation of a large block.
-use Rattle.std.specs.Prelude.{ℕ, ◌+◌, ◌*◌, ◌/◌, ◌^◌, ◌<◌, ◌≤◌, ◌≡◌, Bool, true, false, List, [], ◌∷◌, ◌++◌, length, Option, None, Result, Ok, MatchResult, ◌⊎◌}
+use Rattle.std.specs.Prelude.{ℕ, ◌+◌, ◌*◌, ◌/◌, ◌^◌, ◌<◌, ◌≤◌, ◌≡◌, Bool, true, false, List, [], ◌∷◌, ◌++◌, length, Option, Result, Ok, Err, MatchResult, ◌⊎◌}
 use Rattle.pas_profile.specs.declared.directory.Directory.{Directory}
 use Rattle.pas_profile.specs.declared.event.NoRoom.{NoRoom}
 use Rattle.pas_profile.specs.declared.name.Block.{Block}
@@ -15,7 +15,7 @@ use Rattle.pas_steps.specs.Views.{View, holds, KnowsDeed}
 use Rattle.pas_steps.specs.declared.step.Made.{Made}
 use Rattle.pas_search.specs.Kinds.{ReturnsDuly}
 use Rattle.pas_large.specs.Claims.{in_span}
-use Rattle.pas_large.specs.Finds.{MayFind, finding, FoundRun, FoundNone}
+use Rattle.pas_large.specs.Finds.{MayFind, finding, FoundRun, FoundNone, LooksAlone}
 use Rattle.pas_large.specs.Named.{HoldsNamed, MissesNamed, missed_steps}
 use Rattle.pas_large.specs.Pages.{OnlyDeedsShow, claiming_old}
 use Rattle.pas_large.specs.Gives.{BacksIn, BackStep, pages_from, run_block}
@@ -23,7 +23,7 @@ use Rattle.pas_rights.specs.Gives.{give_steps}
 use Rattle.pas_rights.specs.Leaves.{LeaveSteps}
 use Rattle.pas_steps.specs.InTurn.{InTurn}
 use Rattle.pas_large.specs.Refusals.{IsReason}
-use Rattle.pas_large.specs.Telling.{IsToldLarge}
+use Rattle.pas_large.specs.Telling.{IsToldLarge, IsToldByDoor}
 
 -- What the actor holds and has is as it was: none of the block's grains was held. The pages are known to be of the directory.
 pub record GaveLarge (d : Directory) (first n : ℕ) (block : Block) (v w : View) : Type 0 where
@@ -71,6 +71,7 @@ pub record AllocatesByScan (heap n : ℕ) (tells : Bool) (desk desk' : Standing)
   pub shows : OnlyDeedsShow desk.seat.profile searched
   pub few : length (after ++ searched) ≤ 56 * desk.seat.profile.pages + 12 * n + 66
   pub outcome : MatchResult answer (IsAllocatedLarge desk.seat.profile (large_directory heap) n searched after) (IsRefusedLarge desk.seat.profile (large_directory heap) n searched after)
+  pub looked : (why : NoRoom) → answer ≡ Err why → LooksAlone desk.seat.profile (large_directory heap) searched
   pub told : tells ≡ true → (v : View) (l : Whole) → desk.stands v l → MayFind (large_directory heap) v → IsToldLarge desk.seat.profile (large_directory heap) n l (triples desk.seat.actor (after ++ searched) ++ l) answer
 
 -- ---- by the door
@@ -99,7 +100,8 @@ abbrev pub IsServedNamed : Profile → Directory → ℕ → Option ℕ → List
 IsServedNamed f d n found tried after answer = (block : Block) × (answer ≡ Ok block) × IsAllocatedNamed f d n found tried after block
 
 -- ---- the whole request
--- The door named nothing of use, and whatever was tried with it is undone: nothing was, where it named no run. The scan followed.
+-- The door named nothing of use, and whatever was tried with it is undone: nothing was, where it named no run. The scan followed. Its own steps show what a
+-- scan shows, so it rests on nothing that was tried before; and so do all steps of the call together.
 pub record IsScanned (f : Profile) (d : Directory) (n : ℕ) (found : Option ℕ) (tried rest : List Made) (answer : Result Block NoRoom) : Type 0 where
   pub misses : MissesNamed f d n found tried
   pub searched : List Made
@@ -108,11 +110,14 @@ pub record IsScanned (f : Profile) (d : Directory) (n : ℕ) (found : Option ℕ
   pub kinds : Only finding searched
   pub returns : Always ReturnsDuly searched
   pub shows : OnlyDeedsShow f searched
-  pub outcome : MatchResult answer (IsAllocatedLarge f d n searched after) (IsRefusedLarge f d n searched after)
+  pub looked : (why : NoRoom) → answer ≡ Err why → LooksAlone f d searched
+  pub own : MatchResult answer (IsAllocatedLarge f d n searched after) (IsRefusedLarge f d n searched after)
+  pub outcome : MatchResult answer (IsAllocatedLarge f d n (searched ++ tried) after) (IsRefusedLarge f d n (searched ++ tried) after)
 
 -- A request for n pages, where the door named a run or none. It is served from that run, or by the scan. At most 56 steps for each page of the region, 12
--- for each page that is asked for, and 66 more, and where a run was named 48 more for each page that is asked for. On a desk that tells the whole state,
--- where no run was named, the block is on the lowest run that was usable at entry, and a refusal has no such run at entry and none at exit.
+-- for each page that is asked for, and 66 more, and where a run was named 48 more for each page that is asked for. On a desk that tells the whole state
+-- the run that was named is given exactly where its pages are whole at entry; in every other case the block is on the lowest run that was usable then, and a
+-- refusal has no such run at entry and none at exit.
 pub record AllocatesLarge (heap n : ℕ) (found : Option ℕ) (tells : Bool) (desk desk' : Standing) (answer : Result Block NoRoom) : Type 0 where
   pub tried : List Made
   pub rest : List Made
@@ -121,5 +126,5 @@ pub record AllocatesLarge (heap n : ℕ) (found : Option ℕ) (tells : Bool) (de
   pub returns : Always ReturnsDuly tried
   pub shows : OnlyDeedsShow desk.seat.profile tried
   pub few : length (rest ++ tried) ≤ 56 * desk.seat.profile.pages + 12 * n + missed_steps found n + 66
-  pub told : found ≡ None → tells ≡ true → (v : View) (l : Whole) → desk.stands v l → MayFind (large_directory heap) v → IsToldLarge desk.seat.profile (large_directory heap) n l (triples desk.seat.actor (rest ++ tried) ++ l) answer
+  pub told : tells ≡ true → (v : View) (l : Whole) → desk.stands v l → MayFind (large_directory heap) v → IsToldByDoor desk.seat.profile (large_directory heap) n found l (triples desk.seat.actor (rest ++ tried) ++ l) (rest ++ tried) answer
   pub outcome : IsServedNamed desk.seat.profile (large_directory heap) n found tried rest answer ⊎ IsScanned desk.seat.profile (large_directory heap) n found tried rest answer

@@ -1,13 +1,15 @@
 -- The claim of the pages of a run, and how they are left.
-use Rattle.std.specs.Prelude.{ℕ, ◌+◌, ◌-◌, ◌*◌, ◌/◌, ◌<◌, ◌≤◌, ◌≡◌, ◌⊎◌, min, nat_le, nat_lt, Bool, true, false, ◌&&◌, List, ◌++◌, length, Option, MatchOption}
+use Rattle.std.specs.Prelude.{ℕ, ◌+◌, ◌-◌, ◌*◌, ◌/◌, ◌<◌, ◌≤◌, ◌≡◌, ◌⊎◌, min, nat_le, nat_lt, Bool, true, false, ◌&&◌, List, ◌++◌, length, Option, None, MatchOption}
 use Rattle.pas_profile.specs.declared.directory.Directory.{Directory}
 use Rattle.pas_profile.specs.declared.profile.Profile.{Profile}
+use Rattle.pas_rights.specs.Looks.{HintsEmpty}
 use Rattle.pas_rights.specs.PutsBack.{giving_back, GivesDuly}
 use Rattle.pas_steps.specs.Agreement.{Agreed}
 use Rattle.pas_steps.specs.Calls.{Calls, Leads, Lost, nothing, Does}
 use Rattle.pas_steps.specs.Clear.{IsClear}
 use Rattle.pas_steps.specs.Desks.{Standing, Adds}
 use Rattle.pas_steps.specs.Evidence.{KeptHere, GetsHere}
+use Rattle.pas_steps.specs.Frames.{IsOnPage}
 use Rattle.pas_steps.specs.Kinds.{Only}
 use Rattle.pas_steps.specs.Past.{Once, Always, Since}
 use Rattle.pas_steps.specs.Unknown.{unknown_pages}
@@ -16,7 +18,7 @@ use Rattle.pas_steps.specs.declared.step.Made.{Made}
 use Rattle.pas_steps.specs.declared.step.Step.TheVariants.{Deed}
 use Rattle.pas_scan.specs.Usable.{ReadUsable, LeftAlone}
 use Rattle.pas_search.specs.Kinds.{IsReturnOf, ReturnsDuly}
-use Rattle.pas_large.specs.Evidence.{LostHere, BrokenHere, TakenWholeHere, DeedsRise}
+use Rattle.pas_large.specs.Evidence.{LostHere, BrokenHere, TakenWholeHere, DeedsRise, MissedHere, GotOf, LeftOrBroken}
 use Rattle.pas_large.specs.Pages.{OnceAfter, of_pages, GotPages, OnlyDeedsShow, claiming, claiming_old}
 
 -- the page is one of those from `first` to below `end`
@@ -79,6 +81,9 @@ pub record ClaimsPages (deeds : Bool) (d : Directory) (first end : ℕ) (desk de
   pub alone : (before : List Made) → AloneFrom first before → AloneFrom (min (stop + 1) end) (steps ++ before)
   pub steady : (g : ℕ) → in_span first end (g / 256) ≡ false → StaysPut g steps
   pub failed : stop < end → deeds ≡ true → FailsAt desk.seat.profile d first stop steps
+  pub missed : stop < end → deeds ≡ false → Once (MissedHere d stop) steps
+  pub of : deeds ≡ false → (p : ℕ) → in_span first stop p ≡ true → GotOf d p steps
+  pub left : deeds ≡ false → (p : ℕ) → in_span first stop p ≡ false → LeftOrBroken d p steps
 
 -- ---- the pages are left
 -- the rights of these pages and all their grains are the actor's, who is clear
@@ -88,16 +93,19 @@ pub record HasPages (d : Directory) (first end : ℕ) (v : View) : Type 0 where
   pub deeds : (p : ℕ) → in_span first end p ≡ true → KnowsDeed p d v
   pub clear : IsClear v
 
--- They are the actor's no longer, and no other page is offered, parked, taken back or hinted. What is put is what the steps before held of them. At most 15
--- steps a page, and no event.
+-- They are the actor's no longer, and no step is on another page. A page is hinted only after these steps read it as empty, and what is put is what the steps
+-- before held of them. A page that was parked, by steps that claimed it, was broken then. At most 15 steps a page, and no event.
 pub record Releases (d : Directory) (first end : ℕ) (desk desk' : Standing) : Type 0 where
   pub steps : List Made
   pub calls : Calls desk desk' (HasPages d first end) (Does (of_pages (in_span first end) Lost)) steps
   pub kinds : Only giving_back steps
   pub within : Always (λ m before. (p : ℕ) → IsReturnOf p m.step → in_span first end p ≡ true) steps
+  pub hints : Always HintsEmpty steps
+  pub on : Always (λ m before. (p : ℕ) × (in_span first end p ≡ true) × IsOnPage p m.step) steps
   pub due : (before : List Made) → ((g : ℕ) → in_span first end (g / 256) ≡ true → holds before g ≡ true) → Always GivesDuly before → Always GivesDuly (steps ++ before)
   pub few : length steps ≤ 15 * (end - first)
   pub lacks : (before : List Made) (p : ℕ) → (in_span first end p ≡ false → has_right before p ≡ false) → has_right (steps ++ before) p ≡ false
+  pub left : (before : List Made) (p : ℕ) → in_span first end p ≡ true → GotOf d p before → LeftOrBroken d p (steps ++ before)
   pub alone : (before : List Made) (p : ℕ) → end ≤ p → LeftAlone p before → LeftAlone p (steps ++ before)
   pub steady : (g : ℕ) → in_span first end (g / 256) ≡ false → StaysPut g steps
 
@@ -120,6 +128,8 @@ pub record FailsRun (deeds : Bool) (f : Profile) (d : Directory) (first end page
   pub lacks : (before : List Made) → LacksAll before → LacksAll (steps ++ before)
   pub alone : (before : List Made) → AloneFrom first before → AloneFrom (page + 1) (steps ++ before)
   pub failed : deeds ≡ true → FailsAt f d first page steps
+  pub missed : deeds ≡ false → Once (MissedHere d page) steps
+  pub left : deeds ≡ false → (p : ℕ) → LeftOrBroken d p steps
 
 -- Where `deeds` is false no deed is made. Deeds are made from the lowest page up. No page is given up, taken back or hinted but one that was got.
 pub record ClaimsRun (deeds : Bool) (d : Directory) (first end : ℕ) (desk desk' : Standing) (failed : Option ℕ) : Type 0 where
@@ -132,4 +142,5 @@ pub record ClaimsRun (deeds : Bool) (d : Directory) (first end : ℕ) (desk desk
   pub rise : DeedsRise steps
   pub shows : OnlyDeedsShow desk.seat.profile steps
   pub steady : (g : ℕ) → in_span first end (g / 256) ≡ false → StaysPut g steps
+  pub of : deeds ≡ false → failed ≡ None → (p : ℕ) → in_span first end p ≡ true → GotOf d p steps
   pub outcome : MatchOption failed (HoldsRun desk.seat.profile d first end steps) (λ page. FailsRun deeds desk.seat.profile d first end page steps)

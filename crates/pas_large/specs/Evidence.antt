@@ -1,6 +1,7 @@
 -- The evidence of a large request, over the steps of one call, the newest first.
 use Rattle.std.specs.Prelude.{ℕ, ◌+◌, ◌/◌, ◌%◌, ◌<◌, ◌≤◌, ◌≡◌, ◌≢◌, ◌⊎◌, true, false, List}
-use Rattle.pas_profile.specs.Classes.{has_bit}
+use Rattle.pas_bits.specs.Bits.{has_bit}
+use Rattle.pas_profile.specs.Directories.{deed_word_of}
 use Rattle.pas_profile.specs.Profiles.{IsPage}
 use Rattle.pas_profile.specs.declared.directory.Directory.{Directory}
 use Rattle.pas_profile.specs.declared.profile.Profile.{Profile}
@@ -8,7 +9,7 @@ use Rattle.pas_steps.specs.Views.{holds, has_right}
 use Rattle.pas_steps.specs.Past.{Once, Always, Since}
 use Rattle.pas_steps.specs.declared.step.Made.{Made}
 use Rattle.pas_steps.specs.declared.step.Step.TheVariants.{Deed, TakeRight}
-use Rattle.pas_steps.specs.Evidence.{Readings, NoDeedHere, KeptHere, UnfitHere}
+use Rattle.pas_steps.specs.Evidence.{Readings, ReadsDeed, NoDeedHere, KeptHere, GetsHere, UnfitHere}
 use Rattle.pas_scan.specs.Usable.{DeedReadHere, OfHere, ParksNotHere, WholeHere, ReadUsable, IsFresh, UnusableHere, MakesNoDeedHere}
 use Rattle.pas_scan.specs.Runs.{IsInRun}
 
@@ -81,7 +82,19 @@ pub record IsTakenRun (d : Directory) (n first : ℕ) (before : List Made) : Typ
   pub right : (page : ℕ) → IsInRun first n page → has_right before page ≡ true
   pub whole : (page word : ℕ) → IsInRun first n page → word < 4 → Since (TakenWholeHere page word) (KeptHere page) before
 
--- ---- what a claim that failed leaves
+-- ---- what a claim without a deed gets and, where it fails, leaves
+-- the page's deed word was read as another, or the page was lost or broken
+abbrev pub MissedHere : Directory → ℕ → Made → List Made → Type 0
+MissedHere d page m before = (ReadsDeed page m.step × (m.answer ≢ deed_word_of d)) ⊎ (LostRightHere d page m before ⊎ BrokenHere page m before)
+
+-- These steps read the page as of the directory and got its right, which they have. They didn't make its deed, nor did they park it.
+pub record GotOf (d : Directory) (page : ℕ) (xs : List Made) : Type 0 where
+  pub right : has_right xs page ≡ true
+  pub of : Once (OfHere d page) xs
+  pub got : Once (GetsHere page) xs
+  pub deeds : Always (MakesNoDeedHere page) xs
+  pub parks : Always (ParksNotHere page) xs
+
 -- These steps don't have the page's right, hold none of its grains, and didn't make its deed. They didn't park it either, or the page was read as of the
 -- directory and then broken.
 pub record LeftOrBroken (d : Directory) (page : ℕ) (xs : List Made) : Type 0 where

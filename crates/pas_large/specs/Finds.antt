@@ -1,5 +1,5 @@
 -- The search for a run that can be claimed.
-use Rattle.std.specs.Prelude.{ℕ, ◌+◌, ◌*◌, ◌<◌, ◌≤◌, ◌≡◌, ◌⊎◌, Bool, true, false, ◌∷◌, ◌++◌, List, length, Option, MatchOption}
+use Rattle.std.specs.Prelude.{ℕ, ◌+◌, ◌*◌, ◌<◌, ◌≤◌, ◌≡◌, ◌⊎◌, Bool, true, false, ◌∷◌, ◌++◌, List, length, Option, None, MatchOption}
 use Rattle.pas_profile.specs.declared.directory.Directory.{Directory}
 use Rattle.pas_profile.specs.declared.profile.Profile.{Profile}
 use Rattle.pas_steps.specs.Calls.{Leads, nothing, Does}
@@ -41,21 +41,24 @@ pub record FoundRun (f : Profile) (d : Directory) (n : ℕ) (steps : List Made) 
   pub deeds : DeedsOf d n (λ other. (other ≡ first) ⊎ HasFailed d n other steps) steps
   pub rise : DeedsRise steps
 
--- No run can serve, and all is as it was but for the deeds, each of a page of a run that failed, and above those of the deeds before it. Where no other
--- actor made a step between these, they were looks alone: then no run that was read as usable fails.
+-- No run can serve, and all is as it was but for the deeds, each of a page of a run that failed, and above those of the deeds before it.
 pub record FoundNone (f : Profile) (d : Directory) (n : ℕ) (steps : List Made) : Type 0 where
   pub still : Leads f (MayFind d) (Does nothing) steps
   pub vain : IsVain f d n steps
   pub deeds : DeedsOf d n (λ other. HasFailed d n other steps) steps
   pub rise : DeedsRise steps
   pub lacks : LacksAll steps
-  pub looked : (k : ℕ) (l : Whole) → Legal f (triples k steps ++ l) → MayFind d (part k l) → Only looking steps
+
+-- where no other actor made a step between these, they were looks alone
+abbrev pub LooksAlone : Profile → Directory → List Made → Type 0
+LooksAlone f d steps = (k : ℕ) (l : Whole) → Legal f (triples k steps ++ l) → MayFind d (part k l) → Only looking steps
 
 -- On a desk that tells the whole state the run is the lowest usable one, and where none is found there is none, and all steps were looks.
 abbrev pub IsToldFind : Profile → Directory → ℕ → Whole → List Made → Option ℕ → Type 0
 IsToldFind f d n l steps found = MatchOption found (HasNoUsableRun f d n l × Only looking steps) (IsLowestRun f d n l)
 
--- At most six looks at each page, and 48 steps for the claim of each. No page is given up, taken back or hinted but one that the search got.
+-- At most six looks at each page, and 48 steps for the claim of each. No page is given up, taken back or hinted but one that the search got. A run that was
+-- read as usable fails only where another actor made a step meanwhile: where none did and no run was found, all steps were looks.
 pub record Finds (d : Directory) (n : ℕ) (tells : Bool) (desk desk' : Standing) (found : Option ℕ) : Type 0 where
   pub steps : List Made
   pub adds : Adds desk desk' (MayFind d) steps
@@ -64,4 +67,5 @@ pub record Finds (d : Directory) (n : ℕ) (tells : Bool) (desk desk' : Standing
   pub shows : OnlyDeedsShow desk.seat.profile steps
   pub few : length steps ≤ 54 * desk.seat.profile.pages
   pub outcome : MatchOption found (FoundNone desk.seat.profile d n steps) (FoundRun desk.seat.profile d n steps)
+  pub looked : found ≡ None → LooksAlone desk.seat.profile d steps
   pub told : tells ≡ true → (v : View) (l : Whole) → desk.stands v l → MayFind d v → IsToldFind desk.seat.profile d n l steps found

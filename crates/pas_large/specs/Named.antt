@@ -1,14 +1,16 @@
 -- The claim of the run that a door names.
-use Rattle.std.specs.Prelude.{ℕ, ◌+◌, ◌*◌, ◌≤◌, ◌≡◌, List, [], length, Option, None, Some, MatchOption}
+use Rattle.std.specs.Prelude.{ℕ, ◌+◌, ◌*◌, ◌≤◌, ◌≡◌, true, List, [], length, Option, None, Some, MatchOption}
 use Rattle.pas_profile.specs.declared.directory.Directory.{Directory}
 use Rattle.pas_profile.specs.declared.profile.Profile.{Profile}
+use Rattle.pas_scan.specs.Runs.{IsInRun}
 use Rattle.pas_steps.specs.Calls.{Leads, nothing, Does}
 use Rattle.pas_steps.specs.Desks.{Standing, Adds}
 use Rattle.pas_steps.specs.Kinds.{Only}
-use Rattle.pas_steps.specs.Past.{Always}
+use Rattle.pas_steps.specs.Past.{Once, Always}
 use Rattle.pas_steps.specs.declared.step.Made.{Made}
 use Rattle.pas_search.specs.Kinds.{ReturnsDuly}
 use Rattle.pas_large.specs.Claims.{in_span, LacksAll, HoldsSpan}
+use Rattle.pas_large.specs.Evidence.{MissedHere, GotOf, LeftOrBroken}
 use Rattle.pas_large.specs.Finds.{MayFind}
 use Rattle.pas_large.specs.Pages.{GotPages, OnlyDeedsShow, claiming_old}
 
@@ -18,6 +20,7 @@ pub record HoldsNamed (f : Profile) (d : Directory) (n : ℕ) (found : Option �
   pub named : found ≡ Some first
   pub of_region : (1 ≤ first) × (first + n ≤ f.pages + 1)
   pub got : Leads f (MayFind d) (GotPages (in_span first (first + n)) d) steps
+  pub of : (p : ℕ) → in_span first (first + n) p ≡ true → GotOf d p steps
   pub holding : HoldsSpan first (first + n) steps
   pub few : length steps ≤ 6 * n
 
@@ -26,11 +29,14 @@ abbrev pub missed_steps : Option ℕ → ℕ → ℕ
 missed_steps None n = 0
 missed_steps (Some first) n = 48 * n
 
--- All is as it was. Where no run was named no step was made.
+-- All is as it was, and a page that was parked was read as of the directory and broken. Where no run was named no step was made, and where one of the region
+-- was, a page of it was missed.
 pub record MissesNamed (f : Profile) (d : Directory) (n : ℕ) (found : Option ℕ) (steps : List Made) : Type 0 where
   pub unnamed : found ≡ None → steps ≡ []
+  pub missed : (first : ℕ) → found ≡ Some first → 1 ≤ first → first + n ≤ f.pages + 1 → (page : ℕ) × IsInRun first n page × Once (MissedHere d page) steps
   pub still : Leads f (MayFind d) (Does nothing) steps
   pub lacks : LacksAll steps
+  pub left : (p : ℕ) → LeftOrBroken d p steps
   pub few : length steps ≤ missed_steps found n
 
 -- No deed is made, and no page is given up, taken back or hinted but one that the claim got.

@@ -16,10 +16,10 @@ use Rattle.pas_steps.specs.Unknown.{unknown_pages}
 use Rattle.pas_steps.specs.Views.{View, holds, has_right, known_deed, KnowsDeed}
 use Rattle.pas_steps.specs.declared.step.Made.{Made}
 use Rattle.pas_steps.specs.declared.step.Step.TheVariants.{Deed}
-use Rattle.pas_scan.specs.Usable.{ReadUsable, LeftAlone}
+use Rattle.pas_scan.specs.Usable.{OfHere, ReadUsable, LeftAlone}
 use Rattle.pas_search.specs.Kinds.{ReturnsDuly}
-use Rattle.pas_search.specs.Serving.{MayServe, GotBefore, right_of}
-use Rattle.pas_large.specs.Evidence.{LostHere, BrokenHere, TakenWholeHere, DeedsRise}
+use Rattle.pas_search.specs.Serving.{MayServe, HoldsNone, GotBefore, right_of}
+use Rattle.pas_large.specs.Evidence.{LostHere, BrokenHere, TakenWholeHere, DeedsRise, MissedHere, GotOf, LeftOrBroken}
 use Rattle.pas_large.specs.declared.claiming.Claimed.{Claimed}
 
 -- the page's right isn't the actor's, unless the page is known to be of another directory; and the actor is clear
@@ -69,19 +69,22 @@ pub record GetsRightOf (f : Profile) (d : Directory) (page : ℕ) (steps : List 
   pub leads : Leads f (MayClaim d page) (GotRight page d) steps
   pub got : (before : List Made) → LeftAlone page before → GotBefore page (steps ++ before)
 
--- the page was lost, where the call had read it as usable before and may make deeds
+-- the page was lost, where the call had read it as usable before and may make deeds; it was left alone
 pub record LosesRightOf (deeds : Bool) (f : Profile) (d : Directory) (page : ℕ) (steps : List Made) : Type 0 where
   pub leads : Leads f AnyView (Does nothing) steps
+  pub alone : LeftAlone page steps
+  pub missed : deeds ≡ false → Once (MissedHere d page) steps
   pub lacks : (before : List Made) → has_right before page ≡ false → has_right (steps ++ before) page ≡ false
   pub lost : deeds ≡ true → (before : List Made) (v : View) → LeftAlone page before → ReadUsable d page before → Agreed f v (steps ++ before) → OnceAfter before (LostHere d page) steps
 
--- a look at the deed word, and a claim, or where deeds may be made a deed
+-- A look at the deed word, and a claim, or where deeds may be made a deed. Without a deed the page is got only where it was read as of the directory.
 pub record GetsPage (deeds : Bool) (d : Directory) (page : ℕ) (desk desk' : Standing) (got : Bool) : Type 0 where
   pub steps : List Made
   pub adds : Adds desk desk' AnyView steps
   pub on : OnlyOn page steps
   pub kinds : Only getting steps
   pub old : deeds ≡ false → Only getting_old steps
+  pub of : deeds ≡ false → got ≡ true → Once (OfHere d page) steps
   pub few : length steps ≤ 2
   pub made : DeedsOn d page steps
   pub rise : DeedsRise steps
@@ -104,6 +107,7 @@ pub record KeepsAll (f : Profile) (d : Directory) (page : ℕ) (steps : List Mad
 pub record LeavesBroken (f : Profile) (d : Directory) (page : ℕ) (steps : List Made) : Type 0 where
   pub leads : Leads f (MayServe page d) (Does (right_of page Lost)) steps
   pub lacks : (before : List Made) → has_right (steps ++ before) page ≡ false
+  pub none : (before : List Made) → HoldsNone page before → HoldsNone page (steps ++ before)
   pub broken : (before : List Made) → GotBefore page before → OnceAfter before (BrokenHere page) steps
 
 pub record TakesPage (d : Directory) (page : ℕ) (desk desk' : Standing) (whole : Bool) : Type 0 where
@@ -127,26 +131,31 @@ claiming_old = LookDeed ∷ Claiming ∷ taking_grains
 pub record LosesPage (deeds : Bool) (f : Profile) (d : Directory) (page : ℕ) (steps : List Made) : Type 0 where
   pub still : Leads f (MayClaim d page) (Does nothing) steps
   pub lacks : (before : List Made) → has_right before page ≡ false → has_right (steps ++ before) page ≡ false
+  pub alone : LeftAlone page steps
+  pub missed : deeds ≡ false → Once (MissedHere d page) steps
   pub lost : deeds ≡ true → (before : List Made) (v : View) → LeftAlone page before → ReadUsable d page before → Agreed f v (steps ++ before) → OnceAfter before (LostHere d page) steps
 
 -- not all its grains were free, and all is as it was
-pub record BreaksPage (f : Profile) (d : Directory) (page : ℕ) (steps : List Made) : Type 0 where
+pub record BreaksPage (deeds : Bool) (f : Profile) (d : Directory) (page : ℕ) (steps : List Made) : Type 0 where
   pub still : Leads f (MayClaim d page) (Does nothing) steps
   pub lacks : (before : List Made) → has_right before page ≡ false → has_right (steps ++ before) page ≡ false
+  pub left : deeds ≡ false → LeftOrBroken d page steps
+  pub missed : deeds ≡ false → Once (MissedHere d page) steps
   pub broken : (before : List Made) → LeftAlone page before → OnceAfter before (BrokenHere page) steps
 
 -- the page's right and all its grains are the actor's
-pub record WinsPage (f : Profile) (d : Directory) (page : ℕ) (steps : List Made) : Type 0 where
+pub record WinsPage (deeds : Bool) (f : Profile) (d : Directory) (page : ℕ) (steps : List Made) : Type 0 where
   pub few : length steps ≤ 6
   pub leads : Leads f (MayClaim d page) (GotPages (λ q. page == q) d) steps
   pub gets : Once (GetsHere page) steps
+  pub of : deeds ≡ false → GotOf d page steps
   pub right : (before : List Made) → LeftAlone page before → has_right (steps ++ before) page ≡ true
   pub whole : (before : List Made) → LeftAlone page before → (word : ℕ) → word < 4 → Since (TakenWholeHere page word) (KeptHere page) (steps ++ before)
 
 abbrev pub IsClaimed : Bool → Profile → Directory → ℕ → List Made → Claimed → Type 0
 IsClaimed deeds f d page steps Claimed.Lost = LosesPage deeds f d page steps
-IsClaimed deeds f d page steps Claimed.Broken = BreaksPage f d page steps
-IsClaimed deeds f d page steps Claimed.Whole = WinsPage f d page steps
+IsClaimed deeds f d page steps Claimed.Broken = BreaksPage deeds f d page steps
+IsClaimed deeds f d page steps Claimed.Whole = WinsPage deeds f d page steps
 
 pub record ClaimsPage (deeds : Bool) (d : Directory) (page : ℕ) (desk desk' : Standing) (claimed : Claimed) : Type 0 where
   pub steps : List Made

@@ -1,13 +1,14 @@
 -- Runs of usable pages in a state, and what a request says of the states at its entry and its exit, on a desk that tells the whole state.
-use Rattle.std.specs.Prelude.{ℕ, ◌+◌, ◌*◌, ◌<◌, ◌≤◌, ◌≡◌, ◌⊎◌, true, Result, MatchResult}
+use Rattle.std.specs.Prelude.{ℕ, ◌+◌, ◌*◌, ◌<◌, ◌≤◌, ◌≡◌, ◌⊎◌, true, List, length, Option, Some, Result, Ok, MatchResult}
 use Rattle.pas_profile.specs.Directories.{deed_word_of, number_of}
-use Rattle.pas_profile.specs.Runs.{address_of}
+use Rattle.pas_profile.specs.Blocks.{address_of}
 use Rattle.pas_profile.specs.declared.directory.Directory.{Directory}
 use Rattle.pas_profile.specs.declared.event.NoRoom.{NoRoom}
 use Rattle.pas_profile.specs.declared.name.Block.{Block}
 use Rattle.pas_profile.specs.declared.profile.Profile.{Profile}
 use Rattle.pas_profile.specs.declared.word.Word.TheVariants as Word
 use Rattle.pas_steps.specs.Lists.{Whole, word_after}
+use Rattle.pas_steps.specs.declared.step.Made.{Made}
 use Rattle.pas_core.specs.Rights.{eligible_bit, free_of_page}
 use Rattle.pas_scan.specs.Runs.{IsInRun}
 use Rattle.pas_search.specs.Telling.{IsTrueReason}
@@ -36,9 +37,21 @@ pub record IsLowestRun (f : Profile) (d : Directory) (n : ℕ) (l : Whole) (firs
   pub usable : IsUsableRun d n l first
   pub lowest : (other : ℕ) → 1 ≤ other → other < first → IsUsableRun d n l other → ⊥
 
+-- the door named this run of the region, and its pages are of the directory, offered and all free
+pub record IsNamedWhole (f : Profile) (d : Directory) (n : ℕ) (l : Whole) (found : Option ℕ) (first : ℕ) : Type 0 where
+  pub named : found ≡ Some first
+  pub of_region : (1 ≤ first) × (first + n ≤ f.pages + 1)
+  pub whole : (page : ℕ) → IsInRun first n page → IsWholePage d l page
+
 -- The block is given on the lowest run that was usable at entry. Where the request is refused, there was none at entry, nor is there one at exit,
 -- and the reason is true at exit.
 abbrev pub IsToldLarge : Profile → Directory → ℕ → Whole → Whole → Result Block NoRoom → Type 0
 IsToldLarge f d n entry exit answer = MatchResult answer
     (λ block. (first : ℕ) × IsLowestRun f d n entry first × (address_of block.name ≡ first * 4096))
     (λ room. HasNoUsableRun f d n entry × HasNoUsableRun f d n exit × IsTrueReason f d exit room)
+
+-- Where the run that the door named was whole at entry, the block is given on it, in at most 18 steps for each page and two more. In every other case the
+-- lowest usable run is taken, as where the door named none.
+pub record IsToldByDoor (f : Profile) (d : Directory) (n : ℕ) (found : Option ℕ) (entry exit : Whole) (steps : List Made) (answer : Result Block NoRoom) : Type 0 where
+  pub served : (first : ℕ) → IsNamedWhole f d n entry found first → (block : Block) × (answer ≡ Ok block) × (address_of block.name ≡ first * 4096) × (length steps ≤ 18 * n + 2)
+  pub otherwise : ((first : ℕ) → IsNamedWhole f d n entry found first → ⊥) → IsToldLarge f d n entry exit answer

@@ -1,27 +1,13 @@
 //! The search for a run that can be claimed.
 ghost use Rattle.std.specs.Prelude.{◌≡◌, ◌≤◌, ◌<◌, ◌+◌};
-ghost use Rattle.pas_scan.specs.Runs.{large_directory, FindsRun};
-ghost use Rattle.pas_steps.specs.Desks.{AnyView, CanCall};
+ghost use Rattle.pas_scan.specs.Runs.{large_directory};
+ghost use Rattle.pas_steps.specs.Desks.{CanCall};
 ghost use Rattle.pas_large.specs.Finds.{FindRoom, Finds};
 
 use crate::running::claim_run;
 use pas_profile::{Directory, Kind};
 use pas_scan::next_run;
 use pas_steps::Desk;
-
-/// The first page of the run that is to be claimed next: the lowest one from page `from` on whose pages were all read as
-/// usable. Those from there to below `next` were read so before.
-fn run_to_claim<D: Desk>(desk: &mut D, heap: u8, from: u32, next: u32, pages: u32) -> Option<u32>
-    requires heap { heap < (D.standing desk.old).seat.profile.heaps }
-    requires from { 1 ≤ from }
-    requires read { from ≤ next }
-    requires short { next < from + pages }
-    requires can { CanCall (D.standing desk.old) AnyView }
-    ensures found { FindsRun (large_directory heap) from next pages (D.standing desk.old) (D.standing desk.new) result }
-    ensures home { D.home desk.new ≡ D.home desk.old }
-{
-    next_run(desk, heap, from, next, pages)
-}
 
 /// Claims the lowest run of so many pages that can be claimed for a large block of the heap, and answers its first page. Its pages are held then.
 ///
@@ -41,7 +27,7 @@ pub fn find_run<D: Desk>(desk: &mut D, heap: u8, pages: u32) -> Option<u32>
     };
     let mut from = 1;
     let mut next = 1;
-    while let Some(first) = run_to_claim(desk, heap, from, next, pages) {
+    while let Some(first) = next_run(desk, heap, from, next, pages) {
         match claim_run(desk, first, first + pages, directory, true) {
             None => return Some(first),
             Some(page) => {

@@ -1,1 +1,1 @@
-pub mod Spans
+mod Spans

@@ -14,10 +14,10 @@ pub give_run-requires-clause-room : goal.give_run-requires-clause-room
 give_run-requires-clause-room g c = let names = c.in-Some.ensures.names in room_named (large_directory c.args.heap) c.args.pages (c.args.pages + 1) names.2 (g.D.Desk.spare_of c.args.desk.now) _ c.requires.can (g.met.D.Desk.spares c.args.desk.now) (g.met.D.Desk.spares c.claim_named.new.desk)
 
 pub returns-in-Some-clause-allocates : goal.returns-in-Some-clause-allocates
-returns-in-Some-clause-allocates g c = let names = c.in-Some.ensures.names in (names.0, names.1, serves_named c.args.heap c.args.pages c.in-Some.first names.0 g.D.Desk.tells names.2 c.give_run.result c.give_run.ensures.gives)
+returns-in-Some-clause-allocates g c = let names = c.in-Some.ensures.names in (names.0, names.1, serves_named c.args.heap c.args.pages c.in-Some.first names.0 g.D.Desk.tells names.2 c.give_run.result (g.met.D.Desk.valid c.args.desk.now) (λ t v l stood. g.met.D.Desk.told c.give_run.new.desk v l t stood) (λ t v l stood. g.met.D.Desk.told_part c.args.desk.now v l t stood) c.give_run.ensures.gives)
 
 pub alloc_by_scan-requires-clause-can : goal.alloc_by_scan-requires-clause-can
 alloc_by_scan-requires-clause-can g c = let names = c.in-None.ensures.names in can_scan (large_directory c.args.heap) c.args.pages (c.args.pages + 1) names.2 (g.D.Desk.spare_of c.args.desk.now) _ c.requires.can (g.met.D.Desk.spares c.args.desk.now) (g.met.D.Desk.spares c.claim_named.new.desk)
 
 pub returns-in-None-clause-allocates : goal.returns-in-None-clause-allocates
-returns-in-None-clause-allocates g c = let names = c.in-None.ensures.names in (names.0, names.1, scans_after c.args.heap c.args.pages names.0 g.D.Desk.tells names.2 c.alloc_by_scan.result c.alloc_by_scan.ensures.allocates)
+returns-in-None-clause-allocates g c = let names = c.in-None.ensures.names in (names.0, names.1, scans_after c.args.heap c.args.pages names.0 g.D.Desk.tells names.2 (may_find c.requires.can) (g.met.D.Desk.valid c.args.desk.now) (λ t v l stood. g.met.D.Desk.told c.alloc_by_scan.new.desk v l t stood) (λ t v l stood. g.met.D.Desk.told_part c.args.desk.now v l t stood) c.alloc_by_scan.result c.alloc_by_scan.ensures.allocates)

@@ -7,15 +7,15 @@ pub loop-first-init : goal.loop-first-init
 loop-first-init g c = record { low = omega arith; so_far = searched_none (large_directory c.args.heap) c.args.pages c.requires.pages; told = λ t. (refl, refl, none_searched _ (large_directory c.args.heap) c.args.pages c.requires.pages); alone = λ k l legal met. (refl, refl, none_searched _ (large_directory c.args.heap) c.args.pages c.requires.pages); home = refl }
 
 pub returns-clause-finds : goal.returns-clause-finds
-returns-clause-finds g c = let i = c.loop-first.invariant in finds_none (large_directory c.args.heap) c.args.pages c.loop-first.from c.loop-first.next i.low i.so_far g.D.Desk.tells (λ t v l stood. g.met.D.Desk.told c.run_to_claim.new.desk v l t stood) i.told i.alone c.in_default.ensures.found
+returns-clause-finds g c = let i = c.loop-first.invariant in finds_none (large_directory c.args.heap) c.args.pages c.loop-first.from c.loop-first.next i.low i.so_far g.D.Desk.tells (λ t v l stood. g.met.D.Desk.told c.next_run.new.desk v l t stood) i.told i.alone c.in_default.ensures.found
 
 pub claim_run-requires-clause-can : goal.claim_run-requires-clause-can
 claim_run-requires-clause-can g c = let i = c.loop-first.invariant in
-    can_claim_run (large_directory c.args.heap) c.args.pages c.loop-first.from c.loop-first.next i.low i.so_far c.in-Some.first c.in-Some.ensures.found (g.D.Desk.spare_of c.args.desk.now) _ c.requires.can (g.met.D.Desk.spares c.args.desk.now) (g.met.D.Desk.spares c.run_to_claim.new.desk)
+    can_claim_run (large_directory c.args.heap) c.args.pages c.loop-first.from c.loop-first.next i.low i.so_far c.in-Some.first c.in-Some.ensures.found (g.D.Desk.spare_of c.args.desk.now) _ c.requires.can (g.met.D.Desk.spares c.args.desk.now) (g.met.D.Desk.spares c.next_run.new.desk)
 
 pub returns-in-None-clause-finds : goal.returns-in-None-clause-finds
 returns-in-None-clause-finds g c = let i = c.loop-first.invariant in
-    finds_run (large_directory c.args.heap) c.args.pages c.loop-first.from c.loop-first.next i.low i.so_far c.in-Some.first c.in-Some.ensures.found g.D.Desk.tells (λ t v l stood. g.met.D.Desk.told c.run_to_claim.new.desk v l t stood) i.told c.requires.pages c.in-None.ensures.claims
+    finds_run (large_directory c.args.heap) c.args.pages c.loop-first.from c.loop-first.next i.low i.so_far c.in-Some.first c.in-Some.ensures.found g.D.Desk.tells (λ t v l stood. g.met.D.Desk.told c.next_run.new.desk v l t stood) i.told c.requires.pages c.in-None.ensures.claims
 
 pub loop-first-preserved : goal.loop-first-preserved
 loop-first-preserved g c = let i = c.loop-first.invariant in record {

@@ -1,0 +1,274 @@
+-- What a claim without a deed gets of a page, and what is left of it: the page is as it was for the steps of the call, or it was broken.
+use Rattle.std.proofs.Common.{◌≡◌, ◌≢◌, ℕ, zero, suc, ◌+◌, ◌*◌, ◌/◌, ◌%◌, ◌<◌, ◌==◌, Bool, true, false, ◌||◌, if◌then◌else◌, MatchBool, List, [], ◌∷◌, ◌++◌, ◌⊎◌, inl, inr, slice_index, refl, ap, sym, ◌∙◌, subst, arith, append_assoc, true≢false}
+use Rattle.std.proofs.lemmas.Bool.{and_from, cases_Bool, cases_eq, cond_both, eq-eqb}
+use Rattle.pas_bits.specs.declared.mask.Mask4.{Mask4}
+use Rattle.pas_bits.specs.Masks.{is_set}
+use Rattle.pas_bits.proofs.Words.{at_word}
+use Rattle.pas_bits.specs.Bits.{has_bit}
+use Rattle.pas_profile.specs.Directories.{IsDirectory}
+use Rattle.pas_profile.specs.declared.directory.Directory.{Directory}
+use Rattle.pas_rights.specs.Leaves.{EndsLeave, LeaveSteps}
+use Rattle.pas_rights.specs.Looks.{looks, HasUsable, HasNoUsable, HintsEmpty, HintsWhere, ReadsBacked, ReadsAllFree, TakesNone}
+use Rattle.pas_rights.specs.Puts.{masked, WordPut, PutsBelow}
+use Rattle.pas_rights.specs.PutsBack.{giving_back, GivesDuly, PutsAndLeaves}
+use Rattle.pas_rights.specs.Words.{words, full}
+use Rattle.pas_rights.proofs.Hints.{leave_due}
+use Rattle.pas_rights.proofs.Looks.{looks_only, looks_read, none_used, on_full}
+use Rattle.pas_rights.proofs.Orders.{parked_on, leave_returns}
+use Rattle.pas_rights.proofs.Puts.{none_in, in_word, puts_kinds}
+use Rattle.pas_steps.specs.Desks.{Standing, made}
+use Rattle.pas_steps.specs.Effects.{in_mask}
+use Rattle.pas_steps.specs.Evidence.{Readings, OneHere, ShowsHere, KeptHere, GetsHere}
+use Rattle.pas_steps.specs.Frames.{IsOnPage, OnlyOn, GivesUp, KeepsRight}
+use Rattle.pas_steps.specs.Kinds.{Kinds, LookFree, Deeding, Taking, Giving, Ending, Putting, Parking, kind_of, is_in, Only, returning}
+use Rattle.pas_steps.specs.Past.{Once, Always}
+use Rattle.pas_steps.specs.Views.{View, Puts, Stays, grain_move, held_after, holds, has_right}
+use Rattle.pas_steps.specs.declared.step.Made.{Made}
+use Rattle.pas_steps.specs.declared.step.Step.{Step}
+use Rattle.pas_steps.specs.declared.step.Step.TheVariants.{Deed, Put, Offer, Park}
+use Rattle.pas_steps.proofs.Apart.{holds_over, holds_same, rights_same}
+use Rattle.pas_steps.proofs.Calls.{returns_are}
+use Rattle.pas_steps.proofs.Frames.{right_own}
+use Rattle.pas_steps.proofs.Kept.{right_on, holds_on_page}
+use Rattle.pas_steps.proofs.Past.{always_both, always_map, once_earlier, once_later}
+use Rattle.pas_scan.specs.Usable.{OfHere, ParksNotHere, IsFresh, MakesNoDeedHere, LeftAlone}
+use Rattle.pas_scan.proofs.LeftPages.{holds_own, since_earlier}
+use Rattle.pas_large.specs.Evidence.{BrokenHere, MissedHere, GotOf, LeftOrBroken}
+use Rattle.pas_large.specs.Pages.{OnceAfter}
+
+-- ---- steps of kinds that make no deeds, and that park nothing
+pub deeds_none : (ks : Kinds) (page : ℕ) (steps : List Made) → is_in ks Deeding ≡ false → Only ks steps → Always (MakesNoDeedHere page) steps
+deeds_none ks page steps none = always_map (λ m before. is_in ks (kind_of m.step) ≡ true) (MakesNoDeedHere page) steps (λ m before is d e z. absurd (true≢false (sym is ∙ ap (λ s. is_in ks (kind_of s)) e ∙ none)))
+
+pub parks_none : (ks : Kinds) (page : ℕ) (steps : List Made) → is_in ks Parking ≡ false → Only ks steps → Always (ParksNotHere page) steps
+parks_none ks page steps none = always_map (λ m before. is_in ks (kind_of m.step) ≡ true) (ParksNotHere page) steps (λ m before is e. absurd (true≢false (sym is ∙ ap (λ s. is_in ks (kind_of s)) e ∙ none)))
+
+pub parks_kept : (page : ℕ) (steps : List Made) → KeepsRight page steps → Always (ParksNotHere page) steps
+parks_kept page steps = always_map (λ m before. GivesUp page m.step → ⊥) (ParksNotHere page) steps (λ m before keeps e. keeps (subst (GivesUp page) (sym e) GivesUp.Parks))
+
+pub parks_both : (page : ℕ) (ys xs : List Made) → Always (ParksNotHere page) ys → Always (ParksNotHere page) xs → Always (ParksNotHere page) (ys ++ xs)
+parks_both page ys xs = always_both (ParksNotHere page) (ParksNotHere page) ys xs (λ m before h. h)
+
+pub deeds_both : (page : ℕ) (ys xs : List Made) → Always (MakesNoDeedHere page) ys → Always (MakesNoDeedHere page) xs → Always (MakesNoDeedHere page) (ys ++ xs)
+deeds_both page ys xs = always_both (MakesNoDeedHere page) (MakesNoDeedHere page) ys xs (λ m before h. h)
+
+-- ---- each step is on another page than this one
+abbrev pub OffPage : ℕ → List Made → Type 0
+OffPage p = Always (λ m before. (q : ℕ) × (p ≢ q) × IsOnPage q m.step)
+
+pub off_on : (q p : ℕ) (ys : List Made) → p ≢ q → OnlyOn q ys → OffPage p ys
+off_on q p ys ne = always_map (λ m before. IsOnPage q m.step) (λ m before. (r : ℕ) × (p ≢ r) × IsOnPage r m.step) ys (λ m before on. (q, ne, on))
+
+pub off_right : (p : ℕ) (ys xs : List Made) → OffPage p ys → has_right (ys ++ xs) p ≡ has_right xs p
+off_right p [] xs off = refl
+off_right p (m ∷ ys) xs off = right_on off.0.0 p (m ∷ []) (ys ++ xs) (off.0.2, tt) off.0.1 ∙ off_right p ys xs off.1
+
+off_holds : (p g : ℕ) (ys xs : List Made) → g / 256 ≡ p → OffPage p ys → holds (ys ++ xs) g ≡ holds xs g
+off_holds p g [] xs at off = refl
+off_holds p g (m ∷ ys) xs at off = holds_on_page off.0.0 g (m ∷ []) (ys ++ xs) (off.0.2, tt) (λ e. off.0.1 (sym at ∙ e)) ∙ off_holds p g ys xs at off.1
+
+not_parked : (q p : ℕ) (s : Step) → p ≢ q → IsOnPage q s → s ≡ Park p → ⊥
+not_parked q p s ne IsOnPage.Parks e = let same : q ≡ p = cc in ne (sym same)
+not_parked q p s ne on e = cc
+
+not_deeded : (q p : ℕ) (s : Step) (x : Directory) → p ≢ q → IsOnPage q s → s ≡ Deed p x → ⊥
+not_deeded q p s x ne (IsOnPage.Deeds d) e = let same : q ≡ p = cc in ne (sym same)
+not_deeded q p s x ne on e = cc
+
+pub off_parks : (p : ℕ) (ys : List Made) → OffPage p ys → Always (ParksNotHere p) ys
+off_parks p ys = always_map (λ m before. (q : ℕ) × (p ≢ q) × IsOnPage q m.step) (ParksNotHere p) ys (λ m before off. not_parked off.0 p m.step off.1 off.2)
+
+pub off_deeds : (p : ℕ) (ys : List Made) → OffPage p ys → Always (MakesNoDeedHere p) ys
+off_deeds p ys = always_map (λ m before. (q : ℕ) × (p ≢ q) × IsOnPage q m.step) (MakesNoDeedHere p) ys (λ m before off x e z. not_deeded off.0 p m.step x off.1 off.2 e)
+
+-- ---- a page that was left alone, or left or broken
+pub left_of_alone : (d : Directory) (p : ℕ) (xs : List Made) → LeftAlone p xs → LeftOrBroken d p xs
+left_of_alone d p xs alone = record { right = alone.right; none = alone.none; deeds = alone.deeds; parks = inl alone.parks }
+
+-- steps on other pages follow
+pub left_off : (d : Directory) (p : ℕ) (ys xs : List Made) → OffPage p ys → LeftOrBroken d p xs → LeftOrBroken d p (ys ++ xs)
+left_off d p ys xs off left = record {
+  right = off_right p ys xs off ∙ left.right;
+  none = λ g at. off_holds p g ys xs at off ∙ left.none g at;
+  deeds = deeds_both p ys xs (off_deeds p ys off) left.deeds;
+  parks = elim left.parks [ inl parks ↦ inl (parks_both p ys xs (off_parks p ys off) parks) | inr broken ↦ inr (once_later (OfHere d p) ys xs broken.0, once_later (BrokenHere p) ys xs broken.1) ];
+}
+
+pub got_off : (d : Directory) (p : ℕ) (ys xs : List Made) → OffPage p ys → GotOf d p xs → GotOf d p (ys ++ xs)
+got_off d p ys xs off got = record {
+  right = off_right p ys xs off ∙ got.right;
+  of = once_later (OfHere d p) ys xs got.of;
+  got = once_later (GetsHere p) ys xs got.got;
+  deeds = deeds_both p ys xs (off_deeds p ys off) got.deeds;
+  parks = parks_both p ys xs (off_parks p ys off) got.parks;
+}
+
+-- ---- one page, with steps that stood before and have neither its right nor a grain of it
+module _ (d : Directory) (p : ℕ) (xs : List Made) (left : LeftOrBroken d p xs) where
+  pub right_at : (b : List Made) → has_right (b ++ xs) p ≡ has_right b p
+  right_at b = right_own p b xs left.right
+
+  pub held_at : (b : List Made) (word i : ℕ) → word < 4 → i < 64 → holds (b ++ xs) (p * 256 + (64 * word + i)) ≡ holds b (p * 256 + (64 * word + i))
+  held_at b word i w lt = holds_own (p * 256 + (64 * word + i)) b xs (left.none (p * 256 + (64 * word + i)) (omega (arith, w, lt)))
+
+  pub kept_at : (m : Made) (b : List Made) → KeptHere p m b → KeptHere p m (b ++ xs)
+  kept_at m b h = right_at b ∙ h
+
+  shows_at : (word : ℕ) → word < 4 → (r : Readings) (m : Made) (b : List Made) → ShowsHere p word r m b → ShowsHere p word r m (b ++ xs)
+  shows_at word w r m b h = (h.0, right_at b ∙ h.1, λ i lt. h.2 i lt ∙ ap (λ t. has_bit m.answer i || t) (sym (held_at b word i w lt)))
+
+  pub broken_at : (m : Made) (b : List Made) → BrokenHere p m b → BrokenHere p m (b ++ xs)
+  broken_at m b h = record {
+    left = h.left;
+    kept = right_at b ∙ h.kept;
+    got = once_earlier (GetsHere p) (GetsHere p) b xs (λ m c h. h) h.got;
+    readings = h.readings;
+    none = h.none;
+    read = λ word lt. since_earlier (ShowsHere p word h.readings) (KeptHere p) (ShowsHere p word h.readings) (KeptHere p) b xs (shows_at word lt h.readings) kept_at (h.read word lt);
+  }
+
+-- steps that left it alone stood before
+pub left_before : (d : Directory) (p : ℕ) (ys xs : List Made) → LeftAlone p xs → LeftOrBroken d p ys → LeftOrBroken d p (ys ++ xs)
+left_before d p ys xs alone left = record {
+  right = right_own p ys xs alone.right ∙ left.right;
+  none = λ g at. holds_own g ys xs (alone.none g at) ∙ left.none g at;
+  deeds = deeds_both p ys xs left.deeds alone.deeds;
+  parks = elim left.parks [
+    | inl parks ↦ inl (parks_both p ys xs parks alone.parks)
+    | inr broken ↦ inr (once_earlier (OfHere d p) (OfHere d p) ys xs (λ m b h. h) broken.0, once_earlier (BrokenHere p) (BrokenHere p) ys xs (broken_at d p xs (left_of_alone d p xs alone)) broken.1)
+  ];
+}
+
+pub got_before : (d : Directory) (p : ℕ) (ys xs : List Made) → LeftAlone p xs → GotOf d p ys → GotOf d p (ys ++ xs)
+got_before d p ys xs alone got = record {
+  right = right_own p ys xs alone.right ∙ got.right;
+  of = once_earlier (OfHere d p) (OfHere d p) ys xs (λ m b h. h) got.of;
+  got = once_earlier (GetsHere p) (GetsHere p) ys xs (λ m b h. h) got.got;
+  deeds = deeds_both p ys xs got.deeds alone.deeds;
+  parks = parks_both p ys xs got.parks alone.parks;
+}
+
+fresh_before : (d : Directory) (p : ℕ) (ys xs : List Made) → LeftAlone p xs → IsFresh d p ys → IsFresh d p (ys ++ xs)
+fresh_before d p ys xs alone (inl never) = inl (parks_both p ys xs never alone.parks)
+fresh_before d p ys xs alone (inr since) = inr (since_earlier (OneHere d p) (ParksNotHere p) (OneHere d p) (ParksNotHere p) ys xs (λ m b h. (h.0, h.1, right_own p b xs alone.right ∙ h.2)) (λ m b h. h) since)
+
+missed_at : (d : Directory) (p : ℕ) (xs : List Made) → LeftAlone p xs → (m : Made) (b : List Made) → MissedHere d p m b → MissedHere d p m (b ++ xs)
+missed_at d p xs alone m b (inl other) = inl other
+missed_at d p xs alone m b (inr (inl lost)) = inr (inl (lost.0, lost.1, right_own p b xs alone.right ∙ lost.2, fresh_before d p b xs alone lost.3))
+missed_at d p xs alone m b (inr (inr broken)) = inr (inr (broken_at d p xs (left_of_alone d p xs alone) m b broken))
+
+pub missed_before : (d : Directory) (p : ℕ) (ys xs : List Made) → LeftAlone p xs → Once (MissedHere d p) ys → Once (MissedHere d p) (ys ++ xs)
+missed_before d p ys xs alone = once_earlier (MissedHere d p) (MissedHere d p) ys xs (missed_at d p xs alone)
+
+-- ---- grains that were put back aren't held
+abbrev taking_up : Kinds
+taking_up = Taking ∷ Giving ∷ Ending ∷ []
+
+not_got : (s : Step) (a g : ℕ) (had : Bool) → is_in taking_up (kind_of s) ≡ false → had ≡ false → held_after (grain_move s a g) had ≡ false
+not_got (Put q w m) a g had h none = cond_both (in_mask q w m g) Puts Stays (λ m. held_after m had ≡ false) (λ put. refl) (λ other. none)
+not_got s a g had h none = cc
+
+still_none : (g : ℕ) (steps : List Made) (v : View) → Only giving_back steps → holds v g ≡ false → holds (steps ++ v) g ≡ false
+still_none g = holds_over (λ v. holds v g ≡ false) taking_up giving_back (λ m v h none. not_got m.step m.answer g (holds v g) h none) refl
+
+word_back : (page word mask : ℕ) (piece : List Made) → WordPut page word mask piece → Only giving_back piece
+word_back page word mask piece (inl none) = subst (Only giving_back) (sym none.1) tt
+word_back page word mask piece (inr puts) = subst (Only giving_back) (sym puts.2) (refl, tt)
+
+word_gone : (page word mask g : ℕ) (piece : List Made) (v : View) → WordPut page word mask piece → in_mask page word mask g ≡ true → holds (piece ++ v) g ≡ false
+word_gone page word mask g piece v (inl none) is = absurd (true≢false (sym is ∙ none_in page word mask g none.0))
+word_gone page word mask g piece v (inr puts) is = ap (λ s. holds (s ++ v) g) puts.2 ∙ ap (λ t. held_after (if t then Puts else Stays) (holds v g)) is
+
+below_gone : (page : ℕ) (mask : Mask4) (g : ℕ) (v : View) → masked page mask g ≡ true → (n : ℕ) (steps : List Made) → PutsBelow page mask n steps → g / 64 % 4 < n → holds (steps ++ v) g ≡ false
+below_gone page mask g v is zero steps h lt = absurd (omega (arith, lt))
+below_gone page mask g v is (suc n) steps h lt = ap (λ s. holds (s ++ v) g) h.4 ∙ ap (λ s. holds s g) (append_assoc h.0 h.1 v) ∙ elim (cases_eq n (g / 64 % 4)) [
+  | inl e ↦ word_gone page n (slice_index mask.0 n) g h.0 (h.1 ++ v) h.2 (in_word page mask n g ∙ and_from (n == g / 64 % 4) (masked page mask g) (eq-eqb n (g / 64 % 4) e) is)
+  | inr ne ↦ still_none g h.0 (h.1 ++ v) (word_back page n (slice_index mask.0 n) h.0 h.2) (below_gone page mask g v is n h.1 h.3 (omega (arith, lt, ne)))
+]
+
+-- ---- hints, with steps that stood before
+hint_later : (m : Made) (before xs : List Made) → HintsEmpty m before → HintsEmpty m (before ++ xs)
+hint_later m before xs empty page same = let e = empty page same in record {
+  backed = since_earlier (ReadsBacked page) (TakesNone page) (ReadsBacked page) (TakesNone page) before xs (λ n b r. r) (λ n b r. r) e.backed;
+  free = λ word lt. since_earlier (ReadsAllFree page word) (TakesNone page) (ReadsAllFree page word) (TakesNone page) before xs (λ n b r. r) (λ n b r. r) (e.free word lt);
+}
+
+hints_both : (ys xs : List Made) → Always HintsEmpty ys → Always HintsEmpty xs → Always HintsEmpty (ys ++ xs)
+hints_both ys xs = always_both HintsEmpty HintsEmpty ys xs (λ m before is. hint_later m before xs is)
+
+hints_none : (steps : List Made) → Only (Putting ∷ []) steps → Always HintsEmpty steps
+hints_none steps = always_map (λ m before. is_in (Putting ∷ []) (kind_of m.step) ≡ true) HintsEmpty steps (λ m before is page same. absurd (true≢false (sym is ∙ ap (λ s. is_in (Putting ∷ []) (kind_of s)) same)))
+
+-- ---- a page that is put back and left
+module _ {σ σ1 : Standing} (page : ℕ) (d : Directory) (mask : Mask4) (h : PutsAndLeaves page d mask σ σ1) where
+  after_only : Only returning h.after
+  after_only = returns_are page h.after (leave_returns page d h.after h.order)
+
+  put_gone : (before : List Made) (g : ℕ) → masked page mask g ≡ true → holds (h.after ++ (h.puts ++ before)) g ≡ false
+  put_gone before g is = holds_same returning refl g h.after (h.puts ++ before) after_only ∙ below_gone page mask g before is 4 h.puts h.put_order (omega arith)
+
+  -- of what is put nothing is held, nor of what wasn't held before
+  pub nothing_held : (before : List Made) (g : ℕ) → (masked page mask g ≡ false → holds before g ≡ false) → holds ((h.after ++ h.puts) ++ before) g ≡ false
+  nothing_held before g others = elim (cases_Bool (masked page mask g)) [
+    | inl here ↦ ap (λ s. holds s g) (append_assoc h.after h.puts before) ∙ put_gone before g here
+    | inr other ↦ still_none g (h.after ++ h.puts) before h.kinds (others other)
+  ]
+
+  pub left_hints : (before : List Made) → Always HintsEmpty before → Always HintsEmpty ((h.after ++ h.puts) ++ before)
+  left_hints before all = hints_both (h.after ++ h.puts) before
+      (hints_both h.after h.puts (always_map GivesDuly HintsEmpty h.after (λ m b due. due.0) (leave_due page d h.after h.order)) (hints_none h.puts (puts_kinds page mask 4 h.puts h.put_order))) all
+
+-- ---- .. with all its grains: it was parked only where not all of them were read as free
+hints_park : (all_free : Bool) (page : ℕ) (steps : List Made) → HintsWhere all_free page steps → Always (ParksNotHere page) steps
+hints_park true page steps (inl h) = subst (Always (ParksNotHere page)) (sym h.2) ((λ e. cc), tt)
+hints_park true page steps (inr h) = subst (Always (ParksNotHere page)) (sym h.1) ((λ e. cc), ((λ e. cc), tt))
+hints_park false page steps h = subst (Always (ParksNotHere page)) (sym h) tt
+
+module _ (page : ℕ) (d : Directory) (is : IsDirectory d) (free : Mask4) (xs : List Made) (right : has_right xs page ≡ true) (got : Once (GetsHere page) xs) (none : (g : ℕ) → g / 256 ≡ page → holds xs g ≡ false) where
+  abbrev first : List Made
+  first = looks page (words free) 4
+
+  abbrev BrokenAfter : Made → List Made → Type 0
+  BrokenAfter m b = BrokenHere page m (b ++ xs)
+
+  park_breaks : (a : ℕ) → HasNoUsable d free → BrokenAfter (made (Park page) a) first
+  park_breaks a unusable = record {
+    left = GivesUp.Parks;
+    kept = rights_same (LookFree ∷ []) refl page first xs (looks_only page (words free) 4) ∙ right;
+    got = once_later (GetsHere page) first xs got;
+    readings = is_set free;
+    none = λ all. let used = none_used d free is unusable in true≢false (sym (all used.0 used.1) ∙ used.2);
+    read = λ word lt. looks_read page (words free) (is_set free) (λ w b small. at_word free w b small) xs right none 4 word lt lt;
+  }
+
+  end_parks : (usable all_free : Bool) (after : List Made) → MatchBool usable (HasUsable d free) (HasNoUsable d free) → EndsLeave usable page d all_free after → Always (ParksNotHere page) (after ++ first) ⊎ Once BrokenAfter (after ++ first)
+  end_parks true all_free after usable h = inl (parks_both page after first
+      (subst (Always (ParksNotHere page)) (sym h.steps_are) (parks_both page h.after (made (Offer page d) h.offered ∷ []) (hints_park all_free page h.after h.hints) ((λ e. cc), tt)))
+      (parks_none (LookFree ∷ []) page first refl (looks_only page (words free) 4)))
+  end_parks false all_free after unusable h = inr (subst (Once BrokenAfter) (sym (parked_on page d after first h))
+      (once_later BrokenAfter h.after (looks page (words h.later) 4 ++ (made (Park page) h.parked ∷ first)) (once_later BrokenAfter (looks page (words h.later) 4) (made (Park page) h.parked ∷ first) (inl (park_breaks h.parked unusable)))))
+
+leave_parks : (page : ℕ) (d : Directory) (is : IsDirectory d) (xs steps : List Made) → has_right xs page ≡ true → Once (GetsHere page) xs → ((g : ℕ) → g / 256 ≡ page → holds xs g ≡ false) → LeaveSteps page d steps
+    → Always (ParksNotHere page) steps ⊎ OnceAfter xs (BrokenHere page) steps
+leave_parks page d is xs steps right got none h =
+    subst (λ s. Always (ParksNotHere page) s ⊎ OnceAfter xs (BrokenHere page) s) (sym h.steps_are) (end_parks page d is h.free xs right got none h.usable h.all_free h.after h.usable_is h.ends)
+
+pub released : {σ σ1 : Standing} (page : ℕ) (d : Directory) → IsDirectory d → (before : List Made) → GotOf d page before → (h : PutsAndLeaves page d full σ σ1) → LeftOrBroken d page ((h.after ++ h.puts) ++ before)
+released page d is before got h =
+    let all = h.after ++ h.puts in
+    let ws = h.puts ++ before in
+    let putting = puts_kinds page full 4 h.puts h.put_order in
+    let gone : (g : ℕ) → g / 256 ≡ page → holds ws g ≡ false = λ g at. below_gone page full g before (on_full page g ∙ eq-eqb page (g / 256) (sym at)) 4 h.puts h.put_order (omega arith) in
+    let right : has_right ws page ≡ true = rights_same (Putting ∷ []) refl page h.puts before putting ∙ got.right in
+    record {
+      right = h.lacks before;
+      none = λ g at. nothing_held page d full h before g (λ other. absurd (true≢false (sym (on_full page g ∙ eq-eqb page (g / 256) (sym at)) ∙ other)));
+      deeds = deeds_both page all before (deeds_none giving_back page all refl h.kinds) got.deeds;
+      parks = elim (leave_parks page d is ws h.after right (once_later (GetsHere page) h.puts before got.got) gone h.order) [
+        | inl parks ↦ inl (parks_both page all before (parks_both page h.after h.puts parks (parks_none (Putting ∷ []) page h.puts refl putting)) got.parks)
+        | inr broken ↦ inr (
+          once_later (OfHere d page) all before got.of,
+          subst (Once (BrokenHere page)) (sym (append_assoc h.after h.puts before)) (once_earlier (λ m b. BrokenHere page m (b ++ ws)) (BrokenHere page) h.after ws (λ m b x. x) broken),
+        )
+      ];
+    }

@@ -1,0 +1,262 @@
+-- On a desk that tells the whole state: the run that a door named is given exactly where its pages are whole at entry, and a claim that fails leaves each page
+-- as usable as it was.
+use Rattle.std.proofs.Common.{◌≡◌, ℕ, ◌+◌, ◌*◌, ◌/◌, ◌%◌, ◌<◌, ◌==◌, Bool, true, false, not, ◌&&◌, ◌||◌, if◌then◌else◌, List, [], ◌∷◌, ◌++◌, Result, Ok, Err, inl, inr, refl, ap, sym, ◌∙◌, subst, arith, true≢false}
+use Rattle.std.proofs.Math.Bool.{or-false}
+use Rattle.std.proofs.lemmas.Bool.{and_from, cases_Bool, cases_eq, eq-eqb, eqb-true, false_from_ne_true, or_left, or_right}
+use Rattle.pas_bits.specs.Bits.{has_bit}
+use Rattle.pas_profile.specs.Directories.{IsKind, deed_word_of, number_of}
+use Rattle.pas_profile.specs.Profiles.{IsValid}
+use Rattle.pas_profile.specs.declared.directory.Directory.{Directory}
+use Rattle.pas_profile.specs.declared.event.NoRoom.{NoRoom}
+use Rattle.pas_profile.specs.declared.name.Block.{Block}
+use Rattle.pas_profile.specs.declared.profile.Profile.{Profile}
+use Rattle.pas_profile.specs.declared.word.Word.TheVariants as Word
+use Rattle.pas_profile.proofs.Codecs.{deed_word_of-positive}
+use Rattle.pas_steps.specs.Calls.{nothing, Does}
+use Rattle.pas_steps.specs.Desks.{triples}
+use Rattle.pas_steps.specs.Effects.{free_word_at, in_mask}
+use Rattle.pas_steps.specs.Evidence.{GetsRight, GetsHere}
+use Rattle.pas_steps.specs.Kinds.{Only, kind_of, is_in, lending}
+use Rattle.pas_steps.specs.Lists.{Whole, part, word_after, Legal}
+use Rattle.pas_steps.specs.Past.{Once, Always}
+use Rattle.pas_steps.specs.Views.{Stays, Gets, Puts, grain_move, held_after, holds, Way, Rests, ByDeed, FromOffer, FromParked, ToOffer, ToParked, way, epoch_of, has_right, known_deed}
+use Rattle.pas_steps.specs.declared.step.Made.{Made}
+use Rattle.pas_steps.specs.declared.step.Step.{Step}
+use Rattle.pas_steps.specs.declared.step.Step.TheVariants.{Deed, Take, Put, TakeRight, Offer, Park, Unpark, Give, End, EndSized}
+use Rattle.pas_steps.proofs.Frames.{right_own}
+use Rattle.pas_steps.proofs.Parts.{part_of_own}
+use Rattle.pas_core.specs.Good.{Place, is_free, is_held_by}
+use Rattle.pas_core.specs.Rights.{eligible_bit, free_of_page}
+use Rattle.pas_core.proofs.Deeds.{known_is, number_told}
+use Rattle.pas_core.proofs.Grains.{Fits, free_moved, free_step, step_fits, placed_once, is_held_by-true}
+use Rattle.pas_core.proofs.OneActor.{LendsNone, lends_none, deed_same, legal_before, unfit_entry}
+use Rattle.pas_core.proofs.Rights.{Spot, Nowhere, With, Offered, InParked, is_with, is_offered, is_offered-true, spot_after, spot_of, Suits, DeedFits, step_suits, spotted}
+use Rattle.pas_scan.specs.Usable.{OfHere, WholeHere}
+use Rattle.pas_scan.proofs.LeftPages.{holds_own}
+use Rattle.pas_search.specs.Kinds.{IsReturnOf, ReturnsDuly}
+use Rattle.pas_large.specs.Evidence.{NotAll, MissedHere, GotOf, LeftOrBroken}
+use Rattle.pas_large.specs.Finds.{MayFind}
+use Rattle.pas_large.specs.Pages.{claiming_old}
+use Rattle.pas_large.specs.Telling.{IsWholePage, IsUsablePage, IsToldLarge}
+use Rattle.pas_large.proofs.Told.{deed_told, free_told, grain_bit, clean_own, usable_clean, nowhere_else, lost_right, fewer_not_all}
+
+-- ---- grains, where the actor gives and ends no block: one is free now or held by the call exactly where it was free at entry
+abbrev bit_of : Whole → ℕ → Bool
+bit_of l g = has_bit (word_after l (free_word_at g)) (g % 64)
+
+of_page : (l : Whole) (page b : ℕ) → free_of_page l page b ≡ bit_of l (page * 256 + b)
+of_page l page b = let bit : b % 64 ≡ (page * 256 + b) % 64 = omega arith in ap (λ n. has_bit (word_after l (free_word_at (page * 256 + b))) n) bit
+
+takes_same : (k : ℕ) (t : Bool) (o : Place) (bit held : Bool) → Fits k (if t then Gets else Stays) o → bit ≡ is_free o → (free_moved (if t then Gets else Stays) bit || held_after (if t then Gets else Stays) held) ≡ (bit || held)
+takes_same k true o bit held fits free = sym (or_left bit held (free ∙ ap is_free fits))
+takes_same k false o bit held fits free = refl
+
+puts_same : (k : ℕ) (t : Bool) (o : Place) (bit held : Bool) → Fits k (if t then Puts else Stays) o → held ≡ is_held_by k o → (free_moved (if t then Puts else Stays) bit || held_after (if t then Puts else Stays) held) ≡ (bit || held)
+puts_same k true o bit held fits mine = sym (or_right bit held (mine ∙ ap (is_held_by k) fits ∙ eq-eqb k k refl))
+puts_same k false o bit held fits mine = refl
+
+same_move : (k : ℕ) (s : Step) (a g : ℕ) (o : Place) (bit held : Bool) → is_in lending (kind_of s) ≡ false → Fits k (grain_move s a g) o → bit ≡ is_free o → held ≡ is_held_by k o → (free_moved (grain_move s a g) bit || held_after (grain_move s a g) held) ≡ (bit || held)
+same_move k (Take q w mask) a g o bit held h fits free mine = takes_same k (in_mask q w mask g && has_bit a (g % 64)) o bit held fits free
+same_move k (Put q w mask) a g o bit held h fits free mine = puts_same k (in_mask q w mask g) o bit held fits mine
+same_move k (Give b) a g o bit held h fits free mine = absurd (true≢false h)
+same_move k (End n b) a g o bit held h fits free mine = absurd (true≢false h)
+same_move k (EndSized n room) a g o bit held h fits free mine = absurd (true≢false h)
+same_move k s a g o bit held h fits free mine = refl
+
+module _ (f : Profile) (k : ℕ) (l : Whole) (valid : IsValid f) (g : ℕ) where
+  free_same : (xs : List Made) → Legal f (triples k xs ++ l) → LendsNone xs → holds (part k l) g ≡ false → (bit_of (triples k xs ++ l) g || holds xs g) ≡ bit_of l g
+  free_same [] legal lends none = or-false (bit_of l g)
+  free_same (m ∷ xs) legal lends none =
+      let w : Whole = triples k xs ++ l in
+      let at = placed_once f w valid legal.1 g in
+      ap (λ x. x || held_after (grain_move m.step m.answer g) (holds xs g)) (free_step f w (epoch_of (part k w)) m.step m.answer g legal.0.of_region legal.0.answer_is)
+      ∙ same_move k m.step m.answer g at.place (bit_of w g) (holds xs g) lends.0 (step_fits f w k m.step m.answer g at valid legal.0.of_region legal.0.allowed legal.0.answer_is)
+      at.free (sym (holds_own g xs (part k l) none) ∙ ap (λ v. holds v g) (sym (part_of_own k xs l)) ∙ at.held k)
+      ∙ free_same xs legal.1 lends.1 none
+
+  -- nobody holds a free grain
+  free_unheld : Legal f l → bit_of l g ≡ true → holds (part k l) g ≡ false
+  free_unheld legal free = false_from_ne_true (holds (part k l) g) (λ held. let at = placed_once f l valid legal g in
+      true≢false (sym free ∙ at.free ∙ ap is_free (is_held_by-true k at.place (sym (at.held k) ∙ held))))
+
+only_free : (x y : Bool) → y ≡ false → (x || y) ≡ true → x ≡ true
+only_free x y none some = grind arith
+
+-- ---- where the right of a page is that the actor can't get: with another, or parked
+abbrev is_stuck : ℕ → Spot → Bool
+is_stuck k (With j) = not (j == k)
+is_stuck k InParked = true
+is_stuck k o = false
+
+stuck_own : (k : ℕ) (o : Spot) → o ≡ With k → is_stuck k o ≡ true → ⊥
+stuck_own k o own stuck = true≢false (sym stuck ∙ ap (is_stuck k) own ∙ ap not (eq-eqb k k refl))
+
+stuck_other : (k : ℕ) (o p : Spot) → is_stuck k p ≡ false → o ≡ p → is_stuck k o ≡ true → ⊥
+stuck_other k o p none same stuck = true≢false (sym stuck ∙ ap (is_stuck k) same ∙ none)
+
+stuck_after : (k : ℕ) (w : Way) (o : Spot) → Suits k w o → is_stuck k o ≡ true → (w ≡ FromParked → ⊥) → is_stuck k (spot_after k w o) ≡ true
+stuck_after k Rests o suits stuck ne = stuck
+stuck_after k ByDeed o suits stuck ne = absurd (stuck_other k o Nowhere refl suits stuck)
+stuck_after k (FromOffer n) o suits stuck ne = absurd (stuck_other k o (Offered n) refl suits stuck)
+stuck_after k FromParked o suits stuck ne = absurd (ne refl)
+stuck_after k (ToOffer n) o suits stuck ne = absurd (stuck_own k o suits stuck)
+stuck_after k ToParked o suits stuck ne = absurd (stuck_own k o suits stuck)
+
+from_if : (t : Bool) (w : Way) → (w ≡ FromParked → ⊥) → (if t then w else Rests) ≡ FromParked → ⊥
+from_if true w ne e = ne e
+from_if false w ne e = cc
+
+unpark_if : (t bit : Bool) → (if t && bit then FromParked else Rests) ≡ FromParked → t ≡ true
+unpark_if true bit e = refl
+unpark_if false bit e = cc
+
+from_parked : (s : Step) (a p : ℕ) → way s a p ≡ FromParked → IsReturnOf p s
+from_parked (Deed q x) a p e = absurd (from_if ((q == p) && (a == 0)) ByDeed (λ h. cc) e)
+from_parked (TakeRight q x) a p e = absurd (from_if ((q == p) && has_bit a (p % 64)) (FromOffer (number_of x)) (λ h. cc) e)
+from_parked (Offer q x) a p e = absurd (from_if (q == p) (ToOffer (number_of x)) (λ h. cc) e)
+from_parked (Park q) a p e = absurd (from_if (q == p) ToParked (λ h. cc) e)
+from_parked (Unpark q) a p e = subst (λ x. IsReturnOf x (Unpark q)) (eqb-true q p (unpark_if (q == p) (has_bit a (p % 64)) e)) IsReturnOf.Unparks
+from_parked s a p e = cc
+
+suits_when : (k : ℕ) (w : Way) (o : Spot) (t : Bool) → t ≡ true → Suits k (if t then w else Rests) o → Suits k w o
+suits_when k w o t is suits = subst (λ b. Suits k (if b then w else Rests) o) is suits
+
+stuck_gets : (k p : ℕ) (s : Step) (a : ℕ) (o : Spot) → GetsRight p s a → Suits k (way s a p) o → is_stuck k o ≡ true → ⊥
+stuck_gets k p s a o (GetsRight.Claims d b set) suits stuck = stuck_other k o (Offered (number_of d)) refl (suits_when k (FromOffer (number_of d)) o ((p == p) && has_bit b (p % 64)) (and_from (p == p) (has_bit b (p % 64)) (eq-eqb p p refl) set) suits) stuck
+stuck_gets k p s a o (GetsRight.Deeds d b zero) suits stuck = stuck_other k o Nowhere refl (suits_when k ByDeed o ((p == p) && (b == 0)) (and_from (p == p) (b == 0) (eq-eqb p p refl) (eq-eqb b 0 zero)) suits) stuck
+
+-- it stays there, since a page is taken back from the parked ones only after it was got
+stuck_all : (f : Profile) (k : ℕ) (l : Whole) (p : ℕ) (xs : List Made) → Legal f (triples k xs ++ l) → Always ReturnsDuly xs → is_stuck k (spot_of l p) ≡ true → (is_stuck k (spot_of (triples k xs ++ l) p) ≡ true) × (Once (GetsHere p) xs → ⊥)
+stuck_all f k l p [] legal returns stuck = (stuck, λ got. got)
+stuck_all f k l p (m ∷ xs) legal returns stuck =
+    let w : Whole = triples k xs ++ l in
+    let before = stuck_all f k l p xs legal.1 returns.1 stuck in
+    let suits = step_suits f w k m.step m.answer p (spotted f w legal.1 p) legal.0.allowed legal.0.answer_is in (
+      stuck_after k (way m.step m.answer p) (spot_of w p) suits before.0 (λ e. before.1 (returns.0.0 p (from_parked m.step m.answer p e))),
+      λ got. elim got [ inl here ↦ stuck_gets k p m.step m.answer (spot_of w p) here suits before.0 | inr earlier ↦ before.1 earlier ],
+    )
+
+-- so a page of the directory that isn't there, nor with the actor, is offered
+offered_else : (k : ℕ) (d : Directory) (o : Spot) (word : ℕ) → IsKind d.kind → is_stuck k o ≡ false → is_with k o ≡ false → DeedFits o word → word ≡ deed_word_of d → is_offered (number_of d) o ≡ true
+offered_else k d Nowhere word is free mine fits deed = absurd (deed_word_of-positive d (sym deed ∙ fits))
+offered_else k d (With j) word is free mine fits deed = absurd (true≢false (ap not (sym mine) ∙ free))
+offered_else k d (Offered m) word is free mine fits deed = eq-eqb m (number_of d) (sym (number_told d m is (sym deed ∙ fits)))
+offered_else k d InParked word is free mine fits deed = absurd (true≢false free)
+
+-- ---- one page, over the steps of a claim without a deed
+module _ (f : Profile) (k : ℕ) (l : Whole) (d : Directory) (p : ℕ) (valid : IsValid f) (kind : IsKind d.kind) (met : MayFind d (part k l)) where
+  -- the actor hasn't the right of a page of the directory at entry
+  lacks_entry : Legal f l → word_after l (Word.Deed p) ≡ deed_word_of d → has_right (part k l) p ≡ false
+  lacks_entry legal deed = met.lacks p (elim (cases_eq (known_deed (part k l) p) 0) [
+    | inl none ↦ inl none
+    | inr some ↦ inr (known_is (known_deed (part k l) p) (word_after l (Word.Deed p)) ((spotted f l legal p).known k) some ∙ deed)
+  ])
+
+  deed_entry : (xs : List Made) → Only claiming_old xs → word_after (triples k xs ++ l) (Word.Deed p) ≡ word_after l (Word.Deed p)
+  deed_entry xs old = deed_same claiming_old refl k xs l p old
+
+  -- a page that was missed wasn't whole
+  pub never_missed : (xs : List Made) → Legal f (triples k xs ++ l) → Only claiming_old xs → IsWholePage d l p → Once (MissedHere d p) xs → ⊥
+  never_missed [] legal old whole h = h
+  never_missed (m ∷ xs) legal old whole (inr h) = never_missed xs legal.1 old.1 whole h
+  never_missed (m ∷ xs) legal old whole (inl (inl other)) = other.1 (deed_told (triples k xs ++ l) p m.step m.answer other.0 legal.0.answer_is ∙ deed_entry xs old.1 ∙ whole.deed)
+  never_missed (m ∷ xs) legal old whole (inl (inr (inl lost))) = lost_right f k l d p m xs kind legal (lacks_entry (legal_before f k xs l legal.1) whole.deed) (inr whole) lost
+  never_missed (m ∷ xs) legal old whole (inl (inr (inr broken))) = unfit_entry NotAll f k l p (m ∷ xs) fewer_not_all legal (lends_none claiming_old refl (m ∷ xs) old) (inl broken) whole.free
+
+  -- ---- a page that was got and taken whole was whole
+  of_entry : (xs : List Made) → Legal f (triples k xs ++ l) → Only claiming_old xs → Once (OfHere d p) xs → word_after l (Word.Deed p) ≡ deed_word_of d
+  of_entry [] legal old h = absurd h
+  of_entry (m ∷ xs) legal old (inl h) = sym (deed_entry xs old.1) ∙ sym (deed_told (triples k xs ++ l) p m.step m.answer h.0 legal.0.answer_is) ∙ h.1
+  of_entry (m ∷ xs) legal old (inr h) = of_entry xs legal.1 old.1 h
+
+  free_entry : (word b : ℕ) → word < 4 → b < 64 → holds (part k l) (p * 256 + (64 * word + b)) ≡ false → (xs : List Made) → Legal f (triples k xs ++ l) → LendsNone xs → Once (WholeHere p word) xs → free_of_page l p (64 * word + b) ≡ true
+  free_entry word b small lt none [] legal lends h = absurd h
+  free_entry word b small lt none (m ∷ xs) legal lends (inr h) = free_entry word b small lt none xs legal.1 lends.1 h
+  free_entry word b small lt none (m ∷ xs) legal lends (inl h) =
+      let w : Whole = triples k xs ++ l in
+      let g = p * 256 + (64 * word + b) in
+      let bit : has_bit m.answer b ≡ bit_of w g = ap (λ n. has_bit n b) (free_told w p word m.step m.answer h.0 legal.0.answer_is) ∙ grain_bit w p word b small lt ∙ of_page w p (64 * word + b) in
+      of_page l p (64 * word + b) ∙ sym (free_same f k l valid g xs legal.1 lends.1 none) ∙ ap (λ t. t || holds xs g) (sym bit) ∙ h.1 b lt
+
+  pub got_whole : (xs : List Made) → Legal f (triples k xs ++ l) → Only claiming_old xs → Always ReturnsDuly xs → GotOf d p xs → ((g : ℕ) → g / 256 ≡ p → holds (part k l) g ≡ false) → ((word : ℕ) → word < 4 → Once (WholeHere p word) xs) → IsWholePage d l p
+  got_whole xs legal old returns got apart whole =
+      let before = legal_before f k xs l legal in
+      let deed = of_entry xs legal old got.of in
+      let at = spotted f l before p in
+      record {
+        deed = deed;
+        offered = at.eligible (number_of d)
+            ∙ offered_else k d (spot_of l p) (word_after l (Word.Deed p)) kind (false_from_ne_true (is_stuck k (spot_of l p)) (λ stuck. (stuck_all f k l p xs legal returns stuck).1 got.got)) (sym (at.has k) ∙ lacks_entry before deed) at.deed deed;
+        free = λ b lt.
+            let same : b ≡ 64 * (b / 64) + b % 64 = omega arith in
+            ap (free_of_page l p) same ∙ free_entry (b / 64) (b % 64) (omega (arith, lt)) (omega arith) (apart (p * 256 + (64 * (b / 64) + b % 64)) (omega (arith, lt))) xs legal (lends_none claiming_old refl xs old) (whole (b / 64) (omega (arith, lt)));
+      }
+
+  -- ---- a claim that failed leaves the page as usable as it was
+  module _ (xs : List Made) (legal : Legal f (triples k xs ++ l)) (old : Only claiming_old xs) (returns : Always ReturnsDuly xs) (left : LeftOrBroken d p xs) (still : Does nothing (part k l) (xs ++ part k l)) where
+    abbrev w : Whole
+    w = triples k xs ++ l
+
+    before : Legal f l
+    before = legal_before f k xs l legal
+
+    lends : LendsNone xs
+    lends = lends_none claiming_old refl xs old
+
+    whole_later : IsWholePage d l p → IsWholePage d w p
+    whole_later whole =
+        let at = spotted f w legal p in
+        let deed = deed_entry xs old ∙ whole.deed in
+        let lacks = lacks_entry before whole.deed in
+        let mine : is_with k (spot_of w p) ≡ false = sym (at.has k) ∙ ap (λ v. has_right v p) (part_of_own k xs l) ∙ right_own p xs (part k l) lacks ∙ left.right in
+        record {
+          deed = deed;
+          offered = elim (cases_Bool (eligible_bit w (number_of d) p)) [
+            | inl offered ↦ offered
+            | inr gone ↦ elim left.parks [
+              | inl parks ↦ absurd (nowhere_else k d (spot_of w p) (word_after w (Word.Deed p)) kind (clean_own k l p xs parks (usable_clean f k l d p before (inr whole))) mine (sym (at.eligible (number_of d)) ∙ gone) at.deed deed)
+              | inr broken ↦ absurd (unfit_entry NotAll f k l p xs fewer_not_all legal lends broken.1 whole.free)
+            ]
+          ];
+          free = λ b lt.
+              let g = p * 256 + b in
+              let free : bit_of l g ≡ true = sym (of_page l p b) ∙ whole.free b lt in
+              of_page w p b ∙ only_free (bit_of w g) (holds xs g) (left.none g (omega (arith, lt))) (free_same f k l valid g xs legal lends (free_unheld f k l valid g before free) ∙ free);
+        }
+
+    whole_earlier : IsWholePage d w p → IsWholePage d l p
+    whole_earlier whole =
+        let at = spotted f l before p in
+        let deed = sym (deed_entry xs old) ∙ whole.deed in
+        record {
+          deed = deed;
+          offered = at.eligible (number_of d) ∙ offered_else k d (spot_of l p) (word_after l (Word.Deed p)) kind
+              (false_from_ne_true (is_stuck k (spot_of l p)) (λ stuck. stuck_other k (spot_of w p) (Offered (number_of d)) refl (is_offered-true (number_of d) (spot_of w p) (sym ((spotted f w legal p).eligible (number_of d)) ∙ whole.offered)) (stuck_all f k l p xs legal returns stuck).0))
+              (sym (at.has k) ∙ lacks_entry before deed) at.deed deed;
+          free = λ b lt.
+              let g = p * 256 + b in
+              let free : bit_of w g ≡ true = sym (of_page w p b) ∙ whole.free b lt in
+              let none : holds (part k l) g ≡ false = sym (still.held g) ∙ ap (λ v. holds v g) (sym (part_of_own k xs l)) ∙ free_unheld f k w valid g legal free in
+              of_page l p b ∙ sym (free_same f k l valid g xs legal lends none) ∙ or_left (bit_of w g) (holds xs g) free;
+        }
+
+    pub usable_later : IsUsablePage d l p → IsUsablePage d w p
+    usable_later (inl none) = inl (deed_entry xs old ∙ none)
+    usable_later (inr whole) = inr (whole_later whole)
+
+    pub usable_earlier : IsUsablePage d w p → IsUsablePage d l p
+    usable_earlier (inl none) = inl (sym (deed_entry xs old) ∙ none)
+    usable_earlier (inr whole) = inr (whole_earlier whole)
+
+-- ---- what is told of a state is told of one whose pages are as usable
+pub told_earlier : (f : Profile) (d : Directory) (n : ℕ) (l w exit : Whole) → ((p : ℕ) → IsUsablePage d l p → IsUsablePage d w p) → ((p : ℕ) → IsUsablePage d w p → IsUsablePage d l p) → (answer : Result Block NoRoom) → IsToldLarge f d n w exit answer → IsToldLarge f d n l exit answer
+told_earlier f d n l w exit later earlier (Ok block) told = (
+  told.0,
+  record {
+    of_region = told.1.of_region;
+    usable = λ p here. earlier p (told.1.usable p here);
+    lowest = λ other some lt usable. told.1.lowest other some lt (λ p here. later p (usable p here));
+  },
+  told.2,
+)
+told_earlier f d n l w exit later earlier (Err why) told = (λ first low le usable. told.0 first low le (λ p here. later p (usable p here)), told.1, told.2)
