@@ -1,9 +1,10 @@
 -- A guard that is up stays as it is, step by step.
-use Rattle.std.proofs.Common.{◌≡◌, ℕ, ◌/◌, ◌==◌, Bool, true, false, if◌then◌else◌, List, [], ◌∷◌, ◌++◌, refl, ap, sym, ◌∙◌, subst, true≢false, inl, inr}
-use Rattle.std.proofs.lemmas.Bool.{cases_Bool, eqb-true}
+use Rattle.std.proofs.Common.{◌≡◌, ℕ, arith, ◌/◌, ◌==◌, Bool, true, false, if◌then◌else◌, List, [], ◌∷◌, ◌++◌, refl, ap, sym, ◌∙◌, subst, true≢false, inl, inr}
+use Rattle.std.proofs.lemmas.Bool.{cases_Bool, eqb-true, eq-eqb}
+use Rattle.std.specs.Prelude.{bit_or}
 use Rattle.pas_profile.specs.Layouts.{same_word}
 use Rattle.pas_profile.specs.Profiles.{IsValid}
-use Rattle.pas_profile.specs.Runs.{grain_of}
+use Rattle.pas_profile.specs.Blocks.{grain_of}
 use Rattle.pas_profile.specs.declared.directory.Directory.{Directory}
 use Rattle.pas_profile.specs.declared.profile.Profile.{Profile}
 use Rattle.pas_profile.specs.declared.word.Word.TheVariants as Words
@@ -46,7 +47,7 @@ module _ (f : Profile) (l : Whole) (keeper page : ℕ) (d : Directory) (valid : 
   no_back : (k : ℕ) (s : Step) → (k == keeper) ≡ false → Allowed f (part k l) s → s ≡ Back page → ⊥
   no_back k s other may e = let now = subst (Allowed f (part k l)) e may in let on = now.0 in true≢false (sym (alone k on.0 on.1 on.2) ∙ other)
 
-  no_give : (k : ℕ) (s : Step) → (k == keeper) ≡ false → Allowed f (part k l) s → GivesOn page s → ⊥
+  pub no_give : (k : ℕ) (s : Step) → (k == keeper) ≡ false → Allowed f (part k l) s → GivesOn page s → ⊥
   no_give k s other may on = let now = subst (Allowed f (part k l)) on.1 may in let g = on.2 in true≢false (sym (alone k g.0 g.1 (now.held g.0 g.2)) ∙ other)
 
 -- ---- the keeper's own
@@ -77,6 +78,24 @@ module _ (f : Profile) (l : Whole) (t : Triple) (keeper page : ℕ) (d : Directo
     deed = deed_kept l t page (λ z. deed_word_of-positive d (sym stands.deed ∙ z)) ∙ stands.deed;
     bare = stays_bare (epoch_of (part t.actor l)) t.made.step page (word_after l (Words.Backed page)) untouched_next.unbacked stands.bare;
   }
+
+-- ---- a step between two places where the page stands
+backs_it : (e : ℕ) (s : Step) (page old : ℕ) → s ≡ Back page → old ≡ 0 → (if same_word (target s) (Words.Backed page) then new_value e s old else old) ≡ 1
+backs_it e s page old is zero = subst (λ x. (if same_word (target x) (Words.Backed page) then new_value e x old else old) ≡ 1) (sym is)
+    (ap (λ t. if t then bit_or old 1 else old) (eq-eqb page page refl) ∙ ap (λ o. bit_or o 1) zero)
+
+given_away : (page answer : ℕ) (s : Step) (on : GivesOn page s) (h : Bool) → held_after (grain_move s answer on.2.0) h ≡ false
+given_away page answer s on h = let b = on.0 in let g = on.2 in
+    ap (λ x. held_after (grain_move x answer g.0) h) on.1 ∙ ap (λ t. held_after (if t then Gives (grain_of b.name) else Stays) h) g.2
+
+pub untouched_between : (f : Profile) (l : Whole) (t : Triple) (keeper page : ℕ) (d : Directory) → IsValid f → Legal f (t ∷ l) → StandsGuard l keeper page d → StandsGuard (t ∷ l) keeper page d → IsUntouched page t.made.step
+untouched_between f l t keeper page d valid legal before after = record {
+  unbacked = λ e. absurd (let one = sym after.bare ∙ backs_it (epoch_of (part t.actor l)) t.made.step page (word_after l (Words.Backed page)) e before.bare in omega (arith, one));
+  ungiven = λ on. elim (cases_Bool (t.actor == keeper)) [
+    | inl own ↦ (let g = on.2 in true≢false (sym (after.held g.0 g.1) ∙ ap (λ o. holds (if o then t.made ∷ part keeper l else part keeper l) g.0) own ∙ given_away page t.made.answer t.made.step on (holds (part keeper l) g.0)))
+    | inr other ↦ (let next = legal.0 in no_give f l keeper page d valid legal.1 before t.actor t.made.step other next.allowed on)
+  ];
+}
 
 -- ---- all steps
 pub stands_on : (f : Profile) (older newer : Whole) (keeper page : ℕ) (d : Directory) → IsValid f → Legal f (newer ++ older) → StandsGuard older keeper page d → KeepsGuard keeper page newer → StandsGuard (newer ++ older) keeper page d
@@ -136,7 +155,7 @@ begins_by : (f : Profile) (t : Triple) (l : Whole) (keeper page : ℕ) (v : View
 begins_by f t l keeper page v m steps valid legal next same is own (inl read) more = begins_here f l t keeper page v steps next is own (subst (λ x. BackedReadHere v page 0 x steps) (sym same) read)
 begins_by f t l keeper page v m steps valid legal next same is own (inr later) more = goes_bare f l t keeper page valid legal next (more later.1) (λ mine. subst (LeavesGuard page) (sym same) later.0)
 
-head_same : (x y : Made) (xs ys : List Made) → x ∷ xs ≡ y ∷ ys → (x ≡ y) × (xs ≡ ys)
+pub head_same : (x y : Made) (xs ys : List Made) → x ∷ xs ≡ y ∷ ys → (x ≡ y) × (xs ≡ ys)
 head_same x y xs ys e = (cc, cc)
 
 pub begins : (f : Profile) (l : Whole) (keeper page : ℕ) (v : View) (steps : List Made) → IsValid f → Legal f l → part keeper l ≡ steps ++ v → Since (BackedReadHere v page 0) (LeftSince page) steps → StandsBare l keeper page

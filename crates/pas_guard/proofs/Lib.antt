@@ -1,6 +1,9 @@
-pub mod Seeks
-pub mod Guarded
-pub mod Guards
-pub mod Raises
-pub mod Lowers
-pub mod Sweeps
+mod Spans
+mod Seeks
+mod Guarded
+mod Guards
+mod Raises
+mod Lowers
+mod Sweeps
+mod Keepers
+mod Times

@@ -2,7 +2,7 @@
 use Rattle.std.proofs.Common.{◌≡◌, ◌≢◌, ℕ, ◌+◌, ◌*◌, ◌/◌, ◌<◌, ◌≤◌, ◌==◌, Bool, true, false, ◌||◌, if◌then◌else◌, List, [], ◌∷◌, ◌++◌, inl, inr, refl, ap, sym, ◌∙◌, subst, arith, length-append, append_assoc, true≢false, Some, None}
 use Rattle.std.proofs.lemmas.Bool.{cases_Bool, eqb-true, eq-eqb, ne_eqb}
 use Rattle.std.proofs.lemmas.Bool.Decides.{nat_tests}
-use Rattle.pas_profile.specs.Runs.{address_of, grain_of}
+use Rattle.pas_profile.specs.Blocks.{address_of, grain_of}
 use Rattle.pas_profile.specs.declared.directory.Directory.{Directory}
 use Rattle.pas_profile.specs.declared.name.Block.{Block}
 use Rattle.pas_profile.specs.declared.profile.Profile.{Profile}
@@ -22,10 +22,10 @@ use Rattle.pas_steps.proofs.Called.{next_call}
 use Rattle.pas_steps.proofs.Calls.{leads_at}
 use Rattle.pas_steps.proofs.Kept.{knows_still}
 use Rattle.pas_steps.proofs.SpareRoom.{Spares}
-use Rattle.pas_large.specs.Claims.{in_span, HasPages}
+use Rattle.pas_large.specs.Claims.{in_span, StaysPut, HasPages}
 use Rattle.pas_large.specs.Finds.{MayFind, FindRoom}
 use Rattle.pas_rights.specs.Gives.{give_steps}
-use Rattle.pas_large.specs.Gives.{run_block}
+use Rattle.pas_large.specs.Gives.{BacksIn, run_block}
 use Rattle.pas_large.proofs.Claims.{has_got, room_after, span_in, steady_both}
 use Rattle.pas_guard.specs.Books.{is_outer_of, is_outer, AreApart, Each, IsGuardOf, KnowsGuard, FitsBook}
 use Rattle.pas_guard.specs.Guards.{GuardedRun, GuardsRun}
@@ -182,15 +182,29 @@ run_out f d gs first stop v w fits span p is = elim (cases_Bool (in_span first s
   | inr out ↦ out
 ]
 
-no_backs : (ks : Kinds) (p : ℕ) (xs : List Made) → is_in ks Backing ≡ false → Only ks xs → BacksNot p xs
+pub no_backs : (ks : Kinds) (p : ℕ) (xs : List Made) → is_in ks Backing ≡ false → Only ks xs → BacksNot p xs
 no_backs ks p xs none = always_map (λ m before. is_in ks (kind_of m.step) ≡ true) (λ m before. m.step ≡ Back p → ⊥) xs (λ m before is e. true≢false (sym is ∙ ap (λ s. is_in ks (kind_of s)) e ∙ none))
 
 backs_both : (p : ℕ) (ys xs : List Made) → BacksNot p ys → BacksNot p xs → BacksNot p (ys ++ xs)
 backs_both p ys xs = always_both (λ m before. m.step ≡ Back p → ⊥) (λ m before. m.step ≡ Back p → ⊥) ys xs (λ m before h. h)
 
-give_stays : (d : Directory) (first k word answer g : ℕ) (block : Block) → block ≡ run_block d (first + 1) k word → in_span first (first + (k + 2)) (g / 256) ≡ false → grain_move (Give block) answer g ≡ Stays
-give_stays d first k word answer g block is out = subst (λ b. grain_move (Give b) answer g ≡ Stays) (sym is)
-    (ap (λ t. if t then Gives (grain_of (run_block d (first + 1) k word).name) else Stays) (run_is d (first + 1) k word g ∙ inner_out first k (g / 256) out))
+-- what comes after the search leaves each page but the inner ones alone
+module _ (d : Directory) (first k word answer : ℕ) (block : Block) (is : block ≡ run_block d (first + 1) k word) (left backs : List Made) where
+  give_stays : (g : ℕ) → in_span (first + 1) (first + 1 + k) (g / 256) ≡ false → grain_move (Give block) answer g ≡ Stays
+  give_stays g out = subst (λ b. grain_move (Give b) answer g ≡ Stays) (sym is)
+      (ap (λ t. if t then Gives (grain_of (run_block d (first + 1) k word).name) else Stays) (run_is d (first + 1) k word g ∙ out))
+
+  pub after_steady : Only returning left → Only (Backing ∷ []) backs → (g : ℕ) → in_span (first + 1) (first + 1 + k) (g / 256) ≡ false → StaysPut g (left ++ (give_steps (first + 1) 0 block word answer ++ backs))
+  after_steady leaves back g out = steady_both g left (give_steps (first + 1) 0 block word answer ++ backs) (steady_kinds returning refl g left leaves) (give_stays g out, (refl, steady_kinds (Backing ∷ []) refl g backs back))
+
+  pub after_unbacked : Only returning left → BacksIn (first + 1) (first + 1 + k) backs → (p : ℕ) → in_span (first + 1) (first + 1 + k) p ≡ false → BacksNot p (left ++ (give_steps (first + 1) 0 block word answer ++ backs))
+  after_unbacked leaves pages p out = backs_both p left (give_steps (first + 1) 0 block word answer ++ backs) (no_backs returning p left refl leaves) (
+    (λ e. cc),
+    (
+      (λ e. cc),
+      always_map (λ m before. (q : ℕ) → m.step ≡ Back q → (first + 1 ≤ q) × (q < first + 1 + k)) (λ m before. m.step ≡ Back p → ⊥) backs (λ m before h e. let at = h p e in true≢false (sym (span_in (first + 1) (first + 1 + k) p at.0 at.1) ∙ out)) pages,
+    ),
+  )
 
 -- ---- before the search
 pub fits_find : (f : Profile) (d : Directory) (gs : List Guard) (v : View) → FitsBook f gs v → MayFind d v
@@ -213,18 +227,20 @@ fits_nothing f gs v w fits still knows = record {
 pub not_raised : {σ σ1 : Standing} (heap k : ℕ) (gs : List Guard) → Seeks (large_directory heap) k σ σ1 None → Raises heap k gs gs σ σ1 None
 not_raised {σ} heap k gs seek =
     let f = σ.seat.profile in let d = large_directory heap in record {
-      searched = seek.steps;
-      after = [];
-      calls = record {
-        adds = adds_under seek.adds (λ v l stood met. fits_find f d gs v met);
-        leads = record { from = λ v met agreed. fits_nothing f gs v (seek.steps ++ v) met (seek.outcome.still.from v (fits_find f d gs v met) agreed) (λ p e knows. knows_still f e p seek.steps v agreed knows) };
+      steps = seek.steps;
+      adds = adds_under seek.adds (λ v l stood met. fits_find f d gs v met);
+      raise = record {
+        searched = seek.steps;
+        after = [];
+        steps_are = refl;
+        fits = record { from = λ v met agreed. fits_nothing f gs v (seek.steps ++ v) met (seek.outcome.still.from v (fits_find f d gs v met) agreed) (λ p e knows. knows_still f e p seek.steps v agreed knows) };
+        kinds = seek.kinds;
+        shows = seek.shows;
+        few = (let few = seek.few in omega (arith, few));
+        steady = λ v met agreed g is. seek.steady v (fits_find f d gs v met) agreed (g / 256) (whole_outer f gs v met (g / 256) is) g refl;
+        unbacked = λ v met agreed p is. no_backs seeking p seek.steps refl seek.kinds;
+        outcome = record { found = seek.outcome; nothing = refl; same = refl };
       };
-      kinds = seek.kinds;
-      shows = seek.shows;
-      few = (let few = seek.few in omega (arith, few));
-      steady = λ v met agreed g is. seek.steady v (fits_find f d gs v met) agreed (g / 256) (whole_outer f gs v met (g / 256) is) g refl;
-      unbacked = λ v met agreed p is. no_backs seeking p seek.steps refl seek.kinds;
-      outcome = record { found = seek.outcome; nothing = refl; same = refl };
     }
 
 module _ {σ σ1 : Standing} (heap k first : ℕ) (gs : List Guard) (seek : Seeks (large_directory heap) k σ σ1 (Some first)) where
@@ -253,12 +269,15 @@ module _ {σ σ1 : Standing} (heap k first : ℕ) (gs : List Guard) (seek : Seek
   raised block some of g =
       let after = g.left ++ (give_steps (first + 1) 0 block g.word g.answer ++ g.backs) in
       let later = leads_at sought.adds.seat_is g.calls.leads in
+      let inner = inner_out first k in
       record {
-        searched = seek.steps;
-        after = after;
-        calls = record {
-          adds = adds_call sought.adds g.calls.adds (λ v l stood met. sought_pages v met (sought.leads.from v met (sought.adds.agreed v l stood met)));
-          leads = record {
+        steps = after ++ seek.steps;
+        adds = adds_call sought.adds g.calls.adds (λ v l stood met. sought_pages v met (sought.leads.from v met (sought.adds.agreed v l stood met)));
+        raise = record {
+          searched = seek.steps;
+          after = after;
+          steps_are = refl;
+          fits = record {
             from = λ v met agreed.
                 let before = agreed_later f_ v after seek.steps agreed in let next = agreed_first f_ v after seek.steps agreed in let span = sought.leads.from v met before in
                 let guarded = later.from (seek.steps ++ v) (sought_pages v met span) next in
@@ -267,39 +286,30 @@ module _ {σ σ1 : Standing} (heap k first : ℕ) (gs : List Guard) (seek : Seek
                 (ap (λ (b : Block). address_of b.name / 4096) g.block_is ∙ page_again (first + 1))
                 (λ p e knows. knows_still f_ e p after (seek.steps ++ v) next (knows_still f_ e p seek.steps v before knows)));
           };
-        };
-        kinds = seek.kinds;
-        shows = seek.shows;
-        steady = λ v met agreed x is.
-            let before = agreed_later f_ v after seek.steps agreed in let out = run_out f_ d_ gs first (first + (k + 2)) v (seek.steps ++ v) met (sought.leads.from v met before) (x / 256) is in
-            steady_both x after seek.steps
-            (steady_both x g.left (give_steps (first + 1) 0 block g.word g.answer ++ g.backs) (steady_kinds returning refl x g.left g.left_kinds) (give_stays d_ first k g.word g.answer x block g.block_is out, (refl, steady_kinds (Backing ∷ []) refl x g.backs g.back_kinds)))
-            (seek.steady v (fits_find f_ d_ gs v met) before (x / 256) (whole_outer f_ gs v met (x / 256) is) x refl);
-        unbacked = λ v met agreed p is.
-            let before = agreed_later f_ v after seek.steps agreed in let out = run_out f_ d_ gs first (first + (k + 2)) v (seek.steps ++ v) met (sought.leads.from v met before) p is in
-            backs_both p after seek.steps
-            (backs_both p g.left (give_steps (first + 1) 0 block g.word g.answer ++ g.backs) (no_backs returning p g.left refl g.left_kinds) (
-              (λ e. cc),
-              (
-                (λ e. cc),
-                always_map (λ m before. (q : ℕ) → m.step ≡ Back q → (first + 1 ≤ q) × (q < first + 1 + k)) (λ m before. m.step ≡ Back p → ⊥) g.backs (λ m before h e. let at = h p e in true≢false (sym (span_in (first + 1) (first + 1 + k) p at.0 at.1) ∙ inner_out first k p out)) g.back_pages,
-              ),
-            ))
-            (no_backs seeking p seek.steps refl seek.kinds);
-        few = (let few = seek.few in let j = length-append after seek.steps in let a = g.few in omega (arith, few, j, a));
-        outcome = record {
-          first = first;
-          found = seek.outcome;
-          backs = g.backs;
-          back_kinds = g.back_kinds;
-          back_pages = g.back_pages;
-          back_few = g.back_few;
-          word = g.word;
-          answer = g.answer;
-          block_is = g.block_is;
-          left = g.left;
-          left_kinds = g.left_kinds;
-          after_is = refl;
-          raised = refl;
+          kinds = seek.kinds;
+          shows = seek.shows;
+          steady = λ v met agreed x is.
+              let before = agreed_later f_ v after seek.steps agreed in let out = run_out f_ d_ gs first (first + (k + 2)) v (seek.steps ++ v) met (sought.leads.from v met before) (x / 256) is in
+              steady_both x after seek.steps (after_steady d_ first k g.word g.answer block g.block_is g.left g.backs g.left_kinds g.back_kinds x (inner (x / 256) out))
+              (seek.steady v (fits_find f_ d_ gs v met) before (x / 256) (whole_outer f_ gs v met (x / 256) is) x refl);
+          unbacked = λ v met agreed p is.
+              let before = agreed_later f_ v after seek.steps agreed in let out = run_out f_ d_ gs first (first + (k + 2)) v (seek.steps ++ v) met (sought.leads.from v met before) p is in
+              backs_both p after seek.steps (after_unbacked d_ first k g.word g.answer block g.block_is g.left g.backs g.left_kinds g.back_pages p (inner p out)) (no_backs seeking p seek.steps refl seek.kinds);
+          few = (let few = seek.few in let j = length-append after seek.steps in let a = g.few in omega (arith, few, j, a));
+          outcome = record {
+            first = first;
+            found = seek.outcome;
+            backs = g.backs;
+            back_kinds = g.back_kinds;
+            back_pages = g.back_pages;
+            back_few = g.back_few;
+            word = g.word;
+            answer = g.answer;
+            block_is = g.block_is;
+            left = g.left;
+            left_kinds = g.left_kinds;
+            after_is = refl;
+            raised = refl;
+          };
         };
       }

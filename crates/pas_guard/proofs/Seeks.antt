@@ -3,7 +3,7 @@ use Rattle.std.proofs.Common.{ℕ, ◌+◌, ◌*◌, ◌/◌, ◌%◌, ◌<◌, 
 use Rattle.std.proofs.lemmas.Bool.{cases_lt, cases_eq, cases_Bool, eqb-true, eq-eqb}
 use Rattle.std.proofs.lemmas.Bool.Decides.{nat_tests}
 use Rattle.std.proofs.lemmas.List.{append-nil}
-use Rattle.pas_profile.specs.Classes.{has_bit}
+use Rattle.pas_bits.specs.Bits.{has_bit}
 use Rattle.pas_profile.specs.declared.directory.Directory.{Directory}
 use Rattle.pas_profile.specs.declared.profile.Profile.{Profile}
 use Rattle.pas_profile.specs.declared.word.Word.TheVariants as Word
@@ -18,6 +18,8 @@ use Rattle.pas_steps.specs.Agreement.{Agrees, Agreed}
 use Rattle.pas_steps.specs.Calls.{Calls, Leads, Kept, Gained, Lost, now, nothing, Does}
 use Rattle.pas_steps.specs.Desks.{Seat, Standing, AnyView, Adds, CanCall, Makes, made}
 use Rattle.pas_steps.specs.Evidence.{ReadsFree}
+use Rattle.pas_steps.specs.Frames.{KeepsRight}
+use Rattle.pas_rights.proofs.Words.{keeps_by}
 use Rattle.pas_steps.specs.declared.step.Step.{Step}
 use Rattle.pas_steps.specs.Kinds.{Kinds, Deeding, Only, kind_of, is_in, place_of, apart, moving}
 use Rattle.pas_steps.specs.Past.{Once, Since}
@@ -34,13 +36,14 @@ use Rattle.pas_steps.proofs.Kept.{right_on, knows_still}
 use Rattle.pas_steps.proofs.Past.{once_later, once_earlier, once_map, always_both, always_map}
 use Rattle.pas_steps.proofs.SpareRoom.{Spares}
 use Rattle.pas_steps.proofs.Unknown.{unknown_stays}
-use Rattle.pas_large.specs.Claims.{StaysPut, in_span, MayClaimPages, HasRunRoom, AloneFrom, HasPages, Releases, ClaimsRun, HoldsRun, FailsRun}
+use Rattle.pas_large.specs.Claims.{StaysPut, in_span, MayClaimPages, HasRunRoom, AloneFrom, HasPages, Releases, ClaimsRun, HoldsRun, FailsRun, HoldsSpan}
 use Rattle.pas_large.specs.Evidence.{LostHere, BrokenHere, BadHere, AllUsable, FailsHere, HasFailed, DeedsOf}
 use Rattle.pas_large.specs.Finds.{MayFind, FindRoom}
 use Rattle.pas_large.specs.Pages.{of_pages, OnceAfter, OnlyDeedsShow, GotPages, claiming}
 use Rattle.pas_large.proofs.Claims.{StaysHere, steady_on, steady_both, out_of, narrower, span_in, in_parts, span_past, span_none, got_both, has_got, room_after, alone_on}
 use Rattle.pas_large.proofs.Finds.{DeedOf, bad_later, alone_looks, knew, deeds_map, may_find}
 use Rattle.pas_large.proofs.Pages.{undone, shows_both}
+use Rattle.pas_guard.proofs.Spans.{no_span, span_kept, span_beside, span_joined, claim_keeps}
 use Rattle.pas_guard.specs.Evidence.{BackedReadHere, OuterBackedHere, IsBad, OuterFailsHere, HasFailedOnce}
 use Rattle.pas_guard.specs.Guarded.{LeavesGuard}
 use Rattle.pas_guard.specs.Seeks.{LeftSince, backed_looks, ZeroBackedHere, SomeBackedHere, LooksBacked, HoldsWhole, HasSpan, seeking, Seeks}
@@ -216,6 +219,7 @@ pub record Sought (d : Directory) (k from free next : ℕ) (desk desk' : Standin
   pub within : (next ≤ from + (k + 2)) × (next ≤ desk.seat.profile.pages + 1)
   pub few : length steps + 71 ≤ 6 * next + 48 * free + 17 * from
   pub usable : (page : ℕ) → from ≤ page → page < next → ReadUsable d page steps
+  pub holding : (v : View) → MayFind d v → Agreed desk.seat.profile v steps → HoldsSpan from free steps
   pub alone : AloneFrom free steps
   pub steady : (v : View) → MayFind d v → Agreed desk.seat.profile v steps → (page : ℕ) → HoldsWhole page v → (g : ℕ) → g / 256 ≡ page → StaysPut g steps
   pub bad : (v : View) → MayFind d v → Agreed desk.seat.profile v steps → (s : ℕ) → 1 ≤ s → s < from → IsBad v d k s steps
@@ -234,6 +238,7 @@ sought_none d k = record {
   within = (omega arith, omega arith);
   few = omega arith;
   usable = λ p ge lt. absurd (omega (arith, ge, lt));
+  holding = λ v met agreed. no_span 1 [];
   alone = λ p ge. left_alone_by page_looks refl refl p [] tt;
   steady = λ v met agreed p whole g at. tt;
   bad = λ v met agreed s low lt. absurd (omega (arith, low, lt));
@@ -383,6 +388,7 @@ module _ {σ σ1 : Standing} (d : Directory) (k from free next : ℕ) (so : Soug
           | inl old ↦ looked_usable find p ge old
           | inr new ↦ usable_before d p ys xs (so.alone p (omega (arith, new, order))) (run.usable p (omega (arith, at, new), lt) new)
         ];
+        holding = λ v met agreed. span_kept from free ys xs (λ p ge lt. keeps_by p page_looks ys refl find.kinds) (so.holding v met (agreed_later f v ys xs agreed));
         alone = looked_alone find;
         steady = looked_steady find;
         bad = looked_bad find;
@@ -405,6 +411,7 @@ module _ {σ σ1 : Standing} (d : Directory) (k from free next : ℕ) (so : Soug
         within = (omega arith, omega (arith, region));
         few = (let i = length-append rs (ys ++ xs) in let j = length-append ys xs in let a = r.few in let b = find.few in let c = so.few in omega (arith, i, j, a, b, c, order, first, past));
         usable = λ p ge lt. usable_later d p rs (ys ++ xs) (usable_before d p ys xs (so.alone p (omega (arith, ge, past, order))) (run.usable p (ge, lt) (omega (arith, ge, past))));
+        holding = λ v met agreed. no_span page (rs ++ (ys ++ xs));
         alone = λ p ge. r.alone (ys ++ xs) p (omega (arith, ge, past, order)) (looked_alone find p (omega (arith, ge, past, order)));
         steady = put_steady find r;
         bad = λ v met agreed s one lt. let before = agreed_later f v rs (ys ++ xs) agreed in bad_more v d k s rs (ys ++ xs) (elim (cases_lt s from) [
@@ -519,6 +526,7 @@ module _ {σ σ1 : Standing} (d : Directory) (k from free next : ℕ) (so : Soug
             within = (omega (arith, whole, first, ge), so.within.1);
             few = (let i = length-append rs (ws ++ xs) in let j = length-append ws xs in let a = r.few in let b = fails.few in let c = so.few in omega (arith, i, j, a, b, c, first, ge));
             usable = λ p from_page below. usable_later d p rs (ws ++ xs) (claim_usable claim p (omega (arith, from_page, first, ge)) below);
+            holding = λ v met agreed. no_span (page + 1) (rs ++ (ws ++ xs));
             alone = λ p from_page. r.alone (ws ++ xs) p (omega (arith, from_page, ge)) (fails.alone xs so.alone p from_page);
             steady = λ v met agreed p kept_whole g at. let before = agreed_later f v rs (ws ++ xs) agreed in
                 steady_both g rs (ws ++ xs) (r.steady g (narrower from free next (g / 256) so.order.1 (held_apart v met (agreed_later f v ws xs before) p kept_whole g at))) (claim_steady claim v met before p kept_whole g at);
@@ -554,6 +562,11 @@ module _ {σ σ1 : Standing} (d : Directory) (k from free next : ℕ) (so : Soug
           within = so.within;
           few = (let j = length-append zs xs in let b = holds_it.few in let c = so.few in omega (arith, j, b, c, last));
           usable = claim_usable claim;
+          holding = λ v met agreed.
+              let before = agreed_later f v zs xs agreed in let after = agreed_first f v zs xs agreed in let has = so_call.leads.from v met before in
+              let kept : (p : ℕ) → from ≤ p → p < free → KeepsRight p zs = λ p ge lt. let is = span_in from free p ge lt in
+              (claim_keeps f d p (xs ++ v) zs after claim.returns (has.0.got.deeds p is) (has.0.got.does.right p ∙ ap (λ t. now (if t then Gained else Kept) (has_right v p)) is)).0 in
+              span_joined from free next (zs ++ xs) (span_kept from free zs xs kept (so.holding v met before)) (holds_it.holding xs so.alone);
           alone = holds_it.alone xs so.alone;
           steady = claim_steady claim;
           bad = claim_bad claim;
@@ -625,6 +638,12 @@ module _ {σ σ1 σ2 : Standing} (d : Directory) (k from next high : ℕ) (whole
           of_region = (so.low, let region = so.within.1 in omega (arith, whole, region));
           got = subst (λ x. Leads f (MayFind d) (HasSpan d from x) (ls ++ us)) whole call.leads;
           usable = usable_now d k from next high whole last so looks ls;
+          taken = λ v met agreed.
+              let held = span_kept from next ls us (λ p ge lt. keeps_by p backed_looks ls refl looks.kinds) (so.holding v met (agreed_later f v ls us agreed)) in record {
+                usable = usable_now d k from next high whole last so looks ls;
+                right = λ p is. let lt = is.1 in held.right p is.0 (omega (arith, lt, whole));
+                whole = λ p word is small. let lt = is.1 in held.whole p word is.0 (omega (arith, lt, whole)) small;
+              };
           bare = λ v met agreed.
               let before = agreed_later f v ls us agreed in let region = so.order.0 in (
                 outer_zero v from ls us looks.kinds (held_page d k from next high whole last so looks v met before from (omega arith) (omega (arith, whole))) looks.outcome.0,
@@ -689,6 +708,9 @@ module _ {σ σ1 σ2 : Standing} (d : Directory) (k from next high : ℕ) (whole
           within = (omega (arith, whole), so.within.1);
           few = (let i = length-append ps (ls_ ++ us_) in let j = length-append ls_ us_ in let a = h.few in let b = looks.few in let c = so.few in omega (arith, i, j, a, b, c));
           usable = λ p ge lt. usable_later d p ps (ls_ ++ us_) (usable_later d p ls_ us_ (so.usable p (omega (arith, ge)) lt));
+          holding = λ v met agreed. let before = agreed_later f v ps (ls_ ++ us_) agreed in
+              let held = span_kept from next ls_ us_ (λ p ge lt. keeps_by p backed_looks ls_ refl looks.kinds) (so.holding v met (agreed_later f v ls_ us_ before)) in
+              span_beside from (from + 1) next ps (ls_ ++ us_) h.on (λ p ge lt e. absurd (omega (arith, e, ge))) (record { right = λ p ge lt. held.right p (omega (arith, ge)) lt; whole = λ p word ge lt small. held.whole p word (omega (arith, ge)) lt small });
           alone = λ p ge. alone_on from p ps (ls_ ++ us_) h.on (λ e. absurd (omega (arith, e, ge, whole))) (alone_still p ls_ us_ looks.kinds (so.alone p ge));
           steady = λ v met agreed p kept_whole g at. let before = agreed_later f v ps (ls_ ++ us_) agreed in
               let out = held_apart d k from next next so v met (agreed_later f v ls_ us_ before) p kept_whole g at in

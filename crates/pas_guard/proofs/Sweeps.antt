@@ -1,18 +1,20 @@
 -- A sweep over the guards that are up, one guard more.
-use Rattle.std.proofs.Common.{◌≡◌, ℕ, ◌+◌, ◌/◌, ◌<◌, ◌≤◌, ◌==◌, Bool, true, false, ◌||◌, if◌then◌else◌, ◌⊎◌, List, [], ◌∷◌, ◌++◌, length, inl, inr, refl, ap, sym, ◌∙◌, subst, arith, append_assoc, append-nil, length-append, true≢false}
+use Rattle.std.proofs.Common.{◌≡◌, ℕ, ◌+◌, ◌*◌, ◌/◌, ◌<◌, ◌≤◌, ◌==◌, Bool, true, false, ◌||◌, if◌then◌else◌, ◌⊎◌, List, [], ◌∷◌, ◌++◌, length, inl, inr, refl, ap, sym, ◌∙◌, subst, arith, append_assoc, append-nil, length-append, true≢false}
 use Rattle.std.specs.Prelude.{remove, slice_index_or}
 use Rattle.std.proofs.lemmas.Bool.{cases_Bool, eqb-true, eq-eqb, ne_eqb}
 use Rattle.pas_profile.specs.Profiles.{IsPage}
-use Rattle.pas_profile.specs.Runs.{address_of}
+use Rattle.pas_profile.specs.Blocks.{address_of}
 use Rattle.pas_profile.specs.declared.profile.Profile.{Profile}
 use Rattle.pas_report.specs.declared.record.Record.{Record}
 use Rattle.pas_scan.specs.Runs.{large_directory}
 use Rattle.pas_steps.specs.Calls.{Calls, Leads, Kept, Lost, now, Does}
 use Rattle.pas_steps.specs.Desks.{Seat, Standing, AnyView, CanCall}
-use Rattle.pas_steps.specs.Kinds.{LookLife}
+use Rattle.pas_steps.specs.Kinds.{LookLife, Only}
+use Rattle.pas_rights.specs.PutsBack.{giving_back}
 use Rattle.pas_steps.specs.Views.{View, has_right, KnowsDeed}
 use Rattle.pas_steps.specs.declared.step.Made.{Made}
 use Rattle.pas_steps.proofs.Adding.{adds_call, agreed_first, agreed_later}
+use Rattle.pas_steps.proofs.Apart.{only_within, only_both}
 use Rattle.pas_steps.proofs.Called.{call_none, next_call}
 use Rattle.pas_steps.proofs.Calls.{does_idly, leads_at}
 use Rattle.pas_steps.proofs.Kept.{knows_still}
@@ -20,7 +22,7 @@ use Rattle.pas_large.specs.Claims.{StaysPut}
 use Rattle.pas_large.proofs.Claims.{steady_on, steady_both}
 use Rattle.pas_guard.specs.Books.{is_outer_of, is_outer, AreApart, Each, IsGuardOf, KnowsGuard, FitsBook}
 use Rattle.pas_guard.specs.Lowers.{MayLower, lowered, Lowers}
-use Rattle.pas_guard.specs.Sweeps.{is_over, life_look, LooksOver, lowered_record, SweptOne, Swept, Sweeps}
+use Rattle.pas_guard.specs.Sweeps.{is_over, life_look, LooksOver, lowered_record, SweptOne, Swept, sweeping, Sweeps}
 use Rattle.pas_guard.specs.declared.book.Guard.{Guard}
 use Rattle.pas_guard.proofs.Raises.{each_map}
 
@@ -137,6 +139,27 @@ swept_more all k (p ∷ ps) kept said xs g word first mine mine_said h one =
       ap (λ y. (first ++ life_look g word) ++ y) h.7 ∙ sym (append_assoc (first ++ life_look g word) rest (h.1 ++ life_look p h.0)),
     )
 
+-- ---- what its steps are, and how many
+one_kinds : (t : Bool) (k : ℕ) (guard : Guard) (first : List Made) (kept after : List Guard) (said more : List Record) → SweptOne t k guard first kept after said more → Only sweeping first
+one_kinds true k guard first kept after said more h = let low = h.0 in only_within giving_back sweeping first refl low.kinds
+one_kinds false k guard first kept after said more h = subst (Only sweeping) (sym h.0) tt
+
+one_few : (t : Bool) (k : ℕ) (guard : Guard) (first : List Made) (kept after : List Guard) (said more : List Record) → SweptOne t k guard first kept after said more → length first ≤ 24
+one_few true k guard first kept after said more h = let low = h.0 in low.few
+one_few false k guard first kept after said more h = let none = ap (λ (xs : List Made). length xs) h.0 in omega (arith, none)
+
+swept_kinds : (all : Bool) (k : ℕ) (guards kept : List Guard) (said : List Record) (steps : List Made) → Swept all k guards kept said steps → Only sweeping steps
+swept_kinds all k [] kept said steps h = subst (Only sweeping) (sym h.2) tt
+swept_kinds all k (guard ∷ guards) kept said steps h = subst (Only sweeping) (sym h.7) (only_both sweeping h.2 (h.1 ++ life_look guard h.0) (swept_kinds all k guards h.3 h.4 h.2 h.6)
+    (only_both sweeping h.1 (life_look guard h.0) (one_kinds (all || is_over guard h.0) k guard h.1 kept h.3 said h.4 h.5) (refl, tt)))
+
+swept_few : (all : Bool) (k : ℕ) (guards kept : List Guard) (said : List Record) (steps : List Made) → Swept all k guards kept said steps → length steps ≤ 25 * length guards
+swept_few all k [] kept said steps h = let none = ap (λ (xs : List Made). length xs) h.2 in omega (arith, none)
+swept_few all k (guard ∷ guards) kept said steps h =
+    let one = one_few (all || is_over guard h.0) k guard h.1 kept h.3 said h.4 h.5 in let rest = swept_few all k guards h.3 h.4 h.2 h.6 in
+    let whole = ap (λ (xs : List Made). length xs) h.7 in let a = length-append h.2 (h.1 ++ life_look guard h.0) in let b = length-append h.1 (life_look guard h.0) in
+    omega (arith, one, rest, whole, a, b)
+
 -- The first guards were swept: those that stayed up stand before the others, which come next.
 pub record SweptSoFar (all : Bool) (guards now_up : List Guard) (place : ℕ) (said said' : List Record) (desk desk' : Standing) : Type 0 where
   pub done : List Guard
@@ -164,7 +187,13 @@ swept_all {σ} all guards up place said said' so le =
     let none = no_rest so.kept so.rest (let e = ap (λ (xs : List Guard). length xs) so.up in let at = so.at in omega (arith, e, at, le)) in
     let done : guards ≡ so.done = so.whole ∙ ap (λ xs. so.done ++ xs) none ∙ append-nil so.done in
     let kept : up ≡ so.kept = so.up ∙ ap (λ xs. so.kept ++ xs) none ∙ append-nil so.kept in
-    record { steps = so.steps; more = so.more; calls = so.calls; swept = subst (λ x. Swept all σ.seat.actor x up so.more so.steps) (sym done) (subst (λ x. Swept all σ.seat.actor so.done x so.more so.steps) (sym kept) so.swept); added = so.added }
+    let swept : Swept all σ.seat.actor guards up so.more so.steps = subst (λ x. Swept all σ.seat.actor x up so.more so.steps) (sym done) (subst (λ x. Swept all σ.seat.actor so.done x so.more so.steps) (sym kept) so.swept) in record {
+      steps = so.steps;
+      more = so.more;
+      adds = so.calls.adds;
+      sweep = record { fits = so.calls.leads; swept = swept; kinds = swept_kinds all σ.seat.actor guards up so.more so.steps swept; few = swept_few all σ.seat.actor guards up so.more so.steps swept };
+      added = so.added;
+    }
 
 -- the guard at the place comes next
 pub record NextGuard (up kept rest : List Guard) (guard : Guard) : Type 0 where

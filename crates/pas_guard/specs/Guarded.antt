@@ -1,7 +1,8 @@
 -- Pages that one actor holds whole, from one place of a legal list to a later one.
 use Rattle.std.specs.Prelude.{ℕ, ◌/◌, ◌≡◌, ◌==◌, true, [], ◌∷◌}
 use Rattle.pas_profile.specs.Directories.{deed_word_of}
-use Rattle.pas_profile.specs.Runs.{in_run, grain_of, length_of}
+use Rattle.pas_bits.specs.Runs.{in_run}
+use Rattle.pas_profile.specs.Blocks.{grain_of, length_of}
 use Rattle.pas_profile.specs.declared.directory.Directory.{Directory}
 use Rattle.pas_profile.specs.declared.name.Block.{Block}
 use Rattle.pas_profile.specs.declared.word.Word.TheVariants as Word

@@ -6,3 +6,4 @@ pub mod Books
 pub mod Raises
 pub mod Lowers
 pub mod Sweeps
+pub mod Keepers

@@ -1,7 +1,9 @@
 -- A guard is lowered: its outer pages are put back.
 use Rattle.std.specs.Prelude.{ℕ, ◌/◌, ◌≤◌, ◌≡◌, true, if◌then◌else◌, List, ◌++◌, length}
 use Rattle.pas_profile.specs.declared.profile.Profile.{Profile}
-use Rattle.pas_rights.specs.PutsBack.{giving_back}
+use Rattle.pas_rights.specs.PutsBack.{giving_back, BackSteps}
+use Rattle.pas_rights.specs.Words.{full}
+use Rattle.pas_scan.specs.Runs.{large_directory}
 use Rattle.pas_steps.specs.Calls.{Calls, Effect, Kept, Lost, Does}
 use Rattle.pas_steps.specs.Clear.{IsClear}
 use Rattle.pas_steps.specs.Desks.{Standing}
@@ -21,10 +23,12 @@ pub record MayLower (f : Profile) (guard : Guard) (v : View) : Type 0 where
 abbrev pub lowered : Guard → Effect
 lowered guard = record { grains = λ g. if is_outer_of guard (g / 256) then Lost else Kept; rights = λ q. Kept; clears = λ q. Kept }
 
--- puts, and what follows a return, on the low page first
+-- All grains of the low page are put, and what follows a return is done; then so for the high page.
 pub record LowerSteps (guard : Guard) (steps : List Made) : Type 0 where
   pub low : List Made
   pub high : List Made
+  pub low_order : BackSteps guard.low (large_directory guard.block.heap) full low
+  pub high_order : BackSteps guard.high (large_directory guard.block.heap) full high
   pub on_low : OnlyOn guard.low low
   pub on_high : OnlyOn guard.high high
   pub kinds : Only giving_back steps

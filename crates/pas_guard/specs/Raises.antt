@@ -5,11 +5,11 @@ use Rattle.pas_profile.specs.declared.name.Block.{Block}
 use Rattle.pas_profile.specs.declared.profile.Profile.{Profile}
 use Rattle.pas_scan.specs.Runs.{large_directory}
 use Rattle.pas_steps.specs.Agreement.{Agreed}
-use Rattle.pas_steps.specs.Calls.{Calls}
+use Rattle.pas_steps.specs.Calls.{Leads}
 use Rattle.pas_steps.specs.Past.{Always}
 use Rattle.pas_steps.specs.declared.step.Step.TheVariants.{Back}
 use Rattle.pas_large.specs.Claims.{StaysPut}
-use Rattle.pas_steps.specs.Desks.{Standing}
+use Rattle.pas_steps.specs.Desks.{Standing, Adds}
 use Rattle.pas_steps.specs.Kinds.{Backing, Only, returning}
 use Rattle.pas_steps.specs.Unknown.{unknown_pages}
 use Rattle.pas_steps.specs.Views.{View}
@@ -56,14 +56,22 @@ pub record IsNotRaised (f : Profile) (d : Directory) (k : ℕ) (guards guards' :
 abbrev pub BacksNot : ℕ → List Made → Type 0
 BacksNot page = Always (λ m before. m.step ≡ Back page → ⊥)
 
--- The actor fits the book before and afterwards. The outer pages of the guards that were up are left alone: no step moves a grain of theirs or backs one. At most 71 steps for each page of the region, 12 for each page that is asked for, and 26 more.
-pub record Raises (heap k : ℕ) (guards guards' : List Guard) (desk desk' : Standing) (answer : Option Block) : Type 0 where
+-- What a raise does, in the actor's own steps: the search, and what comes after it. The actor fits the book before and afterwards. The outer pages of
+-- the guards that were up are left alone: no step moves a grain of theirs or backs one. At most 71 steps for each page of the region, 12 for each page
+-- that is asked for, and 26 more.
+pub record RaiseSteps (f : Profile) (heap k : ℕ) (guards guards' : List Guard) (answer : Option Block) (steps : List Made) : Type 0 where
   pub searched : List Made
   pub after : List Made
-  pub calls : Calls desk desk' (FitsBook desk.seat.profile guards) (λ v w. FitsBook desk.seat.profile guards' w) (after ++ searched)
+  pub steps_are : steps ≡ after ++ searched
+  pub fits : Leads f (FitsBook f guards) (λ v w. FitsBook f guards' w) steps
   pub kinds : Only seeking searched
-  pub shows : OnlyDeedsShow desk.seat.profile searched
-  pub few : length (after ++ searched) ≤ 71 * desk.seat.profile.pages + 12 * k + 26
-  pub steady : (v : View) → FitsBook desk.seat.profile guards v → Agreed desk.seat.profile v (after ++ searched) → (g : ℕ) → is_outer guards (g / 256) ≡ true → StaysPut g (after ++ searched)
-  pub unbacked : (v : View) → FitsBook desk.seat.profile guards v → Agreed desk.seat.profile v (after ++ searched) → (page : ℕ) → is_outer guards page ≡ true → BacksNot page (after ++ searched)
-  pub outcome : MatchOption answer (IsNotRaised desk.seat.profile (large_directory heap) k guards guards' searched after) (IsRaised desk.seat.profile (large_directory heap) k guards guards' searched after)
+  pub shows : OnlyDeedsShow f searched
+  pub few : length steps ≤ 71 * f.pages + 12 * k + 26
+  pub steady : (v : View) → FitsBook f guards v → Agreed f v steps → (g : ℕ) → is_outer guards (g / 256) ≡ true → StaysPut g steps
+  pub unbacked : (v : View) → FitsBook f guards v → Agreed f v steps → (page : ℕ) → is_outer guards page ≡ true → BacksNot page steps
+  pub outcome : MatchOption answer (IsNotRaised f (large_directory heap) k guards guards' searched after) (IsRaised f (large_directory heap) k guards guards' searched after)
+
+pub record Raises (heap k : ℕ) (guards guards' : List Guard) (desk desk' : Standing) (answer : Option Block) : Type 0 where
+  pub steps : List Made
+  pub adds : Adds desk desk' (FitsBook desk.seat.profile guards) steps
+  pub raise : RaiseSteps desk.seat.profile heap k guards guards' answer steps

@@ -12,7 +12,7 @@ use Rattle.pas_steps.specs.Views.{View, holds, has_right, known_deed}
 use Rattle.pas_steps.specs.declared.step.Made.{Made}
 use Rattle.pas_steps.specs.declared.step.Step.TheVariants.{Look}
 use Rattle.pas_large.specs.Claims.{in_span, LacksAll, StaysPut}
-use Rattle.pas_large.specs.Evidence.{AllUsable, DeedsOf}
+use Rattle.pas_large.specs.Evidence.{AllUsable, DeedsOf, IsTakenRun}
 use Rattle.pas_large.specs.Finds.{MayFind, finding}
 use Rattle.pas_large.specs.Pages.{GotPages, OnlyDeedsShow}
 use Rattle.pas_guard.specs.Guarded.{LeavesGuard}
@@ -54,12 +54,13 @@ pub record HasSpan (d : Directory) (first stop : ℕ) (v w : View) : Type 0 wher
 abbrev pub seeking : Kinds
 seeking = LookBacked ∷ finding
 
--- The run is the actor's. Its pages were read as usable, and its outer pages as not backed while they were held. Each lower run can't be guarded, and
--- each deed is of a page of this run or of one that failed.
+-- The run is the actor's. Its pages were read as usable and then taken whole, with rights that were kept since, and its outer pages were read as not
+-- backed while they were held: so it didn't break. Each lower run can't be guarded, and each deed is of a page of this run or of one that failed.
 pub record SoughtRun (f : Profile) (d : Directory) (k : ℕ) (steps : List Made) (first : ℕ) : Type 0 where
   pub of_region : (1 ≤ first) × (first + (k + 2) ≤ f.pages + 1)
   pub got : Leads f (MayFind d) (HasSpan d first (first + (k + 2))) steps
   pub usable : AllUsable d (k + 2) first steps
+  pub taken : (v : View) → MayFind d v → Agreed f v steps → IsTakenRun d (k + 2) first steps
   pub bare : (v : View) → MayFind d v → Agreed f v steps → Since (BackedReadHere v first 0) (LeftSince first) steps × Since (BackedReadHere v (first + k + 1) 0) (LeftSince (first + k + 1)) steps
   pub lower : (v : View) → MayFind d v → Agreed f v steps → (other : ℕ) → 1 ≤ other → other < first → IsBad v d k other steps
   pub deeds : (v : View) → MayFind d v → Agreed f v steps → DeedsOf d (k + 2) (λ other. (other ≡ first) ⊎ HasFailedOnce v d k other steps) steps

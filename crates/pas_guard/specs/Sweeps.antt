@@ -1,13 +1,16 @@
 -- A sweep over the guards that are up.
-use Rattle.std.specs.Prelude.{ℕ, ◌/◌, ◌%◌, ◌≡◌, nat_lt, Bool, true, false, ◌||◌, List, [], ◌∷◌, ◌++◌}
+use Rattle.std.specs.Prelude.{ℕ, ◌/◌, ◌%◌, ◌*◌, ◌≤◌, ◌≡◌, nat_lt, Bool, true, false, ◌||◌, List, [], ◌∷◌, ◌++◌, length}
 use Rattle.pas_profile.specs.Lives.{turn_of}
-use Rattle.pas_profile.specs.Runs.{address_of}
+use Rattle.pas_profile.specs.Blocks.{address_of}
+use Rattle.pas_profile.specs.declared.profile.Profile.{Profile}
 use Rattle.pas_profile.specs.declared.word.Word.{Word as TheWord}
 use Rattle.pas_profile.specs.declared.word.Word.TheVariants as Word
 use Rattle.pas_report.specs.declared.record.Record.{Record}
 use Rattle.pas_report.specs.declared.record.Said.{Said}
-use Rattle.pas_steps.specs.Calls.{Calls}
+use Rattle.pas_rights.specs.PutsBack.{giving_back}
+use Rattle.pas_steps.specs.Calls.{Leads}
 use Rattle.pas_steps.specs.Desks.{Standing, AnyView, Adds, made}
+use Rattle.pas_steps.specs.Kinds.{Kinds, LookLife, Only}
 use Rattle.pas_steps.specs.declared.step.Made.{Made}
 use Rattle.pas_steps.specs.declared.step.Step.TheVariants.{Look}
 use Rattle.pas_guard.specs.Books.{FitsBook}
@@ -47,10 +50,21 @@ Swept all k [] kept said steps = (kept ≡ []) × (said ≡ []) × (steps ≡ []
 Swept all k (guard ∷ guards) kept said steps = (word : ℕ) × (first : List Made) × (rest : List Made) × (after : List Guard) × (more : List Record)
     × SweptOne (all || is_over guard word) k guard first kept after said more × Swept all k guards after more rest × (steps ≡ rest ++ (first ++ life_look guard word))
 
--- the actor fits the book before and afterwards
+-- ---- the sweep
+-- what a sweep does, none of which is an event
+abbrev pub sweeping : Kinds
+sweeping = LookLife ∷ giving_back
+
+-- What a sweep of actor k does, in its own steps. The actor fits the book before and afterwards. At most 25 steps for each guard.
+pub record SweepSteps (f : Profile) (k : ℕ) (all : Bool) (guards guards' : List Guard) (said : List Record) (steps : List Made) : Type 0 where
+  pub fits : Leads f (FitsBook f guards) (λ v w. FitsBook f guards' w) steps
+  pub swept : Swept all k guards guards' said steps
+  pub kinds : Only sweeping steps
+  pub few : length steps ≤ 25 * length guards
+
 pub record Sweeps (all : Bool) (guards guards' : List Guard) (said said' : List Record) (desk desk' : Standing) : Type 0 where
   pub steps : List Made
   pub more : List Record
-  pub calls : Calls desk desk' (FitsBook desk.seat.profile guards) (λ v w. FitsBook desk.seat.profile guards' w) steps
-  pub swept : Swept all desk.seat.actor guards guards' more steps
+  pub adds : Adds desk desk' (FitsBook desk.seat.profile guards) steps
+  pub sweep : SweepSteps desk.seat.profile desk.seat.actor all guards guards' more steps
   pub added : said' ≡ said ++ more
