@@ -1,8 +1,6 @@
--- A thread's act alone at its desk.
-use Rattle.std.proofs.Common.{◌≡◌, ◌≢◌, ℕ, ◌+◌, ◌≤◌, List, [], ◌++◌, length, refl, ap, sym, ◌∙◌, subst, arith, length-append}
-use Rattle.std.proofs.lemmas.List.{append-nil}
+-- A thread at its desk, before its steps and after them.
+use Rattle.std.proofs.Common.{◌≡◌, ℕ, ◌+◌, ◌≤◌, List, ◌++◌, length, ap, sym, ◌∙◌, subst, arith, length-append}
 use Rattle.pas_profile.specs.declared.profile.Profile.{Profile}
-use Rattle.pas_steps.specs.Agreement.{Agreed}
 use Rattle.pas_steps.specs.Calls.{Calls}
 use Rattle.pas_steps.specs.Events.{events_of, events_by}
 use Rattle.pas_steps.specs.Lists.{Whole, part}
@@ -10,18 +8,15 @@ use Rattle.pas_steps.specs.Views.{View}
 use Rattle.pas_steps.specs.Desks.{Seat, Standing, CanCall, triples}
 use Rattle.pas_steps.specs.declared.step.Made.{Made}
 use Rattle.pas_steps.proofs.Frames.{events_split}
-use Rattle.pas_steps.proofs.Parts.{part_of_own, part_of_others}
-use Rattle.pas_steps.proofs.Unknown.{unknown_stays}
+use Rattle.pas_steps.proofs.Parts.{part_of_own}
 use Rattle.pas_report.specs.Rooms.{records_in, room_of, Records}
 use Rattle.pas_report.specs.declared.record.Record.{Record}
 use Rattle.pas_cache.specs.Caches.{Cached, AtRest}
-use Rattle.pas_cache.specs.Calls.{Begins}
-use Rattle.pas_answers.specs.Acts.{Wakes}
-use Rattle.pas_answers.specs.Answers.{Progress, begun, epoch_look, after_wake}
+use Rattle.pas_answers.specs.Answers.{Progress}
 use Rattle.pas_answers.specs.Calls.{owed_events}
-use Rattle.pas_answers.proofs.SingleActs.{its_cache, other_cache}
 use Rattle.pas_acts.specs.Works.{Later, Sits}
-use Rattle.pas_acts.specs.Turns.{RestsAt, Moves, Says, LeavesRest, ActsAlone}
+use Rattle.pas_acts.specs.Turns.{RestsAt, Moves}
+use Rattle.pas_acts.specs.AtDesks.{and_for}
 
 -- ---- at the desk
 pub can_begin : {f : Profile} {k : ℕ} {σ : Standing} {c : Cached} {out : Records} {later : Later} {p : Progress} → RestsAt f k σ c out later p → CanCall σ (AtRest σ.seat.profile c)
@@ -53,16 +48,15 @@ sits_after {f} {k} {Rest} {Rest'} {σ} {σ'} {v} {need} {need'} {steps} s calls 
       room = subst (λ (t : Seat). length (events_of k (steps ++ v)) + need' ≤ t.room) (sym seat) (omega (arith, grown, few, room));
     }
 
--- it rests again, where what was said are the events of the steps and is paid for
-pub rests_after : {f : Profile} {k : ℕ} {σ σ' : Standing} {c c' : Cached} {out out' : Records} {later : Later} {p q : Progress} → RestsAt f k σ c out later p → (moves : Moves k (AtRest f c) (AtRest f c') σ σ' p q) → q.caches k ≡ c' → (says : Says k out out' p q)
-    → length says.said ≡ length (events_by k (part k p.list) moves.steps) → length says.said + owed_events f c' (part k q.list) ≤ owed_events f c (part k p.list) → RestsAt f k σ' c' out' later q
-rests_after {f} {k} {σ} {σ'} {c} {c'} {out} {out'} {later} {p} {q} at moves cache says count paid =
+-- it rests again, where the records that came to its own have the events of the steps, and are paid for
+pub rests_after : {f : Profile} {k : ℕ} {σ σ' : Standing} {c c' : Cached} {out out' : Records} {later : Later} {p q : Progress} (cost : ℕ) (own : List Record) → RestsAt f k σ c out (and_for cost later) p → (moves : Moves k (AtRest f c) (AtRest f c') σ σ' p q) → q.caches k ≡ c'
+    → records_in out' ≡ records_in out ++ own → room_of out' ≡ room_of out → length (events_by k (part k p.list) moves.steps) ≤ length own → length own + owed_events f c' (part k q.list) ≤ cost + owed_events f c (part k p.list) → RestsAt f k σ' c' out' later q
+rests_after {f} {k} {σ} {σ'} {c} {c'} {out} {out'} {later} {p} {q} cost own at moves cache pushed room few paid =
     let mine : part k q.list ≡ moves.steps ++ part k p.list = ap (λ (l : Whole). part k l) moves.list_is ∙ part_of_own k moves.steps p.list in
-    let longer = ap (λ (rs : List Record). length rs) says.pushed ∙ length-append (records_in out) says.said in
+    let longer = ap (λ (rs : List Record). length rs) pushed ∙ length-append (records_in out) own in
     let spare = at.spare in
-    let room = says.room in
     record {
-      sits = subst (λ (w : View). Sits f k (AtRest f c') σ' w (owed_events f c' (part k q.list) + later.events)) (sym mine) (sits_after at.sits moves.calls (omega (arith, count, paid)));
+      sits = subst (λ (w : View). Sits f k (AtRest f c') σ' w (owed_events f c' (part k q.list) + later.events)) (sym mine) (sits_after at.sits moves.calls (omega (arith, few, paid)));
       cache = cache;
       spare = omega (arith, longer, paid, spare, room);
     }
@@ -74,38 +68,3 @@ rests_still {f} {k} {σ} {c} {out} {later} parts caches at = record {
   cache = caches ∙ at.cache;
   spare = subst (λ (w : View). length (records_in out) + (owed_events f c w + later.records) ≤ room_of out) (sym parts) at.spare;
 }
-
--- what a thread's steps leave as it was
-pub leaves_rest : {k : ℕ} {p q : Progress} (steps : List Made) → q.list ≡ triples k steps ++ p.list → ((j : ℕ) → j ≢ k → q.caches j ≡ p.caches j) → q.names ≡ p.names → q.epoch ≡ p.epoch → LeavesRest k p q
-leaves_rest {k} {p} {q} steps list caches names epoch = record {
-  parts = λ j ne. ap (λ (l : Whole). part j l) list ∙ part_of_others j k steps p.list (λ (e : k ≡ j). ne (sym e));
-  caches = caches;
-  names = names;
-  epoch = epoch;
-}
-
--- ---- the epoch is read
-pub has_begun : {f : Profile} {k : ℕ} {σ σ' : Standing} {c c' : Cached} {out : Records} {later : Later} {p : Progress} → RestsAt f k σ c out later p → Begins c c' σ σ' → (did : ActsAlone f k (Wakes k) σ σ' c c' out out later p) × (did.says.said ≡ [])
-has_begun {f} {k} {σ} {σ'} {c} {c'} {out} {later} {p} at did =
-    let v = part k p.list in
-    let steps = epoch_look did.epoch in
-    let q = after_wake p k did.epoch in
-    let calls : Calls σ σ' (AtRest f c) (λ v w. AtRest f c' w) steps = subst (λ (g : Profile). Calls σ σ' (AtRest g c) (λ v w. AtRest g c' w) steps) at.sits.profile did.calls in
-    let agreed : Agreed f v steps = subst (λ (g : Profile). Agreed g v steps) at.sits.profile (calls.adds.agreed v at.sits.beside at.sits.stood at.sits.rest) in
-    let moves : Moves k (AtRest f c) (AtRest f c') σ σ' p q = record { steps = steps; list_is = refl; calls = calls } in
-    let says : Says k out out p q = record { said = []; records_are = sym (append-nil p.records); pushed = sym (append-nil (records_in out)); room = refl; each = tt } in
-    let unknown = unknown_stays f steps v agreed in
-    let log = ap (λ (d : Cached). length d.log) did.cache in
-    let mine = ap (λ (w : View). owed_events f c' w) (part_of_own k steps p.list) in
-    let paid : length says.said + owed_events f c' (part k q.list) ≤ owed_events f c v = omega (arith, unknown, log, mine) in (
-      record {
-        reached = q;
-        reaches = (q, (did.epoch, refl), refl);
-        stands = rests_after at moves (its_cache p.caches k (begun (p.caches k) did.epoch) ∙ ap (λ (d : Cached). begun d did.epoch) at.cache ∙ sym did.cache) says refl paid;
-        moves = moves;
-        says = says;
-        leaves = leaves_rest steps refl (λ j ne. other_cache p.caches k j (begun (p.caches k) did.epoch) ne) refl refl;
-        paid = paid;
-      },
-      refl,
-    )

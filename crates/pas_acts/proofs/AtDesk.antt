@@ -1,8 +1,10 @@
--- An operation of a thread at its desk, and its stop where it is idle.
-use Rattle.std.proofs.Common.{◌≡◌, ℕ, ◌+◌, ◌≤◌, inl, inr, List, [], ◌∷◌, ◌++◌, length, Option, None, refl, ap, sym, ◌∙◌, subst, arith, length-append}
+-- The acts of a thread at its desk: an operation, its stop, and its reading of the epoch.
+use Rattle.std.proofs.Common.{◌≡◌, ℕ, ◌+◌, ◌≤◌, ◌==◌, if◌then◌else◌, inl, inr, List, [], ◌∷◌, ◌++◌, length, Option, None, refl, ap, sym, ◌∙◌, subst, arith, length-append}
 use Rattle.std.proofs.lemmas.List.{append-nil}
+use Rattle.std.proofs.lemmas.Bool.{eq-eqb}
 use Rattle.pas_profile.specs.declared.profile.Profile.{Profile}
 use Rattle.pas_profile.specs.declared.name.Name.{Name}
+use Rattle.pas_steps.specs.Agreement.{Agreed}
 use Rattle.pas_steps.specs.Calls.{Calls}
 use Rattle.pas_steps.specs.Events.{events_of, events_by}
 use Rattle.pas_steps.specs.Lists.{Whole, part}
@@ -11,7 +13,8 @@ use Rattle.pas_steps.specs.Desks.{Standing, CanCall, triples}
 use Rattle.pas_steps.specs.declared.step.Made.{Made}
 use Rattle.pas_steps.proofs.Called.{call_none, call_as}
 use Rattle.pas_steps.proofs.SpareRoom.{Spares}
-use Rattle.pas_steps.proofs.Parts.{part_of_own}
+use Rattle.pas_steps.proofs.Parts.{part_of_own, part_of_others}
+use Rattle.pas_steps.proofs.Unknown.{unknown_stays}
 use Rattle.pas_trace.specs.declared.plan.Op.{Op}
 use Rattle.pas_trace.specs.declared.plan.What.{What}
 use Rattle.pas_trace.specs.declared.plan.What.TheVariants.{Stop}
@@ -19,17 +22,19 @@ use Rattle.pas_report.specs.Rooms.{records_in, Records}
 use Rattle.pas_report.specs.declared.record.Record.{Record}
 use Rattle.pas_report.specs.declared.record.Said.{Said}
 use Rattle.pas_cache.specs.Caches.{Cached, AtRest}
-use Rattle.pas_answers.specs.Acts.{Operates, Settles, StopsIdle, Ends}
-use Rattle.pas_answers.specs.Answers.{having, Answer, answer_of, Progress, settled, stopped, after_answer, after_settling, after_stop, IsAnswered, IsStopped, records_of, said_by}
+use Rattle.pas_cache.specs.Calls.{Begins}
+use Rattle.pas_trace.specs.Acts.{Act, Operates, Settles, StopsIdle, Wakes, Ends}
+use Rattle.pas_answers.specs.Answers.{having, Answer, answer_of, Progress, begun, settled, stopped, epoch_look, after_answer, after_settling, after_wake, after_stop, IsAnswered, IsStopped, records_of, said_by}
 use Rattle.pas_answers.specs.Calls.{named_by, owed_events, MayAnswer, AnswersMeant}
 use Rattle.pas_answers.specs.Fit.{IsFitWhat, cost_of_what}
+use Rattle.pas_answers.specs.Reaching.{Reaches}
 use Rattle.pas_answers.proofs.Kept.{no_turn}
 use Rattle.pas_answers.proofs.OwnRecords.{piece_of, events_of_piece}
-use Rattle.pas_answers.proofs.SingleActs.{its_cache, other_cache, records_count}
+use Rattle.pas_answers.proofs.SingleActs.{its_cache, other_cache, if_same, records_count}
 use Rattle.pas_acts.specs.Works.{Later, Sits}
-use Rattle.pas_acts.specs.Turns.{RestsAt, ActsAlone}
-use Rattle.pas_acts.specs.AtDesks.{here, MayOperate, ThreadActs}
-use Rattle.pas_acts.proofs.Alone.{of_seat, sits_after, leaves_rest}
+use Rattle.pas_acts.specs.Turns.{RestsAt, Moves, LeavesRest}
+use Rattle.pas_acts.specs.AtDesks.{Here, here, MayOperate, ThreadActs}
+use Rattle.pas_acts.proofs.Alone.{of_seat, rests_after}
 
 -- ---- with less room
 pub sits_for : {f : Profile} {k : ℕ} {Rest : View → Type 0} {σ : Standing} {v : View} {need need' : ℕ} → Sits f k Rest σ v need → need' ≤ need → Sits f k Rest σ v need'
@@ -39,6 +44,10 @@ pub rests_for : {f : Profile} {k : ℕ} {σ : Standing} {c : Cached} {out : Reco
 rests_for at events records = let spare = at.spare in record { sits = sits_for at.sits (omega (arith, events)); cache = at.cache; spare = omega (arith, spare, records) }
 
 -- ---- before an operation
+-- it is what is asked for
+pub may_do : {f : Profile} {k : ℕ} {w what : What} {meant : Option Name} {old : Here} {later : Later} {p : Progress} → w ≡ what → MayOperate f k w meant old later p → MayOperate f k what meant old later p
+may_do {f} {k} {meant = meant} {old = old} {later = later} {p = p} is may = subst (λ (x : What). MayOperate f k x meant old later p) is may
+
 pub fit_at : {f : Profile} {k : ℕ} {what : What} {meant : Option Name} {σ : Standing} {c : Cached} {out : Records} {later : Later} {p : Progress} → MayOperate f k what meant (here σ c out) later p → (limit : ℕ) × (asked : List ℕ) × IsFitWhat σ.seat.profile limit asked what
 fit_at {what = what} may = (may.limit, may.asked, subst (λ (g : Profile). IsFitWhat g may.limit may.asked what) (sym may.rests.sits.profile) may.fit)
 
@@ -94,40 +103,51 @@ module _ {f : Profile} {k : ℕ} {what : What} {meant came : Option Name} {σ σ
   few_so = of_seat may.rests.sits (λ (j : ℕ) (g : Profile). length (events_by j v steps) + length (said_by j did.said) + owed_events g c1 (steps ++ v) ≤ cost_of_what what + owed_events g c v)
       (did.performs.few v was_at_rest (did.performs.calls.adds.agreed v may.rests.sits.beside may.rests.sits.stood was_at_rest))
 
-  -- the thread rests again, with a cache whose log is the same
-  pub rests_again : {c' : Cached} (q : Progress) → q.list ≡ triples k steps ++ p.list → Calls σ σ' (AtRest f c) (λ x w. AtRest f c' w) steps → length c'.log ≡ length c1.log → q.caches k ≡ c' → RestsAt f k σ' c' out' later q
-  rests_again {c'} q list calls log cache =
-      let mine : part k q.list ≡ steps ++ v = ap (λ (l : Whole). part k l) list ∙ part_of_own k steps p.list in
+  -- so is what came to its records, where it has a cache whose log is the same
+  pub paid_so : (c' : Cached) → length c'.log ≡ length c1.log → length piece + owed_events f c' (part k (triples k steps ++ p.list)) ≤ cost_of_what what + owed_events f c v
+  paid_so c' log =
       let less = few_so in
-      let owed = ap (λ (w : View). owed_events f c' w) mine in
-      let longer = ap (λ (rs : List Record). length rs) pushed_so ∙ length-append (records_in out) piece in
+      let owed = ap (λ (w : View). owed_events f c' w) (part_of_own k steps p.list) in
       let both = length-append (records_of (events_by k v steps)) (said_by k did.said) in
       let count = records_count (events_by k v steps) in
-      let spare = may.rests.spare in
-      let room = did.room in
-      record {
-        sits = subst (λ (w : View). Sits f k (AtRest f c') σ' w (owed_events f c' w + later.events)) (sym mine) (sits_after may.rests.sits calls (omega (arith, less, log)));
-        cache = cache;
-        spare = omega (arith, longer, both, count, less, log, owed, spare, room);
-      }
+      omega (arith, less, log, owed, both, count)
+
+  -- the thread rests again with that
+  pub rests_again : {c' : Cached} {q : Progress} → (moves : Moves k (AtRest f c) (AtRest f c') σ σ' p q) → moves.steps ≡ steps → length c'.log ≡ length c1.log → q.caches k ≡ c' → RestsAt f k σ' c' out' later q
+  rests_again {c'} moves same log cache =
+      let paid = paid_so c' log in
+      let owed = ap (λ (l : Whole). owed_events f c' (part k l)) (moves.list_is ∙ ap (λ (ms : List Made). triples k ms ++ p.list) same) in
+      let events = ap (λ (ms : List Made). length (events_by k v ms)) same in
+      let both = length-append (records_of (events_by k v steps)) (said_by k did.said) in
+      let count = records_count (events_by k v steps) in
+      rests_after (cost_of_what what) piece may.rests moves cache pushed_so did.room (omega (arith, events, both, count)) (omega (arith, paid, owed))
 
 -- what its cache noted is handed on
 settled_rest : {f : Profile} {c c' : Cached} (w : View) → c' ≡ settled c → AtRest f c w → AtRest f c' w
 settled_rest {f} {c} {c'} w is rest = subst (λ (d : Cached). AtRest f d w) (sym is) record { locals = rest.locals; few = rest.few; entries = rest.entries; few_entries = rest.few_entries }
 
-pub has_operated : {f : Profile} {op : Op} {meant came : Option Name} {σ σ' : Standing} {c c1 c' : Cached} {out out' : Records} {later : Later} {p : Progress} → MayOperate f op.actor op.what meant (here σ c out) later p
-    → AnswersMeant op.what meant came c c1 out out' σ σ' → c' ≡ settled c1 → ThreadActs f op.actor (Operates op ∷ (Settles op.actor ∷ [])) (named_by op.what came) [] (here σ c out) (here σ' c' out') later p
-has_operated {f} {op} {meant} {came} {σ} {σ'} {c} {c1} {c'} {out} {out'} {later} {p} may did is =
+-- what an operation costs its thread
+pub own_cost : (op : Op) → (if op.actor == op.actor then cost_of_what op.what else 0) ≡ cost_of_what op.what
+own_cost op = if_same (op.actor == op.actor) (cost_of_what op.what) (eq-eqb op.actor op.actor refl)
+
+pub has_operated : {f : Profile} {op : Op} {what : What} {meant came : Option Name} {σ σ' : Standing} {c c1 c' : Cached} {out out' : Records} {later : Later} {p : Progress} → op.what ≡ what → MayOperate f op.actor op.what meant (here σ c out) later p
+    → AnswersMeant what meant came c c1 out out' σ σ' → c' ≡ settled c1 → ThreadActs f op.actor (Operates op ∷ (Settles op.actor ∷ [])) (named_by op.what came) [] (here σ c out) (here σ' c' out') later p
+has_operated {f} {op} {what} {meant} {came} {σ} {σ'} {c} {c1} {c'} {out} {out'} {later} {p} asks may answers is =
     let k = op.actor in
+    let did : AnswersMeant op.what meant came c c1 out out' σ σ' = subst (λ (w : What). AnswersMeant w meant came c c1 out out' σ σ') (sym asks) answers in
     let a = the_answer may did in
     let midway = after_answer p k a in
     let q = after_settling midway k in
     let calls : Calls σ σ' (AtRest f c) (λ x w. AtRest f c' w) a.steps = call_as (λ x w. AtRest f c' w) (calls_so may did) (λ x met. met) (λ x w met rest. settled_rest w is rest) in
+    let moves : Moves k (AtRest f c) (AtRest f c') σ σ' p q = record { steps = a.steps; list_is = refl; calls = calls } in
+    let log = ap (λ (d : Cached). length d.log) is in
+    let cost = own_cost op in
+    let paid = paid_so may did c' log in
     record {
       reached = q;
       reaches = (midway, (a, answered may did, refl), (q, refl, refl));
-      stands = rests_again may did q refl calls (ap (λ (d : Cached). length d.log) is) (its_cache midway.caches k (settled (midway.caches k)) ∙ ap settled (its_cache p.caches k c1) ∙ sym is);
-      moves = record { steps = a.steps; list_is = refl; calls = calls };
+      stands = rests_again may did moves refl log (its_cache midway.caches k (settled (midway.caches k)) ∙ ap settled (its_cache p.caches k c1) ∙ sym is);
+      moves = moves;
       own = piece may did;
       records_are = ap (λ (rs : List Record). p.records ++ rs) (sym (append-nil (piece may did)));
       pushed = pushed_so may did;
@@ -136,6 +156,7 @@ has_operated {f} {op} {meant} {came} {σ} {σ'} {c} {c1} {c'} {out} {out'} {late
       caches = λ j ne. other_cache midway.caches k j (settled (midway.caches k)) ne ∙ other_cache p.caches k j c1 ne;
       names = refl;
       epoch = refl;
+      paid = omega (arith, cost, paid);
     }
 
 -- ---- a thread is stopped
@@ -153,48 +174,41 @@ module _ {f : Profile} {k : ℕ} {came : Option Name} {σ σ' : Standing} {c c1 
   is_stopped = (answered (may_stop at) did).0
 
   -- nothing is said but the events of its flush
-  pushed_flush : records_in out' ≡ records_in out ++ flushed
-  pushed_flush = pushed_so (may_stop at) did ∙ ap (λ (o : Option Said). records_in out ++ (flushed ++ said_by k o)) (answered (may_stop at) did).1 ∙ ap (λ (rs : List Record). records_in out ++ rs) (append-nil flushed)
+  quiet : piece (may_stop at) did ≡ flushed
+  quiet = ap (λ (o : Option Said). flushed ++ said_by k o) (answered (may_stop at) did).1 ∙ append-nil flushed
 
-  stopped_stands : (told : List Record) → RestsAt f k σ' c1 out' later (after_stop p k flush c1 told)
-  stopped_stands told = rests_again (may_stop at) did (after_stop p k flush c1 told) refl (calls_so (may_stop at) did) refl (its_cache p.caches k c1)
-
-  -- as the replay closes
-  pub has_ended : ActsAlone f k (Ends k) σ σ' c c1 out out' later p × (c1.locals ≡ [])
-  has_ended =
-      let less = few_so (may_stop at) did in
-      let count = records_count (events_by k (part k p.list) flush) in
-      let mine = ap (λ (w : View). owed_events f c1 w) (part_of_own k flush p.list) in (
-        record {
-          reached = after_stop p k flush c1 [];
-          reaches = (after_stop p k flush c1 [], (flush, c1, is_stopped, refl), refl);
-          stands = stopped_stands [];
-          moves = record { steps = flush; list_is = refl; calls = calls_so (may_stop at) did };
-          says = record { said = flushed; records_are = ap (λ (rs : List Record). p.records ++ rs) (append-nil flushed); pushed = pushed_flush; room = did.room; each = events_of_piece k (part k p.list) flush };
-          leaves = leaves_rest flush refl (λ j ne. other_cache p.caches k j c1 ne) refl refl;
-          paid = omega (arith, less, count, mine);
-        },
-        ap (λ (d : Cached). d.locals) is_stopped.cache,
-      )
-
-  -- where it was idle for n epochs
-  pub was_stopped : {n epoch : ℕ} → p.epoch ≡ epoch → c.idle_since + n ≤ epoch → ThreadActs f k (StopsIdle k n ∷ []) [] (stopped k) (here σ c out) (here σ' c1 out') later p
-  was_stopped read idle =
-      let since = ap (λ (d : Cached). d.idle_since) at.cache in
+  -- by an act that stops it, and of which `told` is said besides
+  stops : (act : Act) (told : List Record) → Reaches f (act ∷ []) p (after_stop p k flush c1 told) → ThreadActs f k (act ∷ []) [] told (here σ c out) (here σ' c1 out') later p
+  stops act told reaches =
+      let q = after_stop p k flush c1 told in
+      let moves : Moves k (AtRest f c) (AtRest f c1) σ σ' p q = record { steps = flush; list_is = refl; calls = calls_so (may_stop at) did } in
+      let size = ap (λ (rs : List Record). length rs) quiet in
+      let paid = paid_so (may_stop at) did c1 refl in
       record {
-        reached = after_stop p k flush c1 (stopped k);
-        reaches = (after_stop p k flush c1 (stopped k), inl (omega (arith, since, read, idle), flush, c1, is_stopped, refl), refl);
-        stands = stopped_stands (stopped k);
-        moves = record { steps = flush; list_is = refl; calls = calls_so (may_stop at) did };
+        reached = q;
+        reaches = reaches;
+        stands = rests_again (may_stop at) did moves refl refl (its_cache p.caches k c1);
+        moves = moves;
         own = flushed;
         records_are = refl;
-        pushed = pushed_flush;
+        pushed = pushed_so (may_stop at) did ∙ ap (λ (rs : List Record). records_in out ++ rs) quiet;
         room = did.room;
         each = events_of_piece k (part k p.list) flush;
         caches = λ j ne. other_cache p.caches k j c1 ne;
         names = refl;
         epoch = refl;
+        paid = omega (arith, size, paid);
       }
+
+  -- as the replay closes
+  pub has_ended : ThreadActs f k (Ends k ∷ []) [] [] (here σ c out) (here σ' c1 out') later p × (c1.locals ≡ [])
+  has_ended = (stops (Ends k) [] (after_stop p k flush c1 [], (flush, c1, is_stopped, refl), refl), ap (λ (d : Cached). d.locals) is_stopped.cache)
+
+  -- where it was idle for n epochs
+  pub was_stopped : {n epoch : ℕ} → p.epoch ≡ epoch → c.idle_since + n ≤ epoch → ThreadActs f k (StopsIdle k n ∷ []) [] (stopped k) (here σ c out) (here σ' c1 out') later p
+  was_stopped {n} read idle =
+      let since = ap (λ (d : Cached). d.idle_since) at.cache in
+      stops (StopsIdle k n) (stopped k) (after_stop p k flush c1 (stopped k), inl (omega (arith, since, read, idle), flush, c1, is_stopped, refl), refl)
 
 pub has_stayed : {f : Profile} {k n epoch : ℕ} {σ : Standing} {c : Cached} {out : Records} {later : Later} {p : Progress} → RestsAt f k σ c out later p → p.epoch ≡ epoch → (c.idle_since + n ≤ epoch → ⊥)
     → ThreadActs f k (StopsIdle k n ∷ []) [] [] (here σ c out) (here σ c out) later p
@@ -213,4 +227,47 @@ has_stayed {f} {k} {n} {epoch} {σ} {c} {out} {later} {p} at read short =
       caches = λ j ne. refl;
       names = refl;
       epoch = refl;
+      paid = omega arith;
     }
+
+-- ---- the epoch is read
+pub has_begun : {f : Profile} {k : ℕ} {σ σ' : Standing} {c c' : Cached} {out : Records} {later : Later} {p : Progress} → RestsAt f k σ c out later p → Begins c c' σ σ' → (did : ThreadActs f k (Wakes k ∷ []) [] [] (here σ c out) (here σ' c' out) later p) × (did.own ≡ [])
+has_begun {f} {k} {σ} {σ'} {c} {c'} {out} {later} {p} at did =
+    let v = part k p.list in
+    let steps = epoch_look did.epoch in
+    let q = after_wake p k did.epoch in
+    let calls : Calls σ σ' (AtRest f c) (λ v w. AtRest f c' w) steps = subst (λ (g : Profile). Calls σ σ' (AtRest g c) (λ v w. AtRest g c' w) steps) at.sits.profile did.calls in
+    let agreed : Agreed f v steps = subst (λ (g : Profile). Agreed g v steps) at.sits.profile (calls.adds.agreed v at.sits.beside at.sits.stood at.sits.rest) in
+    let moves : Moves k (AtRest f c) (AtRest f c') σ σ' p q = record { steps = steps; list_is = refl; calls = calls } in
+    let unknown = unknown_stays f steps v agreed in
+    let log = ap (λ (d : Cached). length d.log) did.cache in
+    let mine = ap (λ (w : View). owed_events f c' w) (part_of_own k steps p.list) in
+    let paid : 0 + owed_events f c' (part k q.list) ≤ 0 + owed_events f c v = omega (arith, unknown, log, mine) in
+    let cache = its_cache p.caches k (begun (p.caches k) did.epoch) ∙ ap (λ (d : Cached). begun d did.epoch) at.cache ∙ sym did.cache in
+    let pushed : records_in out ≡ records_in out ++ [] = sym (append-nil (records_in out)) in (
+      record {
+        reached = q;
+        reaches = (q, (did.epoch, refl), refl);
+        stands = rests_after 0 [] (rests_for at (omega arith) (omega arith)) moves cache pushed refl (omega arith) paid;
+        moves = moves;
+        own = [];
+        records_are = sym (append-nil p.records);
+        pushed = pushed;
+        room = refl;
+        each = tt;
+        caches = λ j ne. other_cache p.caches k j (begun (p.caches k) did.epoch) ne;
+        names = refl;
+        epoch = refl;
+        paid = omega (arith, paid);
+      },
+      refl,
+    )
+
+-- ---- what a thread's acts leave as it was
+pub leaves_rest : {f : Profile} {k : ℕ} {acts : List Act} {told : List Record} {old new : Here} {later : Later} {p : Progress} → (did : ThreadActs f k acts [] told old new later p) → LeavesRest k p did.reached
+leaves_rest {k = k} {p = p} did = record {
+  parts = λ j ne. ap (λ (l : Whole). part j l) did.moves.list_is ∙ part_of_others j k did.moves.steps p.list (λ (e : k ≡ j). ne (sym e));
+  caches = did.caches;
+  names = did.names;
+  epoch = did.epoch;
+}

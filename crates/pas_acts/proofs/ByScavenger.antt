@@ -21,7 +21,7 @@ use Rattle.pas_report.specs.declared.record.Record.{Record}
 use Rattle.pas_report.specs.declared.record.Said.{Said}
 use Rattle.pas_passes.specs.Answers.{AnswersTick, AnswersPass}
 use Rattle.pas_passes.specs.Records.{record_of, records_of_pass}
-use Rattle.pas_answers.specs.Acts.{Act, Ticks, MakesPass, ReadsEpoch}
+use Rattle.pas_trace.specs.Acts.{Act, Ticks, MakesPass, ReadsEpoch}
 use Rattle.pas_answers.specs.Answers.{Progress, after_tick, after_pass, after_reading, epoch_look}
 use Rattle.pas_answers.specs.Fit.{cost_of_act, unbacks_of_act}
 use Rattle.pas_answers.proofs.OwnRecords.{pass_of}

@@ -1,8 +1,8 @@
-pub mod Places
+mod Places
 pub mod Noting
 pub mod NamesBefore
-pub mod TakingOver
+mod TakingOver
 pub mod Alone
 pub mod AtDesk
-pub mod Working
-pub mod ByScavenger
+mod Working
+mod ByScavenger

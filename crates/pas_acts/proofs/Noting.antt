@@ -9,7 +9,7 @@ use Rattle.pas_trace.specs.declared.plan.What.{What}
 use Rattle.pas_trace.specs.declared.plan.What.TheVariants.{Alloc}
 use Rattle.pas_trace.specs.declared.item.Request.{Request}
 use Rattle.pas_trace.specs.declared.plan.Op.{Op}
-use Rattle.pas_answers.specs.Acts.{Act, Operates, Settles, own_acts}
+use Rattle.pas_trace.specs.Acts.{Act, Operates, Settles, own_acts}
 use Rattle.pas_answers.specs.Fit.{IsBelow, AreBelow}
 use Rattle.pas_acts.specs.NameBooks.{name_asked, names_asked, place_in, ArePlaced}
 use Rattle.pas_acts.specs.declared.names.NameBook.{NameBook}

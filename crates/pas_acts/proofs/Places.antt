@@ -5,7 +5,7 @@ use Rattle.std.proofs.lemmas.Bool.{ne_eqb, eq-eqb, cases_eq, false≢true}
 use Rattle.pas_profile.specs.declared.name.Name.{Name}
 use Rattle.pas_trace.specs.declared.plan.What.{What}
 use Rattle.pas_trace.specs.declared.plan.What.TheVariants.{Alloc}
-use Rattle.pas_answers.specs.Acts.{Act}
+use Rattle.pas_trace.specs.Acts.{Act}
 use Rattle.pas_answers.specs.Answers.{Named, named, standing_for}
 use Rattle.pas_answers.specs.Calls.{block_behind, HasTurn, named_by}
 use Rattle.pas_acts.specs.NameBooks.{name_asked, name_asked_by, names_asked, names_of, place_in, ArePlaced, request_at, named_of, came_to}

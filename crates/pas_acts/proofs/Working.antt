@@ -1,5 +1,5 @@
 -- The operations of one thread in a phase, one after the other.
-use Rattle.std.proofs.Common.{Option, ◌≡◌, ℕ, ◌+◌, ◌<◌, ◌≤◌, ◌==◌, Bool, if◌then◌else◌, List, [], ◌∷◌, ◌++◌, length, drop, get_or, refl, ap, sym, ◌∙◌, subst, arith, length-append, append_assoc, drop_of_length-le}
+use Rattle.std.proofs.Common.{Option, ◌≡◌, ℕ, ◌+◌, ◌<◌, ◌≤◌, Bool, if◌then◌else◌, List, [], ◌∷◌, ◌++◌, length, drop, get_or, refl, ap, sym, ◌∙◌, subst, arith, length-append, append_assoc, drop_of_length-le}
 use Rattle.std.proofs.lemmas.List.{append-nil, drop_more}
 use Rattle.std.proofs.lemmas.Bool.{eq-eqb, ne_eqb}
 use Rattle.pas_profile.specs.declared.profile.Profile.{Profile}
@@ -8,30 +8,28 @@ use Rattle.pas_steps.specs.Desks.{Standing}
 use Rattle.pas_trace.specs.EveryPlan.{asked_after}
 use Rattle.pas_trace.specs.declared.plan.Op.{Op}
 use Rattle.pas_trace.specs.declared.plan.What.{What}
+use Rattle.pas_trace.specs.declared.plan.Chore.{Chore}
+use Rattle.pas_trace.specs.declared.plan.Work.{Work}
 use Rattle.pas_report.specs.Rooms.{records_in, Records}
 use Rattle.pas_report.specs.declared.record.Record.{Record}
 use Rattle.pas_cache.specs.Caches.{Cached}
-use Rattle.pas_answers.specs.Acts.{Act, Operates, Settles, own_acts}
+use Rattle.pas_trace.specs.Acts.{Act, Operates, Settles, own_acts}
 use Rattle.pas_answers.specs.Answers.{Progress, Named}
 use Rattle.pas_answers.specs.Calls.{HasTurn, IsMeant, named_by, freed_by}
-use Rattle.pas_answers.specs.Fit.{cost_of_what, own_costs_of}
+use Rattle.pas_answers.specs.Fit.{IsFitWork, cost_of_what, own_costs_of}
 use Rattle.pas_answers.specs.Names.{block_named, names_held}
 use Rattle.pas_answers.proofs.KnownNames.{known_more}
 use Rattle.pas_answers.proofs.Kept.{meant_by, turn_meant}
 use Rattle.pas_answers.proofs.OwnRecords.{each_both}
 use Rattle.pas_answers.proofs.Reached.{reach_both}
-use Rattle.pas_answers.proofs.SingleActs.{if_same, known_if}
+use Rattle.pas_answers.proofs.SingleActs.{known_if}
 use Rattle.pas_acts.specs.NameBooks.{Table, requests_in, room_for, names_of, name_asked, names_asked, ArePlaced, known_in}
 use Rattle.pas_acts.specs.declared.names.NameBook.{NameBook}
 use Rattle.pas_acts.specs.Works.{Later, Keeps, keeps, KnowsNames, ThreadAt, Works}
 use Rattle.pas_acts.specs.Turns.{RestsAt}
 use Rattle.pas_acts.specs.AtDesks.{here, and_for, MayOperate, ThreadActs}
-use Rattle.pas_acts.proofs.AtDesk.{sits_for}
+use Rattle.pas_acts.proofs.AtDesk.{sits_for, own_cost}
 use Rattle.pas_acts.proofs.Places.{names_both, names_count, asked_both, names_named, placed_both, tells_more, turns_more}
-
--- what an operation costs its thread
-own_cost : (op : Op) → (if op.actor == op.actor then cost_of_what op.what else 0) ≡ cost_of_what op.what
-own_cost op = if_same (op.actor == op.actor) (cost_of_what op.what) (eq-eqb op.actor op.actor refl)
 
 -- the acts of an operation
 abbrev pub head_acts : Op → List Act
@@ -54,9 +52,13 @@ pub thread_stands : {f : Profile} {k : ℕ} {next : List Act} {σ : Standing} {c
 thread_stands at names = let spare = at.spare in record { sits = sits_for at.sits (omega arith); cache = at.cache; spare = omega (arith, spare); names = names }
 
 -- ---- before an operation
-pub may_operate : {f : Profile} {op : Op} {next : List Act} {σ : Standing} {c : Cached} {known : Table} {out : Records} {later : Later} {p : Progress} {meant : Option Name} → Before f op next σ (keeps c known out) later p → meant ≡ freed_by (known_in known.book known.requests) op.what
+-- it is no chore
+pub no_chore : (f : Profile) (limit : ℕ) (asked : List ℕ) {work : Work} {chore : Chore} → IsFitWork f limit asked work → work ≡ Work.Chore chore → ⊥
+no_chore f limit asked fit is = subst (λ (w : Work). IsFitWork f limit asked w) is fit
+
+pub may_operate : {f : Profile} {op : Op} {next : List Act} {σ : Standing} {c : Cached} {known : Table} {out : Records} {later : Later} {p : Progress} {what : What} {meant : Option Name} → op.what ≡ what → Before f op next σ (keeps c known out) later p → meant ≡ freed_by (known_in known.book known.requests) what
     → MayOperate f op.actor op.what meant (here σ c out) (with_acts op.actor next later) p
-may_operate {f} {op} {next} {σ} {c} {known} {out} {later} {p} at is = record {
+may_operate {f} {op} {next} {σ} {c} {known} {out} {later} {p} asks at freed = let is = freed ∙ ap (freed_by (known_in known.book known.requests)) (sym asks) in record {
   rests = let cost = own_cost op in thread_rests (cost_of_what op.what) next (omega (arith, cost)) at;
   limit = names_held known.book.names;
   asked = at.names.asked;
@@ -70,11 +72,13 @@ may_operate {f} {op} {next} {σ} {c} {known} {out} {later} {p} at is = record {
 pub its_own : {f : Profile} {acts : List Act} {known : Table} {names : List Named} → KnowsNames f acts known names → ArePlaced known.book 0 (names_of (requests_in known.requests))
 its_own {f} {acts} {known} {names} knows = (placed_both known.book 0 (names_of (requests_in known.requests)) (names_asked acts) knows.placed).0
 
-pub room_now : {f : Profile} {k : ℕ} {op : Op} {next : List Act} {known : Table} {names : List Named} → KnowsNames f (Operates op ∷ (Settles k ∷ next)) known names → length (requests_in known.requests) + length (name_asked op.what) ≤ room_for known.requests
-room_now {f} {k} {op} {next} knows =
+pub room_now : {f : Profile} {k : ℕ} {op : Op} {next : List Act} {known : Table} {names : List Named} {what : What} → op.what ≡ what → KnowsNames f (Operates op ∷ (Settles k ∷ next)) known names
+    → length (requests_in known.requests) + length (name_asked what) ≤ room_for known.requests
+room_now {f} {k} {op} {next} asks knows =
     let room = knows.room in
     let both = length-append (name_asked op.what) (names_asked next) in
-    omega (arith, room, both)
+    let same = ap (λ (w : What). length (name_asked w)) asks in
+    omega (arith, room, both, same)
 
 -- ---- after an operation
 -- what the thread knows after it: the name that the operation asked for is its last request
@@ -110,10 +114,10 @@ knows_more {f} {op} {next} {known} {known'} {came} {names} knows kept turn =
       room = omega (arith, room, room', count, count', grown, both);
     }
 
-pub operated : {f : Profile} {op : Op} {next : List Act} {σ σ' : Standing} {c c' : Cached} {known known' : Table} {came : Option Name} {out out' : Records} {later : Later} {p : Progress} → Before f op next σ (keeps c known out) later p
-    → ThreadActs f op.actor (head_acts op) (named_by op.what came) [] (here σ c out) (here σ' c' out') (with_acts op.actor next later) p → IsKept known known' op.what came → HasTurn came
+pub operated : {f : Profile} {op : Op} {next : List Act} {σ σ' : Standing} {c c' : Cached} {known known' : Table} {what : What} {came : Option Name} {out out' : Records} {later : Later} {p : Progress} → op.what ≡ what → Before f op next σ (keeps c known out) later p
+    → ThreadActs f op.actor (head_acts op) (named_by op.what came) [] (here σ c out) (here σ' c' out') (with_acts op.actor next later) p → IsKept known known' what came → HasTurn came
     → Works f op.actor (head_acts op) next σ σ' (keeps c known out) (keeps c' known' out') later p
-operated {f} {op} {next} {σ} {σ'} {c} {c'} {known} {known'} {came} {out} {out'} {later} {p} at did kept turn = record {
+operated {f} {op} {next} {σ} {σ'} {c} {c'} {known} {known'} {what} {came} {out} {out'} {later} {p} asks at did keeping turn = let kept = subst (λ (w : What). IsKept known known' w came) (sym asks) keeping in record {
   reached = did.reached;
   reaches = did.reaches;
   stands = thread_stands did.stands (subst (λ (ns : List Named). KnowsNames f next known' ns) (sym did.names) (knows_more at.names kept turn));

@@ -10,10 +10,10 @@ use Rattle.pas_trace.specs.declared.plan.What.{What}
 use Rattle.pas_report.specs.Rooms.{records_in, room_of, Records}
 use Rattle.pas_report.specs.declared.record.Record.{Record}
 use Rattle.pas_cache.specs.Caches.{Cached, AtRest}
-use Rattle.pas_answers.specs.Acts.{Act}
+use Rattle.pas_trace.specs.Acts.{Act}
 use Rattle.pas_answers.specs.Answers.{Named, Progress, stopped}
-use Rattle.pas_answers.specs.Calls.{HasTurn, IsKnown, IsMeant}
-use Rattle.pas_answers.specs.Fit.{IsFitWhat, cost_of_what, cost_of_act, unbacks_of_act}
+use Rattle.pas_answers.specs.Calls.{HasTurn, IsKnown, IsMeant, owed_events}
+use Rattle.pas_answers.specs.Fit.{IsFitWhat, cost_of_what, cost_of_act, own_costs_of, unbacks_of_act}
 use Rattle.pas_answers.specs.Reaching.{Reaches}
 use Rattle.pas_answers.specs.Ways.{EachOf}
 use Rattle.pas_acts.specs.Works.{Later, Sits}
@@ -45,7 +45,7 @@ pub record MayOperate (f : Profile) (k : ℕ) (what : What) (meant : Option Name
   pub turn : HasTurn meant
 
 -- Thread k did these acts, and rests again. The records of its steps came to its own; `told` is said besides, by whoever had it do so. These names came to
--- stand for something. Nothing of another actor changed.
+-- stand for something. Nothing of another actor changed. What it owed before, and the cost of the acts, pays for what it said with what it owes then.
 pub record ThreadActs (f : Profile) (k : ℕ) (acts : List Act) (came : List Named) (told : List Record) (old new : Here) (later : Later) (p : Progress) : Type 0 where
   pub reached : Progress
   pub reaches : Reaches f acts p reached
@@ -59,6 +59,7 @@ pub record ThreadActs (f : Profile) (k : ℕ) (acts : List Act) (came : List Nam
   pub caches : (j : ℕ) → j ≢ k → reached.caches j ≡ p.caches j
   pub names : reached.names ≡ came ++ p.names
   pub epoch : reached.epoch ≡ p.epoch
+  pub paid : length own + owed_events f new.cache (part k reached.list) ≤ own_costs_of k acts + owed_events f old.cache (part k p.list)
 
 -- what is to be said of an idle thread, where it was stopped
 abbrev pub told_if : Bool → ℕ → List Record

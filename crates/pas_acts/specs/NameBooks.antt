@@ -7,7 +7,7 @@ use Rattle.pas_profile.specs.Rooms.{Holding}
 use Rattle.pas_trace.specs.EveryPlan.{asked_after, AreSound}
 use Rattle.pas_trace.specs.declared.plan.What.{What}
 use Rattle.pas_trace.specs.declared.plan.Op.{Op}
-use Rattle.pas_answers.specs.Acts.{Act, asked_after_act}
+use Rattle.pas_trace.specs.Acts.{Act, asked_after_act}
 use Rattle.pas_answers.specs.Answers.{Named, named, standing_for, Progress}
 use Rattle.pas_answers.specs.Calls.{Tells, HasTurns, AreKnown, OnlyAsked}
 use Rattle.pas_answers.specs.Fit.{AreBelow}

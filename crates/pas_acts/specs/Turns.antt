@@ -1,5 +1,5 @@
--- A thread alone at its desk, before and after one act of its own for which no name stands: it reads the epoch as a phase begins, and is stopped at the close.
-use Rattle.std.specs.Prelude.{ℕ, ◌+◌, ◌≤◌, ◌≡◌, ◌≢◌, List, [], ◌∷◌, ◌++◌, length}
+-- An actor at its desk, before its acts and after them.
+use Rattle.std.specs.Prelude.{ℕ, ◌+◌, ◌≤◌, ◌≡◌, ◌≢◌, List, ◌++◌, length}
 use Rattle.pas_profile.specs.declared.profile.Profile.{Profile}
 use Rattle.pas_steps.specs.Calls.{Calls}
 use Rattle.pas_steps.specs.Desks.{Standing, triples}
@@ -9,11 +9,9 @@ use Rattle.pas_steps.specs.declared.step.Made.{Made}
 use Rattle.pas_report.specs.Rooms.{records_in, room_of, Records}
 use Rattle.pas_report.specs.declared.record.Record.{Record}
 use Rattle.pas_cache.specs.Caches.{Cached, AtRest}
-use Rattle.pas_answers.specs.Acts.{Act}
 use Rattle.pas_answers.specs.Answers.{Progress}
 use Rattle.pas_answers.specs.Calls.{owed_events}
 use Rattle.pas_answers.specs.Ways.{EachOf}
-use Rattle.pas_answers.specs.Reaching.{Reaches}
 use Rattle.pas_acts.specs.Works.{Later, Sits}
 
 -- Thread k sits at the desk with this cache and these records, where the replay came as far as p. There is room for the events and the records that it owes,
@@ -44,13 +42,3 @@ pub record LeavesRest (k : ℕ) (p q : Progress) : Type 0 where
   pub caches : (j : ℕ) → j ≢ k → q.caches j ≡ p.caches j
   pub names : q.names ≡ p.names
   pub epoch : q.epoch ≡ p.epoch
-
--- Thread k did this act alone. It rests again, and what it owed before pays for what it said, with what it owes then.
-pub record ActsAlone (f : Profile) (k : ℕ) (act : Act) (desk desk' : Standing) (c c' : Cached) (out out' : Records) (later : Later) (p : Progress) : Type 0 where
-  pub reached : Progress
-  pub reaches : Reaches f (act ∷ []) p reached
-  pub stands : RestsAt f k desk' c' out' later reached
-  pub moves : Moves k (AtRest f c) (AtRest f c') desk desk' p reached
-  pub says : Says k out out' p reached
-  pub leaves : LeavesRest k p reached
-  pub paid : length says.said + owed_events f c' (part k reached.list) ≤ owed_events f c (part k p.list)

@@ -8,7 +8,7 @@ use Rattle.pas_steps.specs.Desks.{Standing}
 use Rattle.pas_report.specs.Rooms.{records_in, room_of, Records}
 use Rattle.pas_report.specs.declared.record.Record.{Record}
 use Rattle.pas_cache.specs.Caches.{Cached, AtRest}
-use Rattle.pas_answers.specs.Acts.{Act}
+use Rattle.pas_trace.specs.Acts.{Act}
 use Rattle.pas_answers.specs.Answers.{Named, standing_for, Progress}
 use Rattle.pas_answers.specs.Calls.{HasTurn, block_behind, AreKnown, owed_events}
 use Rattle.pas_answers.specs.Fit.{AreFit, own_costs_of}

@@ -4,9 +4,10 @@ ghost use Rattle.pas_profile.specs.declared.profile.Profile.{Profile as TheProfi
 ghost use Rattle.pas_cache.specs.Caches.{cached};
 ghost use Rattle.pas_report.specs.Rooms.{Records as TheRecords};
 ghost use Rattle.pas_utility.specs.Outcomes.{places_of};
-ghost use Rattle.pas_answers.specs.Acts.{Operates, Settles, StopsIdle, Ticks, MakesPass, ReadsEpoch};
+ghost use Rattle.pas_trace.specs.Acts.{Operates, Settles, StopsIdle, Ticks, MakesPass, ReadsEpoch};
 ghost use Rattle.pas_answers.specs.Answers.{Progress};
-ghost use Rattle.pas_answers.specs.Calls.{HasTurn, named_by};
+ghost use Rattle.pas_answers.specs.Calls.{what_of, HasTurn, named_by};
+ghost use Rattle.pas_trace.specs.declared.plan.Op.{Op as TheOp};
 ghost use Rattle.pas_acts.specs.Works.{Later};
 ghost use Rattle.pas_acts.specs.Turns.{RestsAt};
 ghost use Rattle.pas_acts.specs.AtDesks.{here, told_if, MayOperate, ThreadActs, for_act, HasRoomAt, ScavengerActs};
@@ -17,30 +18,30 @@ use pas_large::NoIndex;
 use pas_profile::{Name, Word};
 use pas_report::Records;
 use pas_steps::Desk;
-use pas_trace::{Op, What};
+use pas_trace::Task;
 use pas_utility::Outcomes;
 
 /// The scavenger's number.
 pub const SCAVENGER: u8 = 0;
 
-/// Performs an operation of the desk's thread, and hands on the runs of large blocks that its cache noted. `meant` is the block that the freed name of a
-/// `What::Free` stands for, if any, and the result the block that the asked name of a `What::Alloc` stands for from then on; None for every other
-/// operation.
+/// Does a task of the desk's thread, and hands on the runs of large blocks that its cache noted. `meant` is the block that the freed name of a
+/// `Task::Free` stands for, if any, and the result the block that the asked name of a `Task::Request` stands for from then on; None for every other task.
+/// This answers each operation of the thread that asks for the task.
 #[inline(always)]
 pub fn operate<D: Desk>(
     desk: &mut D,
     cache: &mut ThreadCache,
-    op: Op,
+    task: Task,
     meant: Option<Name>,
     out: &mut Records,
 ) -> Option<Name>
-    requires stands { (f : TheProfile) × (later : Later) × (p : Progress) × MayOperate f op.actor op.what meant (here (D.standing desk.old) (cached cache.old) out.old) later p }
-    ensures operates { (f : TheProfile) (later : Later) (p : Progress) → MayOperate f op.actor op.what meant (here (D.standing desk.old) (cached cache.old) out.old) later p
+    requires stands { (f : TheProfile) × (op : TheOp) × (later : Later) × (p : Progress) × (op.what ≡ what_of task) × MayOperate f op.actor op.what meant (here (D.standing desk.old) (cached cache.old) out.old) later p }
+    ensures operates { (f : TheProfile) (op : TheOp) (later : Later) (p : Progress) → op.what ≡ what_of task → MayOperate f op.actor op.what meant (here (D.standing desk.old) (cached cache.old) out.old) later p
         → ThreadActs f op.actor (Operates op ∷ (Settles op.actor ∷ [])) (named_by op.what result) [] (here (D.standing desk.old) (cached cache.old) out.old) (here (D.standing desk.new) (cached cache.new) out.new) later p }
     ensures turn { HasTurn result }
     ensures home { D.home desk.new ≡ D.home desk.old }
 {
-    let came = answer_meant(desk, cache, op.what, meant, out);
+    let came = answer_meant(desk, cache, task, meant, out);
     cache.settle(&mut NoIndex);
     came
 }
@@ -60,7 +61,7 @@ pub fn stop_if_idle<D: Desk>(
     ensures home { D.home desk.new ≡ D.home desk.old }
 {
     if is_idle_for(cache, epochs, epoch) {
-        answer_meant(desk, cache, What::Stop, None, out);
+        answer_meant(desk, cache, Task::Stop, None, out);
         true
     } else {
         false

@@ -93,7 +93,7 @@ impl NameBook {
     ghost use Rattle.pas_trace.specs.EveryPlan.{AreSound};
     ghost use Rattle.pas_answers.specs.Fit.{AreBelow};
     ghost use Rattle.pas_answers.specs.Names.{name_in, block_named, names_held};
-    ghost use Rattle.pas_answers.specs.Acts.{own_acts};
+    ghost use Rattle.pas_trace.specs.Acts.{own_acts};
     ghost use Rattle.pas_acts.specs.NameBooks.{requests_in, room_for, names_of, names_asked, place_in, ArePlaced, AreWithin, known_in};
 
     /// No name stands for a block. There is room for the names below the limit.

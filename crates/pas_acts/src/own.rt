@@ -2,9 +2,9 @@
 ghost use Rattle.std.specs.Prelude.{◌≡◌, ◌+◌, ◌<◌, ◌≤◌, ◌^◌, ◌++◌, List, [], ◌∷◌, length};
 ghost use Rattle.pas_profile.specs.declared.profile.Profile.{Profile as TheProfile};
 ghost use Rattle.pas_cache.specs.Caches.{cached};
-ghost use Rattle.pas_answers.specs.Acts.{Act, Operates, Settles, own_acts};
+ghost use Rattle.pas_trace.specs.Acts.{Act, Operates, Settles, own_acts};
 ghost use Rattle.pas_answers.specs.Answers.{Progress};
-ghost use Rattle.pas_answers.specs.Calls.{named_by, freed_by};
+ghost use Rattle.pas_answers.specs.Calls.{what_of, named_by, freed_by};
 ghost use Rattle.pas_acts.specs.NameBooks.{requests_in, room_for, names_of, name_asked, ArePlaced, known_in, table};
 ghost use Rattle.pas_acts.specs.Works.{keeps, Later, ThreadAt, Works};
 
@@ -15,34 +15,34 @@ use pas_cache::ThreadCache;
 use pas_profile::Name;
 use pas_report::Records;
 use pas_steps::Desk;
-use pas_trace::{Op, What};
+use pas_trace::{Op, Task, Work};
 
-/// What the name that the operation frees stands for to the thread.
+/// What the name that the task frees stands for to the thread.
 #[inline(always)]
-fn freed(book: &NameBook, requests: &Requests, what: What) -> Option<Name>
+fn freed(book: &NameBook, requests: &Requests, task: Task) -> Option<Name>
     requires { ArePlaced book.now 0 (names_of (requests_in requests.now)) }
-    ensures { result ≡ freed_by (known_in book.now requests.now) what }
+    ensures { result ≡ freed_by (known_in book.now requests.now) (what_of task) }
 {
-    match what {
-        What::Free { name } => book.meaning(requests, name),
+    match task {
+        Task::Free { name } => book.meaning(requests, name),
         _ => None,
     }
 }
 
-/// Keeps what the name that the operation asked for came to.
+/// Keeps what the name that the task asked for came to.
 #[inline(always)]
-fn keep(requests: &mut Requests, what: What, came: Option<Name>)
-    requires { length (requests_in requests.old) + length (name_asked what) ≤ room_for requests.old }
-    ensures kept { requests_in requests.new ≡ requests_in requests.old ++ named_by what came }
+fn keep(requests: &mut Requests, task: Task, came: Option<Name>)
+    requires { length (requests_in requests.old) + length (name_asked (what_of task)) ≤ room_for requests.old }
+    ensures kept { requests_in requests.new ≡ requests_in requests.old ++ named_by (what_of task) came }
     ensures room { room_for requests.new ≡ room_for requests.old }
 {
-    match what {
-        What::Alloc { name, .. } => requests.push(Request::of(name, came)),
+    match task {
+        Task::Request { name, .. } => requests.push(Request::of(name, came)),
         _ => {}
     }
 }
 
-/// Performs an operation of the desk's thread. Its name is looked up and kept in book and requests.
+/// Performs an operation of the desk's thread, of which none is a chore. Its name is looked up and kept in book and requests.
 fn operate<D: Desk>(
     desk: &mut D,
     book: &NameBook,
@@ -56,9 +56,11 @@ fn operate<D: Desk>(
         → Works f op.actor (Operates op ∷ (Settles op.actor ∷ [])) next (D.standing desk.old) (D.standing desk.new) (keeps (cached cache.old) (table book.now requests.old) out.old) (keeps (cached cache.new) (table book.now requests.new) out.new) later p }
     ensures home { D.home desk.new ≡ D.home desk.old }
 {
-    let meant = freed(book, requests, op.what);
-    let came = at_desk::operate(desk, cache, op, meant, out);
-    keep(requests, op.what, came);
+    if let Work::Own(task) = op.work() {
+        let meant = freed(book, requests, task);
+        let came = at_desk::operate(desk, cache, task, meant, out);
+        keep(requests, task, came);
+    }
 }
 
 /// Performs the operations of the desk's thread among those of a phase, in order, with the gate called round each.

@@ -1,24 +1,25 @@
 //! What a thread does alone, at any desk: it reads the epoch as a phase begins, and is stopped at the close.
-ghost use Rattle.std.specs.Prelude.{◌≡◌, ℕ, []};
+ghost use Rattle.std.specs.Prelude.{◌≡◌, ℕ, [], ◌∷◌};
 ghost use Rattle.pas_profile.specs.declared.profile.Profile.{Profile as TheProfile};
 ghost use Rattle.pas_report.specs.Rooms.{Records as TheRecords};
 ghost use Rattle.pas_cache.specs.Caches.{cached};
-ghost use Rattle.pas_answers.specs.Acts.{Wakes, Ends};
+ghost use Rattle.pas_trace.specs.Acts.{Wakes, Ends};
 ghost use Rattle.pas_answers.specs.Answers.{Progress};
 ghost use Rattle.pas_acts.specs.Works.{Later};
-ghost use Rattle.pas_acts.specs.Turns.{RestsAt, ActsAlone};
+ghost use Rattle.pas_acts.specs.Turns.{RestsAt};
+ghost use Rattle.pas_acts.specs.AtDesks.{here, ThreadActs};
 
 use pas_answers::answer_meant;
 use pas_cache::ThreadCache;
 use pas_report::Records;
 use pas_steps::Desk;
-use pas_trace::What;
+use pas_trace::Task;
 
 /// The thread of this desk reads the epoch, as a phase begins in which it has an operation. One step, and nothing is said.
 pub fn begin<D: Desk>(desk: &mut D, cache: &mut ThreadCache)
     requires rests { (f : TheProfile) × (k : ℕ) × (out : TheRecords) × (later : Later) × (p : Progress) × RestsAt f k (D.standing desk.old) (cached cache.old) out later p }
     ensures begins { (f : TheProfile) (k : ℕ) (out : TheRecords) (later : Later) (p : Progress) → RestsAt f k (D.standing desk.old) (cached cache.old) out later p
-        → (did : ActsAlone f k (Wakes k) (D.standing desk.old) (D.standing desk.new) (cached cache.old) (cached cache.new) out out later p) × (did.says.said ≡ []) }
+        → (did : ThreadActs f k (Wakes k ∷ []) [] [] (here (D.standing desk.old) (cached cache.old) out) (here (D.standing desk.new) (cached cache.new) out) later p) × (did.own ≡ []) }
     ensures home { D.home desk.new ≡ D.home desk.old }
 {
     cache.begin(desk);
@@ -28,9 +29,9 @@ pub fn begin<D: Desk>(desk: &mut D, cache: &mut ThreadCache)
 pub fn end<D: Desk>(desk: &mut D, cache: &mut ThreadCache, out: &mut Records)
     requires rests { (f : TheProfile) × (k : ℕ) × (later : Later) × (p : Progress) × RestsAt f k (D.standing desk.old) (cached cache.old) out.old later p }
     ensures ends { (f : TheProfile) (k : ℕ) (later : Later) (p : Progress) → RestsAt f k (D.standing desk.old) (cached cache.old) out.old later p
-        → ActsAlone f k (Ends k) (D.standing desk.old) (D.standing desk.new) (cached cache.old) (cached cache.new) out.old out.new later p }
+        → ThreadActs f k (Ends k ∷ []) [] [] (here (D.standing desk.old) (cached cache.old) out.old) (here (D.standing desk.new) (cached cache.new) out.new) later p }
     ensures empty { (cached cache.new).locals ≡ [] }
     ensures home { D.home desk.new ≡ D.home desk.old }
 {
-    answer_meant(desk, cache, What::Stop, None, out);
+    answer_meant(desk, cache, Task::Stop, None, out);
 }

@@ -26,7 +26,7 @@ use Rattle.pas_report.proofs.TrueMarks.{true_marks}
 use Rattle.pas_cache.specs.Caches.{Cached}
 use Rattle.pas_scavenger.specs.Passes.{passing}
 use Rattle.pas_passes.specs.Records.{records_of_pass}
-use Rattle.pas_answers.specs.Acts.{Act, Operates, Settles, Ticks, MakesPass, ReadsEpoch, StopsIdle, MarksPhase, Wakes, MarksClose, Ends, acts_of}
+use Rattle.pas_trace.specs.Acts.{Act, Operates, Settles, Ticks, MakesPass, ReadsEpoch, StopsIdle, MarksPhase, Wakes, MarksClose, Ends, acts_of}
 use Rattle.pas_answers.specs.Answers.{Progress, having, records_of, said_by, stopped, epoch_look, IsStopped, after_stop}
 use Rattle.pas_answers.specs.Reaching.{Advances, Reaches}
 use Rattle.pas_answers.specs.Refusals.{AreRefusalsTrue}

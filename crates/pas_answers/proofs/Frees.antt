@@ -12,15 +12,15 @@ use Rattle.pas_steps.specs.Agreement.{Agreed}
 use Rattle.pas_steps.specs.Desks.{Standing}
 use Rattle.pas_steps.proofs.Called.{call_none, call_as}
 use Rattle.pas_steps.proofs.Frames.{events_append}
-use Rattle.pas_trace.specs.declared.plan.What.{What}
-use Rattle.pas_trace.specs.declared.plan.What.TheVariants.{Free, Raw, Flush, Stop}
+use Rattle.pas_trace.specs.declared.plan.Task.{Task}
+use Rattle.pas_trace.specs.declared.plan.What.TheVariants.{Free}
 use Rattle.pas_report.specs.declared.record.Said.{Said}
 use Rattle.pas_free_log.specs.declared.log.Entry.{Entry}
 use Rattle.pas_free_log.specs.Logs.{entry_of}
 use Rattle.pas_cache.specs.Caches.{Cached, AtRest}
 use Rattle.pas_cache.specs.Calls.{TakesEntry, RefusesName, Frees, FlushesLog, StopsCache}
 use Rattle.pas_answers.specs.Answers.{Named, standing_for, said_of_fault, IsFreedBy}
-use Rattle.pas_answers.specs.Calls.{block_behind, IsMeant, IsKnown, owed_events, PerformsMeant, FreesOne}
+use Rattle.pas_answers.specs.Calls.{what_of, block_behind, IsMeant, IsKnown, owed_events, PerformsMeant, FreesOne}
 use Rattle.pas_answers.proofs.OwedEvents.{full_events}
 use Rattle.pas_cache.proofs.Budget.{emptied_events}
 use Rattle.pas_steps.proofs.Unknown.{unknown_stays}
@@ -42,16 +42,13 @@ refused_few f k c c' name steps fault v refuses =
     let owed : owed_events f c' (steps ++ v) ≡ owed_events f c v = ap (λ (d : Cached). owed_events f d (steps ++ v)) refuses.cache ∙ ap (λ (ms : List Made). owed_events f c (ms ++ v)) refuses.no_steps in
     omega (arith, none, owed)
 
-pub frees_taken : {σ σ' : Standing} {answer : Result (Unit {0}) FreeFault} (name : Name) (c c' : Cached) (done : Unit {0}) → Frees (entry_of name) c c' σ σ' answer → answer ≡ Ok done → FreesOne name c c' σ σ' None
-frees_taken {σ} {σ'} {answer} name c c' done frees is =
-    let takes : TakesEntry σ.seat.profile σ.seat.actor c c' (entry_of name) frees.steps
-    = subst (λ a. MatchResult a (λ done. TakesEntry σ.seat.profile σ.seat.actor c c' (entry_of name) frees.steps) (RefusesName σ.seat.profile c c' name frees.steps)) is frees.outcome in
-    record {
-      steps = frees.steps;
-      calls = frees.calls;
-      few = λ v rest agreed. taken_few σ.seat.profile σ.seat.actor c c' name frees.steps v takes agreed;
-      freed = inl (takes, refl);
-    }
+pub frees_taken : {σ σ' : Standing} (name : Name) (c c' : Cached) (done : Unit {0}) → Frees (entry_of name) c c' σ σ' (Ok done) → FreesOne name c c' σ σ' None
+frees_taken {σ} name c c' done frees = record {
+  steps = frees.steps;
+  calls = frees.calls;
+  few = λ v rest agreed. taken_few σ.seat.profile σ.seat.actor c c' name frees.steps v frees.outcome agreed;
+  freed = inl (frees.outcome, refl);
+}
 
 pub frees_refused : {σ σ' : Standing} {answer : Result (Unit {0}) FreeFault} (name : Name) (c c' : Cached) (fault : FreeFault) → Frees (entry_of name) c c' σ σ' answer → answer ≡ Err fault → FreesOne name c c' σ σ' (Some (said_of_fault name fault))
 frees_refused {σ} {σ'} {answer} name c c' fault frees is =
@@ -72,8 +69,8 @@ behind o b is = ap block_behind is
 stands_for : (names : List Named) (name : ℕ) (block : Option Name) → IsMeant names (Free name) block → IsKnown names (Free name) → standing_for names name ≡ Some block
 stands_for names name block means known = known.1 ∙ ap (λ b. Some b) (sym (behind (standing_for names name) known.0 known.1) ∙ means)
 
-pub performs_free : {σ σ' : Standing} {said : Option Said} (what : What) (meant : Option Name) (c c' : Cached) (name : ℕ) (block : Name) → what ≡ Free name → meant ≡ Some block → FreesOne block c c' σ σ' said → PerformsMeant what meant None c c' σ σ' said
-performs_free {σ} {σ'} {said} what meant c c' name block is named frees = subst (λ w. PerformsMeant w meant None c c' σ σ' said) (sym is) record {
+pub performs_free : {σ σ' : Standing} {said : Option Said} (task : Task) (meant : Option Name) (c c' : Cached) (name : ℕ) (block : Name) → task ≡ Task.Free name → meant ≡ Some block → FreesOne block c c' σ σ' said → PerformsMeant (what_of task) meant None c c' σ σ' said
+performs_free {σ} {σ'} {said} task meant c c' name block is named frees = subst (λ t. PerformsMeant (what_of t) meant None c c' σ σ' said) (sym is) record {
   steps = frees.steps;
   calls = frees.calls;
   few = frees.few;
@@ -82,8 +79,8 @@ performs_free {σ} {σ'} {said} what meant c c' name block is named frees = subs
 }
 
 -- its request was refused
-pub performs_skip : {σ : Standing} (what : What) (meant : Option Name) (c : Cached) (name : ℕ) → what ≡ Free name → meant ≡ None → PerformsMeant what meant None c c σ σ (Some (Said.Skipped name))
-performs_skip {σ} what meant c name is named = subst (λ w. PerformsMeant w meant None c c σ σ (Some (Said.Skipped name))) (sym is) record {
+pub performs_skip : {σ : Standing} (task : Task) (meant : Option Name) (c : Cached) (name : ℕ) → task ≡ Task.Free name → meant ≡ None → PerformsMeant (what_of task) meant None c c σ σ (Some (Said.Skipped name))
+performs_skip {σ} task meant c name is named = subst (λ t. PerformsMeant (what_of t) meant None c c σ σ (Some (Said.Skipped name))) (sym is) record {
   steps = [];
   calls = call_none (λ v rest. rest);
   few = λ v rest agreed. omega arith;
@@ -92,8 +89,8 @@ performs_skip {σ} what meant c name is named = subst (λ w. PerformsMeant w mea
 }
 
 -- a free by address and turn
-pub performs_raw : {σ σ' : Standing} {said : Option Said} (what : What) (meant : Option Name) (c c' : Cached) (block : Name) → what ≡ Raw block → FreesOne block c c' σ σ' said → PerformsMeant what meant None c c' σ σ' said
-performs_raw {σ} {σ'} {said} what meant c c' block is frees = subst (λ w. PerformsMeant w meant None c c' σ σ' said) (sym is) record {
+pub performs_raw : {σ σ' : Standing} {said : Option Said} (task : Task) (meant : Option Name) (c c' : Cached) (block : Name) → task ≡ Task.FreeRaw block → FreesOne block c c' σ σ' said → PerformsMeant (what_of task) meant None c c' σ σ' said
+performs_raw {σ} {σ'} {said} task meant c c' block is frees = subst (λ t. PerformsMeant (what_of t) meant None c c' σ σ' said) (sym is) record {
   steps = frees.steps;
   calls = frees.calls;
   few = frees.few;
@@ -102,8 +99,8 @@ performs_raw {σ} {σ'} {said} what meant c c' block is frees = subst (λ w. Per
 }
 
 -- ---- a flush and a stop
-pub performs_flush : {σ σ' : Standing} (what : What) (meant : Option Name) (c c' : Cached) → what ≡ Flush → FlushesLog c c' σ σ' → PerformsMeant what meant None c c' σ σ' None
-performs_flush {σ} {σ'} what meant c c' is flushes = subst (λ w. PerformsMeant w meant None c c' σ σ' None) (sym is) record {
+pub performs_flush : {σ σ' : Standing} (task : Task) (meant : Option Name) (c c' : Cached) → task ≡ Task.Flush → FlushesLog c c' σ σ' → PerformsMeant (what_of task) meant None c c' σ σ' None
+performs_flush {σ} {σ'} task meant c c' is flushes = subst (λ t. PerformsMeant (what_of t) meant None c c' σ σ' None) (sym is) record {
   steps = flushes.steps;
   calls = flushes.calls;
   few = λ v rest agreed.
@@ -115,19 +112,16 @@ performs_flush {σ} {σ'} what meant c c' is flushes = subst (λ w. PerformsMean
   others = λ none. refl;
 }
 
-stopped_events : (k : ℕ) (logged : List Entry) (v : View) (stopped flushed : List Made) → length (events_by k v flushed) ≡ length logged → events_by k (flushed ++ v) stopped ≡ [] → length (events_by k v (stopped ++ flushed)) ≡ length logged
-stopped_events k logged v stopped flushed events silent =
-    ap (λ (es : List Event). length es) (events_append k stopped flushed v ∙ ap (λ (es : List Event). es ++ events_by k v flushed) silent) ∙ events
-
-pub performs_stop : {σ σ' : Standing} (what : What) (meant : Option Name) (c c' : Cached) → what ≡ Stop → StopsCache c c' σ σ' → PerformsMeant what meant None c c' σ σ' None
-performs_stop {σ} {σ'} what meant c c' is stops = subst (λ w. PerformsMeant w meant None c c' σ σ' None) (sym is) record {
+pub performs_stop : {σ σ' : Standing} (task : Task) (meant : Option Name) (c c' : Cached) → task ≡ Task.Stop → StopsCache c c' σ σ' → PerformsMeant (what_of task) meant None c c' σ σ' None
+performs_stop {σ} {σ'} task meant c c' is stops = subst (λ t. PerformsMeant (what_of t) meant None c c' σ σ' None) (sym is) record {
   steps = stops.stopped ++ stops.flushed;
   calls = call_as (λ v w. AtRest σ.seat.profile c' w) stops.calls (λ v rest. rest) (λ v w rest stopped. stopped.0);
   few = λ v rest agreed.
-      let events = stopped_events σ.seat.actor c.log v stops.stopped stops.flushed (emptied_events σ.seat.actor c.log c.noted c'.noted stops.flushed v stops.empties) (stops.silent σ.seat.actor (stops.flushed ++ v)) in
+      let events = emptied_events σ.seat.actor c.log c.noted c'.noted stops.flushed v stops.empties in
+      let all = ap (λ (es : List Event). length es) (events_append σ.seat.actor stops.stopped stops.flushed v ∙ ap (λ (es : List Event). es ++ events_by σ.seat.actor v stops.flushed) (stops.silent σ.seat.actor (stops.flushed ++ v))) in
       let none = ap (λ (d : Cached). length d.log) stops.cache in
       let unknown = unknown_stays σ.seat.profile (stops.stopped ++ stops.flushed) v agreed in
-      omega (arith, events, none, unknown);
+      omega (arith, events, all, none, unknown);
   answered = λ v l stood rest names means known. (
     record {
       flushed = stops.flushed;

@@ -1,10 +1,25 @@
--- What the name that an operation frees stands for.
-use Rattle.std.proofs.Common.{◌≡◌, ℕ, List, Option, Some, None, sym}
+-- An operation by what it asks for, and what the name that it frees stands for.
+use Rattle.std.proofs.Common.{◌≡◌, ℕ, List, Option, Some, None, ap, sym}
 use Rattle.pas_profile.specs.declared.name.Name.{Name}
 use Rattle.pas_trace.specs.declared.plan.What.{What}
-use Rattle.pas_trace.specs.declared.plan.What.TheVariants.{Free}
+use Rattle.pas_trace.specs.Asked.{work_of}
+use Rattle.pas_trace.specs.declared.plan.What.TheVariants.{Alloc, Free, Raw, Flush, Stop}
+use Rattle.pas_trace.specs.declared.plan.Task.{Task}
+use Rattle.pas_trace.specs.declared.plan.Work.{Work}
 use Rattle.pas_answers.specs.Answers.{Named, standing_for}
-use Rattle.pas_answers.specs.Calls.{HasTurn, block_behind, IsMeant, freed_by}
+use Rattle.pas_answers.specs.Calls.{what_of, HasTurn, block_behind, IsMeant, freed_by}
+
+-- it is the one that asks its thread for this
+same_own : {a b : Task} → Work.Own a ≡ Work.Own b → a ≡ b
+same_own is = cc
+
+pub own_what : (what : What) (task : Task) → work_of what ≡ Work.Own task → what ≡ what_of task
+own_what (Alloc name heap size align) task is = ap what_of (same_own is)
+own_what (Free name) task is = ap what_of (same_own is)
+own_what (Raw block) task is = ap what_of (same_own is)
+own_what Flush task is = ap what_of (same_own is)
+own_what Stop task is = ap what_of (same_own is)
+own_what what task is = cc
 
 -- what is said of each name is said of the freed one
 pub meant_by : (block : ℕ → Option Name) (names : List Named) (what : What) → ((n : ℕ) → block n ≡ block_behind (standing_for names n)) → IsMeant names what (freed_by block what)

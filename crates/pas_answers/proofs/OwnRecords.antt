@@ -14,38 +14,47 @@ use Rattle.pas_passes.specs.Records.{record_of, records_of_pass}
 use Rattle.pas_answers.specs.Answers.{records_of, said_by}
 use Rattle.pas_answers.specs.Ways.{is_of, AreSpoken, EachOf, records_by}
 use Rattle.std.specs.List.{AllByRecursion}
-use Rattle.pas_profile.proofs.Lists.{all_reverse}
+use Rattle.pas_profile.proofs.Lists.{all_both, all_map, all_reverse}
 use Rattle.pas_steps.proofs.Events.{events_own}
 
+-- ---- what is so of each record of a piece, by its events and by what is said
+events_all : (P : Record → Type 0) (es : List Event) → AllByRecursion (λ e. P (Record.Event e)) es → AllByRecursion P (map Record.Event es)
+events_all P [] all = tt
+events_all P (e ∷ es) all = (all.0, events_all P es all.1)
+
+pub piece_events : (P : Record → Type 0) (es : List Event) → AllByRecursion (λ e. P (Record.Event e)) es → AllByRecursion P (records_of es)
+piece_events P es all = events_all P (reverse es) (all_reverse (λ e. P (Record.Event e)) es all)
+
+pub piece_all : (P : Record → Type 0) (k : ℕ) (es : List Event) (said : Option Said) → AllByRecursion (λ e. P (Record.Event e)) es → ((s : Said) → P (Record.Said k s)) → AllByRecursion P (records_of es ++ said_by k said)
+piece_all P k es None all says = all_both P (records_of es) [] (piece_events P es all) tt
+piece_all P k es (Some said) all says = all_both P (records_of es) (Record.Said k said ∷ []) (piece_events P es all) (says said, tt)
+
+pub outcomes_all : (P : Record → Type 0) (k epoch : ℕ) (found : List (ℕ × Outcome)) → ((page : ℕ) (o : Outcome) → P (record_of k epoch page o)) → AllByRecursion P (map (λ p. record_of k epoch p.0 p.1) found)
+outcomes_all P k epoch [] all = tt
+outcomes_all P k epoch (x ∷ found) all = (all x.0 x.1, outcomes_all P k epoch found all)
+
 -- ---- each is of actor j
+abbrev IsOf : ℕ → Record → Type 0
+IsOf j r = (k : ℕ) → is_of k r ≡ (j == k)
+
+events_are : (j : ℕ) (v : View) (steps : List Made) → AllByRecursion (λ e. IsOf j (Record.Event e)) (events_by j v steps)
+events_are j v steps = all_map (λ e. actor_of e ≡ j) (λ e. IsOf j (Record.Event e)) (events_by j v steps) (λ e own k. ap (λ i. i == k) own) (events_own j v steps)
+
 pub each_both : (j : ℕ) (xs ys : List Record) → EachOf j xs → EachOf j ys → EachOf j (xs ++ ys)
-each_both j [] ys a b = b
-each_both j (x ∷ xs) ys a b = (a.0, each_both j xs ys a.1 b)
-
-each_record : (j : ℕ) (es : List Event) → AllByRecursion (λ e. actor_of e ≡ j) es → EachOf j (map Record.Event es)
-each_record j [] all = tt
-each_record j (e ∷ es) all = (λ k. ap (λ i. i == k) all.0, each_record j es all.1)
-
-said_is_of : (j : ℕ) (said : Option Said) → EachOf j (said_by j said)
-said_is_of j None = tt
-said_is_of j (Some said) = (λ k. refl, tt)
+each_both j xs ys a b = all_both (IsOf j) xs ys a b
 
 pub events_of_piece : (j : ℕ) (v : View) (steps : List Made) → EachOf j (records_of (events_by j v steps))
-events_of_piece j v steps = each_record j (reverse (events_by j v steps)) (all_reverse (λ e. actor_of e ≡ j) (events_by j v steps) (events_own j v steps))
+events_of_piece j v steps = piece_events (IsOf j) (events_by j v steps) (events_are j v steps)
 
 pub piece_of : (j : ℕ) (v : View) (steps : List Made) (said : Option Said) → EachOf j (records_of (events_by j v steps) ++ said_by j said)
-piece_of j v steps said = each_both j (records_of (events_by j v steps)) (said_by j said) (events_of_piece j v steps) (said_is_of j said)
+piece_of j v steps said = piece_all (IsOf j) j (events_by j v steps) said (events_are j v steps) (λ s k. refl)
 
-outcome_of : (j epoch page : ℕ) (o : Outcome) (k : ℕ) → is_of k (record_of j epoch page o) ≡ (j == k)
+outcome_of : (j epoch page : ℕ) (o : Outcome) → IsOf j (record_of j epoch page o)
 outcome_of j epoch page Unbacked k = refl
 outcome_of j epoch page o k = refl
 
-outcomes_of : (j epoch : ℕ) (found : List (ℕ × Outcome)) → EachOf j (map (λ p. record_of j epoch p.0 p.1) found)
-outcomes_of j epoch [] = tt
-outcomes_of j epoch (p ∷ found) = (outcome_of j epoch p.0 p.1, outcomes_of j epoch found)
-
 pub pass_of : (j epoch : ℕ) (found : List (ℕ × Outcome)) → EachOf j (records_of_pass j epoch found)
-pass_of j epoch found = (λ k. refl, outcomes_of j epoch found)
+pass_of j epoch found = (λ k. refl, outcomes_all (IsOf j) j epoch found (outcome_of j epoch))
 
 -- ---- none of them is a mark
 pub spoken_piece : (j : ℕ) (rs : List Record) → EachOf j rs → AreSpoken rs
@@ -53,8 +62,7 @@ spoken_piece j [] all = tt
 spoken_piece j (r ∷ rs) all = ((j, all.0 j ∙ eq-eqb j j refl), spoken_piece j rs all.1)
 
 pub spoken_both : (xs ys : List Record) → AreSpoken xs → AreSpoken ys → AreSpoken (xs ++ ys)
-spoken_both [] ys a b = b
-spoken_both (x ∷ xs) ys a b = (a.0, spoken_both xs ys a.1 b)
+spoken_both xs ys a b = all_both (λ r. (j : ℕ) × (is_of j r ≡ true)) xs ys a b
 
 -- ---- those of one actor
 both_by : (t : Bool) (r : Record) (xs ys zs : List Record) → zs ≡ xs ++ ys → (if t then r ∷ zs else zs) ≡ (if t then r ∷ xs else xs) ++ ys

@@ -24,12 +24,10 @@ use Rattle.pas_profile.specs.declared.name.Name.{Name}
 abbrev pub IsShown : Standing → List Event → Type 0
 IsShown σ shown = (v : View) (l : Whole) → σ.stands v l → shown ≡ reverse (events_of σ.seat.actor v)
 
-shown_parts : (k : ℕ) (steps : List Made) (v : View) (old new : List Event) → old ≡ reverse (events_of k v) → new ≡ reverse (events_of k (steps ++ v)) → new ≡ old ++ reverse (events_by k v steps)
-shown_parts k steps v old new before after = after ∙ ap reverse (events_split k steps v) ∙ reverse-append (events_by k v steps) (events_of k v) ∙ ap (λ es. es ++ reverse (events_by k v steps)) (sym before)
-
 shown_more : {σ σ' : Standing} {C : View → Type 0} {steps : List Made} → Adds σ σ' C steps → (old new : List Event) → IsShown σ old → IsShown σ' new → (v : View) (l : Whole) → σ.stands v l → C v → new ≡ old ++ reverse (events_by σ.seat.actor v steps)
 shown_more {σ} {σ'} {C} {steps} adds old new before after v l stood met =
-    shown_parts σ.seat.actor steps v old new (before v l stood) (subst (λ s. new ≡ reverse (events_of s.actor (steps ++ v))) adds.seat_is (after (steps ++ v) (triples σ.seat.actor steps ++ l) (adds.added v l stood met)))
+    subst (λ s. new ≡ reverse (events_of s.actor (steps ++ v))) adds.seat_is (after (steps ++ v) (triples σ.seat.actor steps ++ l) (adds.added v l stood met)) ∙ ap reverse (events_split σ.seat.actor steps v)
+    ∙ reverse-append (events_by σ.seat.actor v steps) (events_of σ.seat.actor v) ∙ ap (λ es. es ++ reverse (events_by σ.seat.actor v steps)) (sym (before v l stood))
 
 -- the events of a call are those from the place on where the earlier ones ended
 shown_new : {σ σ' : Standing} {C : View → Type 0} {steps : List Made} → Adds σ σ' C steps → (old new : List Event) → IsShown σ old → IsShown σ' new → (v : View) (l : Whole) → σ.stands v l → C v → drop (length old) new ≡ reverse (events_by σ.seat.actor v steps)
@@ -39,9 +37,6 @@ pub shown_longer : {σ σ' : Standing} {C : View → Type 0} {steps : List Made}
 shown_longer {σ} {σ'} {C} {steps} adds old new before after can =
     let n = ap (λ (es : List Event). length es) (shown_more adds old new before after can.view can.whole can.stood can.met) ∙ length-append old (reverse (events_by σ.seat.actor can.view steps)) in
     omega (arith, n)
-
-new_few : {σ σ' : Standing} {C : View → Type 0} {steps : List Made} → Adds σ σ' C steps → (old new : List Event) → IsShown σ old → IsShown σ' new → (can : CanCall σ C) → length (drop (length old) new) ≡ length (events_by σ.seat.actor can.view steps)
-new_few {σ} {σ'} {C} {steps} adds old new before after can = ap (λ (es : List Event). length es) (shown_new adds old new before after can.view can.whole can.stood can.met) ∙ length-reverse (events_by σ.seat.actor can.view steps)
 
 -- ---- what an operation asks
 pub can_rest : {σ : Standing} (c : Cached) (what : What) (spare : ℕ) (out : Records) → CanCall σ (MayAnswer σ.seat.profile c what spare out) → CanCall σ (AtRest σ.seat.profile c)
@@ -54,21 +49,16 @@ pub records_fit : {σ σ' : Standing} {said : Option Said} {c' : Cached} (what :
 unfolding can_rest
 records_fit {σ} {σ'} {said} {c'} what meant came c spare out old new can performs before after =
     let rest = can_rest c what spare out can in
-    let events : length (drop (length old) new) ≡ length (events_by σ.seat.actor can.view performs.steps) = new_few performs.calls.adds old new before after rest in
+    let events = ap (λ (es : List Event). length es) (shown_new performs.calls.adds old new before after can.view can.whole can.stood rest.met) ∙ length-reverse (events_by σ.seat.actor can.view performs.steps) in
     let few = performs.few can.view can.met.may.rest (performs.calls.adds.agreed can.view can.whole can.stood can.met.may.rest) in
     let room = can.met.records in
     omega (arith, events, few, room)
-
--- the length of the records once the events are pushed
-pushed_length : (out pushed : Records) (events : List Event) → records_in pushed ≡ records_in out ++ map Record.Event events → length (records_in pushed) ≡ length (records_in out) + length events
-pushed_length out pushed events added =
-    ap (λ (rs : List Record). length rs) added ∙ length-append (records_in out) (map Record.Event events) ∙ ap (λ n. length (records_in out) + n) (length-map events Record.Event)
 
 -- .. and room for what is said then
 pub said_fits : {said : Option Said} (k : ℕ) (out pushed : Records) (events : List Event) (message : Said) → said ≡ Some message → length (records_in out) + length events + length (said_by k said) ≤ room_of out
     → records_in pushed ≡ records_in out ++ map Record.Event events → room_of pushed ≡ room_of out → length (records_in pushed) < room_of pushed
 said_fits {said} k out pushed events message is fits added same =
-    let size = pushed_length out pushed events added in
+    let size = ap (λ (rs : List Record). length rs) added ∙ length-append (records_in out) (map Record.Event events) ∙ ap (λ n. length (records_in out) + n) (length-map events Record.Event) in
     let one : length (said_by k said) ≡ 1 = ap (λ o. length (said_by k o)) is in
     omega (arith, size, one, fits, same)
 

@@ -1,9 +1,9 @@
 -- Each record of a piece can be shown, and so each record that is written, in whatever order.
-use Rattle.std.proofs.Common.{ℕ, zero, suc, ◌+◌, Bool, true, false, if◌then◌else◌, List, [], ◌∷◌, ◌++◌, reverse, Option, Some, None}
-use Rattle.std.specs.Prelude.{All, map}
+use Rattle.std.proofs.Common.{ℕ, zero, suc, ◌+◌, Bool, true, false, if◌then◌else◌, List, [], ◌∷◌, ◌++◌, Option}
+use Rattle.std.specs.Prelude.{All}
+use Rattle.std.specs.List.{AllByRecursion}
 use Rattle.std.proofs.lemmas.List.Elements.{All-nil, All-push, All-append}
 use Rattle.pas_profile.specs.declared.profile.Profile.{Profile}
-use Rattle.pas_profile.specs.declared.event.Event.{Event}
 use Rattle.pas_profile.specs.declared.event.Outcome.{Outcome}
 use Rattle.pas_profile.specs.declared.event.Outcome.TheVariants.{Unbacked}
 use Rattle.pas_steps.specs.Events.{events_by}
@@ -12,18 +12,18 @@ use Rattle.pas_steps.specs.declared.step.Made.{Made}
 use Rattle.pas_report.specs.Lines.{CanShow}
 use Rattle.pas_report.specs.declared.record.Record.{Record}
 use Rattle.pas_report.specs.declared.record.Said.{Said}
-use Rattle.pas_report.proofs.Showable.{AreOfRegion, AreShowable, steps_showable, showable_reverse}
+use Rattle.pas_report.proofs.Showable.{AreOfRegion, steps_showable}
 use Rattle.pas_passes.specs.Records.{record_of, records_of_pass}
 use Rattle.pas_answers.specs.Answers.{records_of, said_by}
+use Rattle.pas_profile.proofs.Lists.{all_both}
+use Rattle.pas_answers.proofs.OwnRecords.{piece_events, piece_all, outcomes_all}
 use Rattle.pas_answers.specs.Ways.{Way, InOrder, OnThreads, is_of, records_by, by_actors, by_phases, arranged}
 
 abbrev pub EachShown : List Record → Type 0
-EachShown [] = Unit {0}
-EachShown (r ∷ rs) = CanShow r × EachShown rs
+EachShown = AllByRecursion CanShow
 
 pub each_both : (xs ys : List Record) → EachShown xs → EachShown ys → EachShown (xs ++ ys)
-each_both [] ys a b = b
-each_both (x ∷ xs) ys a b = (a.0, each_both xs ys a.1 b)
+each_both xs ys a b = all_both CanShow xs ys a b
 
 one_by : (t : Bool) (r : Record) (rs : List Record) → CanShow r → EachShown rs → EachShown (if t then r ∷ rs else rs)
 one_by true r rs one rest = (one, rest)
@@ -49,32 +49,19 @@ pub each_arranged : (way : Way) (threads : ℕ) (rs : List Record) → EachShown
 each_arranged InOrder threads rs all = all
 each_arranged OnThreads threads rs all = each_phases threads [] rs tt all
 
--- ---- the records of a piece
-events_shown : (es : List Event) → AreShowable es → EachShown (map Record.Event es)
-events_shown [] all = tt
-events_shown (e ∷ es) all = (all.0, events_shown es all.1)
-
+-- ---- the records of a piece, and those of a pass
 pub records_shown : (f : Profile) (k : ℕ) (steps : List Made) (v : View) → AreOfRegion f steps → EachShown (records_of (events_by k v steps))
-records_shown f k steps v of = events_shown (reverse (events_by k v steps)) (showable_reverse (events_by k v steps) (steps_showable f k steps v of))
-
-said_shown : (k : ℕ) (said : Option Said) → EachShown (said_by k said)
-said_shown k None = tt
-said_shown k (Some said) = (tt, tt)
+records_shown f k steps v of = piece_events CanShow (events_by k v steps) (steps_showable f k steps v of)
 
 pub piece_shown : (f : Profile) (k : ℕ) (steps : List Made) (said : Option Said) (v : View) → AreOfRegion f steps → EachShown (records_of (events_by k v steps) ++ said_by k said)
-piece_shown f k steps said v of = each_both (records_of (events_by k v steps)) (said_by k said) (records_shown f k steps v of) (said_shown k said)
+piece_shown f k steps said v of = piece_all CanShow k (events_by k v steps) said (steps_showable f k steps v of) (λ s. tt)
 
--- ---- the records of a pass
 outcome_shown : (k epoch page : ℕ) (outcome : Outcome) → CanShow (record_of k epoch page outcome)
 outcome_shown k epoch page Unbacked = tt
 outcome_shown k epoch page outcome = tt
 
-outcomes_shown : (k epoch : ℕ) (found : List (ℕ × Outcome)) → EachShown (map (λ p. record_of k epoch p.0 p.1) found)
-outcomes_shown k epoch [] = tt
-outcomes_shown k epoch (x ∷ found) = (outcome_shown k epoch x.0 x.1, outcomes_shown k epoch found)
-
 pub pass_shown : (k epoch : ℕ) (found : List (ℕ × Outcome)) → EachShown (records_of_pass k epoch found)
-pass_shown k epoch found = (tt, outcomes_shown k epoch found)
+pass_shown k epoch found = (tt, outcomes_all CanShow k epoch found (outcome_shown k epoch))
 
 -- ---- all records
 pub all_shown : (rs : List Record) → EachShown rs → All CanShow rs

@@ -12,7 +12,6 @@ use Rattle.pas_report.specs.declared.record.Record.{Record}
 use Rattle.pas_answers.specs.Calls.{AreKnown, IsKnown}
 use Rattle.pas_answers.specs.Fit.{IsFitWhat}
 use Rattle.pas_profile.specs.declared.event.Outcome.{Outcome}
-use Rattle.pas_profile.specs.declared.event.Outcome.TheVariants.{Unbacked, Bare, Young, InUse, NotOffered}
 use Rattle.pas_profile.specs.declared.word.Word.TheVariants as Word
 use Rattle.pas_steps.specs.Calls.{Calls}
 use Rattle.pas_steps.specs.Clear.{HasNothing}
@@ -23,7 +22,7 @@ use Rattle.pas_steps.proofs.Called.{call_none, call_step}
 use Rattle.pas_steps.proofs.Calls.{does_idly}
 use Rattle.pas_scavenger.specs.Pages.{unback_of}
 use Rattle.pas_scavenger.specs.Passes.{unbacks_in}
-use Rattle.pas_scavenger.proofs.Trying.{nothing_still}
+use Rattle.pas_scavenger.proofs.Trying.{nothing_still, one_unback}
 
 -- ---- caches of which that of thread k became another
 pub its_cache : (caches : Caches) (k : ℕ) (c : Cached) → with_cache caches k c k ≡ c
@@ -42,13 +41,6 @@ known_if f limit asked names s fit known = tt
 
 pub records_count : (es : List Event) → length (records_of es) ≡ length es
 records_count es = length-map (reverse es) Record.Event ∙ length-reverse es
-
-one_unback : (k epoch page : ℕ) (o : Outcome) → length (unback_of k epoch page o) ≤ 1
-one_unback k epoch page Unbacked = omega arith
-one_unback k epoch page Bare = omega arith
-one_unback k epoch page (Young stamp) = omega arith
-one_unback k epoch page (InUse word value) = omega arith
-one_unback k epoch page NotOffered = omega arith
 
 pub few_unbacks : (k epoch : ℕ) (pairs : List (ℕ × Outcome)) → length (unbacks_in k epoch pairs) ≤ length pairs
 few_unbacks k epoch [] = omega arith

@@ -7,7 +7,8 @@ use Rattle.pas_profile.specs.Directories.{directory_read, deed_word_of}
 use Rattle.pas_profile.specs.declared.profile.Profile.{Profile}
 use Rattle.pas_profile.specs.declared.name.Name.{Name}
 use Rattle.pas_profile.specs.declared.word.Word.{Word}
-use Rattle.pas_profile.specs.Runs.{meets_page, address_of, grain_of}
+use Rattle.pas_bits.specs.Runs.{meets_page}
+use Rattle.pas_profile.specs.Blocks.{address_of, grain_of}
 use Rattle.pas_steps.specs.Views.{View, is_unstamped}
 use Rattle.pas_steps.specs.Allowed.{IsStepOf}
 use Rattle.pas_steps.specs.Desks.{made}
@@ -38,7 +39,7 @@ use Rattle.pas_report.specs.declared.record.Said.{Said}
 use Rattle.pas_answers.specs.Answers.{Having, Answer, standing_for, IsFreed, IsFreedBy, IsStopped, IsAnswered}
 use Rattle.pas_report.proofs.Showable.{AreOfRegion}
 use Rattle.pas_answers.proofs.Parts.{of_front, of_back}
-use Rattle.pas_profile.proofs.Runs.{to_meet, met_by}
+use Rattle.pas_bits.proofs.Runs.{to_meet, met_by}
 
 -- ---- tidy views: all steps kept to ends, and nothing is unstamped
 abbrev pub KeptPart : View → Type 0

@@ -15,7 +15,7 @@ use Rattle.pas_cache.specs.Caches.{Cached, AtRest}
 use Rattle.pas_cache.specs.Refusals.{IsTrulyRefused}
 use Rattle.pas_cache.specs.Serves.{wanted_for, ServesRequest}
 use Rattle.pas_cache.proofs.Alone.{truly_refused}
-use Rattle.pas_answers.specs.Acts.{Act, Operates, Ticks}
+use Rattle.pas_trace.specs.Acts.{Act, Operates, Ticks}
 use Rattle.pas_answers.specs.Answers.{Having, having, Answer, IsAnswered, Progress}
 use Rattle.pas_answers.specs.Reaching.{Reaches}
 use Rattle.pas_answers.proofs.Reached.{was_so}
@@ -34,14 +34,10 @@ operation_refuses f k limit asked (Alloc name heap size align) b a l valid own f
 operation_refuses f k limit asked what b a l valid own fit legal is = tt
 
 -- ---- all acts
--- the list so far is legal where the whole one is
-legal_so_far : (f : Profile) (acts : List Act) (p q : Progress) → Reaches f acts p q → Legal f q.list → Legal f p.list
-legal_so_far f acts p q is legal = was_so f (Legal f) (legal_before f) acts p q is legal
-
 pub all_refuse : (f : Profile) (limit : ℕ) (asked : List ℕ) (acts : List Act) (p q : Progress) → IsValid f → AreFit f limit asked acts → Legal f q.list → (is : Reaches f acts p q) → AllRefuseTruly f acts p q is
 all_refuse f limit asked [] p q valid fit legal is = tt
 all_refuse f limit asked (Operates op ∷ acts) p q valid fit legal is = (
-  operation_refuses f op.actor limit asked op.what (having p.names (part op.actor p.list) (p.caches op.actor)) is.1.0 p.list valid refl fit.1 (subst (λ (r : Progress). Legal f r.list) is.1.2 (legal_so_far f acts is.0 q is.2 legal)) is.1.1,
+  operation_refuses f op.actor limit asked op.what (having p.names (part op.actor p.list) (p.caches op.actor)) is.1.0 p.list valid refl fit.1 (subst (λ (r : Progress). Legal f r.list) is.1.2 (was_so f (Legal f) (legal_before f) acts is.0 q is.2 legal)) is.1.1,
   all_refuse f limit (asked_after op.what asked) acts is.0 q valid fit.2 legal is.2,
 )
 all_refuse f limit asked (Ticks epoch ∷ acts) p q valid fit legal is = (tt, all_refuse f limit asked acts is.0 q valid fit.1 legal is.2)

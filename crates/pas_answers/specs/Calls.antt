@@ -11,6 +11,8 @@ use Rattle.pas_steps.specs.declared.step.Made.{Made}
 use Rattle.pas_trace.specs.Asked.{request_in, freed_in}
 use Rattle.pas_trace.specs.EveryPlan.{is_asked}
 use Rattle.pas_trace.specs.declared.plan.What.{What}
+use Rattle.pas_trace.specs.declared.plan.What.TheVariants.{Alloc, Free, Raw, Flush, Stop}
+use Rattle.pas_trace.specs.declared.plan.Task.{Task}
 use Rattle.pas_trace.specs.declared.item.Request.{Request}
 use Rattle.pas_report.specs.Rooms.{records_in, room_of, Records}
 use Rattle.pas_report.specs.declared.record.Said.{Said}
@@ -26,6 +28,14 @@ use Rattle.pas_answers.specs.Answers.{having, answer_of, Named, named, standing_
 use Rattle.pas_answers.specs.Fit.{cost_of_what}
 use Rattle.pas_answers.specs.Names.{block_named}
 use Rattle.pas_answers.specs.declared.names.Names.{Names}
+
+-- ---- the operation that asks its thread for this
+abbrev pub what_of : Task → What
+what_of (Task.Request name heap size align) = Alloc name heap size align
+what_of (Task.Free name) = Free name
+what_of (Task.FreeRaw block) = Raw block
+what_of Task.Flush = Flush
+what_of Task.Stop = Stop
 
 -- ---- the table of names
 -- the block that a name stands for, where it stands for one
@@ -80,11 +90,6 @@ abbrev pub owed_events : Profile → Cached → View → ℕ
 owed_events f c v = unknown_pages f v + length c.log
 
 -- ---- an operation
--- the actor is at rest with its cache, and there is room for so many events and those that are owed
-pub record MayServe (f : Profile) (c : Cached) (cost spare : ℕ) (v : View) : Type 0 where
-  pub rest : AtRest f c v
-  pub room : cost + owed_events f c v ≤ spare
-
 -- the actor is at rest with its cache, and there is room for the events of the operation and those that are owed
 pub record MayPerform (f : Profile) (c : Cached) (what : What) (spare : ℕ) (v : View) : Type 0 where
   pub rest : AtRest f c v

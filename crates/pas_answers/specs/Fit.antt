@@ -9,7 +9,7 @@ use Rattle.pas_trace.specs.declared.plan.What.{What}
 use Rattle.pas_trace.specs.declared.plan.Task.{Task}
 use Rattle.pas_trace.specs.declared.plan.Work.{Work}
 use Rattle.pas_trace.specs.declared.plan.Op.{Op}
-use Rattle.pas_answers.specs.Acts.{Act, Operates, Settles, Ticks, MakesPass, ReadsEpoch, StopsIdle, MarksPhase, Wakes, MarksClose, Ends, operation_in}
+use Rattle.pas_trace.specs.Acts.{Act, Operates, Settles, Ticks, MakesPass, ReadsEpoch, StopsIdle, MarksPhase, Wakes, MarksClose, Ends, operation_in}
 
 -- A thread's operation can be replayed after those that asked for these names. A request has a new name below the limit, a free has one of those that were
 -- asked for, and a turn has a next one.

@@ -7,7 +7,7 @@ use Rattle.pas_steps.specs.declared.step.Made.{Made}
 use Rattle.pas_report.specs.declared.record.Record.{Record}
 use Rattle.pas_cache.specs.Caches.{Cached}
 use Rattle.pas_scavenger.specs.Passes.{PassSteps}
-use Rattle.pas_answers.specs.Acts.{Act, Operates, Settles, Ticks, MakesPass, ReadsEpoch, StopsIdle, MarksPhase, Wakes, MarksClose, Ends}
+use Rattle.pas_trace.specs.Acts.{Act, Operates, Settles, Ticks, MakesPass, ReadsEpoch, StopsIdle, MarksPhase, Wakes, MarksClose, Ends}
 use Rattle.pas_answers.specs.Answers.{Answer, having, IsAnswered, IsStopped, Progress, with_records, after_answer, after_settling, after_wake, after_reading, after_tick, after_pass, after_stop, stopped, IsIdleFor}
 
 -- One act takes a replay from p to p'. Its steps go onto the list that those before it left, and its records to the end of the records: the events of the

@@ -7,7 +7,7 @@ use Rattle.pas_trace.specs.declared.plan.What.{What}
 use Rattle.pas_trace.specs.declared.plan.What.TheVariants.{Alloc, Free, Raw, Flush, Stop, Tick, Pass, Idle}
 use Rattle.pas_cache.specs.Refusals.{IsTrulyRefused}
 use Rattle.pas_cache.specs.Serves.{wanted_for}
-use Rattle.pas_answers.specs.Acts.{Act, Operates, Settles, Ticks, MakesPass, ReadsEpoch, StopsIdle, MarksPhase, Wakes, MarksClose, Ends}
+use Rattle.pas_trace.specs.Acts.{Act, Operates, Settles, Ticks, MakesPass, ReadsEpoch, StopsIdle, MarksPhase, Wakes, MarksClose, Ends}
 use Rattle.pas_answers.specs.Answers.{Having, having, Answer, IsAnswered, Progress}
 use Rattle.pas_answers.specs.Reaching.{Advances, Reaches}
 use Rattle.pas_answers.specs.Ways.{Way, InOrder, OnThreads}

@@ -17,7 +17,7 @@ use Rattle.pas_trace.specs.declared.plan.Plan.{Plan}
 use Rattle.pas_report.specs.Rests.{AreStamped, AreTrueMarks}
 use Rattle.pas_report.specs.declared.record.Record.{Record}
 use Rattle.pas_cache.specs.Caches.{Cached}
-use Rattle.pas_answers.specs.Acts.{acts_of}
+use Rattle.pas_trace.specs.Acts.{acts_of}
 use Rattle.pas_answers.specs.Answers.{Caches, Progress}
 use Rattle.pas_answers.specs.Reaching.{Reaches}
 use Rattle.pas_answers.specs.Refusals.{AreRefusalsTrue}

@@ -1,6 +1,7 @@
 -- The two ways in which a plan is replayed: in the order of the text, or with each thread's operations in a thread of their own. What answers the
 -- plan is the same in both. They differ in the order of the records in the text, and in what is known of the order of the steps.
 use Rattle.std.specs.Prelude.{ℕ, zero, suc, ◌+◌, ◌≡◌, ◌==◌, Bool, true, false, if◌then◌else◌, List, [], ◌∷◌, ◌++◌}
+use Rattle.std.specs.List.{AllByRecursion}
 use Rattle.pas_profile.specs.declared.event.Event.{Event}
 use Rattle.pas_steps.specs.Lists.{Whole, part}
 use Rattle.pas_report.specs.declared.record.Record.{Record}
@@ -30,13 +31,11 @@ is_of k Record.Close = false
 
 -- none of these is a mark
 abbrev pub AreSpoken : List Record → Type 0
-AreSpoken [] = Unit {0}
-AreSpoken (r ∷ rs) = ((j : ℕ) × (is_of j r ≡ true)) × AreSpoken rs
+AreSpoken = AllByRecursion (λ r. (j : ℕ) × (is_of j r ≡ true))
 
 -- each of these records is of actor j, and none is a mark
 abbrev pub EachOf : ℕ → List Record → Type 0
-EachOf j [] = Unit {0}
-EachOf j (r ∷ rs) = ((k : ℕ) → is_of k r ≡ (j == k)) × EachOf j rs
+EachOf j = AllByRecursion (λ r. (k : ℕ) → is_of k r ≡ (j == k))
 
 -- the records of actor k among these
 abbrev pub records_by : ℕ → List Record → List Record

@@ -8,17 +8,14 @@ ghost use Rattle.pas_answers.specs.Answers.{said_of_room};
 ghost use Rattle.pas_answers.specs.Fit.{IsFitWhat};
 ghost use Rattle.pas_profile.specs.Profiles.{IsAdmitted};
 ghost use Rattle.pas_profile.specs.declared.name.Name.{Name as TheName};
-ghost use Rattle.pas_trace.specs.Reasons.{cost_of_size};
-ghost use Rattle.pas_cache.specs.Serves.{wanted_for};
-ghost use Rattle.pas_answers.specs.Calls.{HasTurn, MayPerform, MayServe, Serves, PerformsMeant, FreesOne, MayAnswer, AnswersMeant};
+ghost use Rattle.pas_answers.specs.Calls.{what_of, HasTurn, MayPerform, PerformsMeant, FreesOne, MayAnswer, AnswersMeant};
 
 use pas_cache::ThreadCache;
 use pas_large::NoIndex;
-use pas_profile::limits::MOST_BITFIT;
-use pas_profile::{Block, Event, FreeFault, Name, NoRoom};
+use pas_profile::{Event, FreeFault, Name, NoRoom};
 use pas_report::{Record, Records, Said};
 use pas_steps::Desk;
-use pas_trace::What;
+use pas_trace::Task;
 
 /// Adds the events from this place on to the records, in their order.
 pub(crate) fn push_events(shown: &[Event], before: usize, out: &mut Records)
@@ -43,28 +40,8 @@ fn refusal(name: u32, room: NoRoom) -> Said
     }
 }
 
-/// A block of the heap for so many bytes, from the cache or in whole pages.
-#[inline(always)]
-fn serve<D: Desk>(
-    desk: &mut D,
-    cache: &mut ThreadCache,
-    heap: u8,
-    size: u32,
-    align: u32,
-) -> Result<Block, NoRoom>
-    requires admitted { IsAdmitted (D.standing desk.old).seat.profile size align heap }
-    requires can { CanCall (D.standing desk.old) (MayServe (D.standing desk.old).seat.profile (cached cache.old) (cost_of_size size) (D.spare_of desk.old)) }
-    ensures serves { Serves (cost_of_size size) (wanted_for (D.standing desk.old).seat.profile heap size align) None (cached cache.old) (cached cache.new) (D.standing desk.old) (D.standing desk.new) result }
-    ensures home { D.home desk.new ≡ D.home desk.old }
-{
-    if size > MOST_BITFIT {
-        cache.alloc_large(desk, &mut NoIndex, heap, size)
-    } else {
-        cache.alloc(desk, heap, size, align)
-    }
-}
-
 /// Serves a request: what its name stands for from then on, and what is said where it was refused.
+#[inline(always)]
 fn allocate<D: Desk>(
     desk: &mut D,
     cache: &mut ThreadCache,
@@ -79,7 +56,7 @@ fn allocate<D: Desk>(
     ensures turn { HasTurn result.0 }
     ensures home { D.home desk.new ≡ D.home desk.old }
 {
-    match serve(desk, cache, heap, size, align) {
+    match cache.serve(desk, &mut NoIndex, heap, size, align) {
         Ok(block) => (Some(block.name), None),
         Err(room) => (None, Some(refusal(name, room))),
     }
@@ -99,63 +76,63 @@ fn free<D: Desk>(desk: &mut D, cache: &mut ThreadCache, block: Name) -> Option<S
     }
 }
 
-/// Performs the operation, of which the freed name stands for `meant`: what the asked name stands for from then on, and what is said besides its
-/// events.
+/// Does the task, of which the freed name stands for `meant`: what the asked name stands for from then on, and what is said besides its events.
+#[inline(always)]
 fn perform<D: Desk>(
     desk: &mut D,
     cache: &mut ThreadCache,
-    what: What,
+    task: Task,
     meant: Option<Name>,
 ) -> (Option<Name>, Option<Said>)
-    requires fit { (limit : ℕ) × (asked : List ℕ) × IsFitWhat (D.standing desk.old).seat.profile limit asked what }
+    requires fit { (limit : ℕ) × (asked : List ℕ) × IsFitWhat (D.standing desk.old).seat.profile limit asked (what_of task) }
     requires turn { HasTurn meant }
-    requires can { CanCall (D.standing desk.old) (MayPerform (D.standing desk.old).seat.profile (cached cache.old) what (D.spare_of desk.old)) }
-    ensures performs { PerformsMeant what meant result.0 (cached cache.old) (cached cache.new) (D.standing desk.old) (D.standing desk.new) result.1 }
+    requires can { CanCall (D.standing desk.old) (MayPerform (D.standing desk.old).seat.profile (cached cache.old) (what_of task) (D.spare_of desk.old)) }
+    ensures performs { PerformsMeant (what_of task) meant result.0 (cached cache.old) (cached cache.new) (D.standing desk.old) (D.standing desk.new) result.1 }
     ensures turn { HasTurn result.0 }
     ensures home { D.home desk.new ≡ D.home desk.old }
 {
-    match what {
-        What::Alloc {
+    match task {
+        Task::Request {
             name,
             heap,
             size,
             align,
         } => allocate(desk, cache, name, heap, size, align),
-        What::Free { name } => match meant {
+        Task::Free { name } => match meant {
             Some(block) => (None, free(desk, cache, block)),
             None => (None, Some(Said::Skipped { name })),
         },
-        What::Raw { block } => (None, free(desk, cache, block)),
-        What::Flush => {
+        Task::FreeRaw { block } => (None, free(desk, cache, block)),
+        Task::Flush => {
             cache.flush(desk);
             (None, None)
         }
-        What::Stop => {
+        Task::Stop => {
             cache.stop(desk);
             (None, None)
         }
-        What::Tick(_) | What::Pass | What::Idle(_) => unreachable!(),
     }
 }
 
-/// Performs a thread's operation, and adds its events and what is said to the records. `meant` is the block that the freed name of a `What::Free` stands
-/// for, if any, and the result the block that the asked name of a `What::Alloc` stands for from then on; None for every other operation.
+/// Does a thread's task, and adds its events and what is said to the records. `meant` is the block that the freed name of a `Task::Free` stands for, if
+/// any, and the result the block that the asked name of a `Task::Request` stands for from then on; None for every other task.
+#[inline(always)]
 pub fn answer_meant<D: Desk>(
     desk: &mut D,
     cache: &mut ThreadCache,
-    what: What,
+    task: Task,
     meant: Option<Name>,
     out: &mut Records,
 ) -> Option<Name>
-    requires fit { (limit : ℕ) × (asked : List ℕ) × IsFitWhat (D.standing desk.old).seat.profile limit asked what }
+    requires fit { (limit : ℕ) × (asked : List ℕ) × IsFitWhat (D.standing desk.old).seat.profile limit asked (what_of task) }
     requires turn { HasTurn meant }
-    requires can { CanCall (D.standing desk.old) (MayAnswer (D.standing desk.old).seat.profile (cached cache.old) what (D.spare_of desk.old) out.old) }
-    ensures answers { AnswersMeant what meant result (cached cache.old) (cached cache.new) out.old out.new (D.standing desk.old) (D.standing desk.new) }
+    requires can { CanCall (D.standing desk.old) (MayAnswer (D.standing desk.old).seat.profile (cached cache.old) (what_of task) (D.spare_of desk.old) out.old) }
+    ensures answers { AnswersMeant (what_of task) meant result (cached cache.old) (cached cache.new) out.old out.new (D.standing desk.old) (D.standing desk.new) }
     ensures turn { HasTurn result }
     ensures home { D.home desk.new ≡ D.home desk.old }
 {
     let before = desk.shown().len();
-    let (came, said) = perform(desk, cache, what, meant);
+    let (came, said) = perform(desk, cache, task, meant);
     push_events(desk.shown(), before, out);
     if let Some(said) = said {
         out.push(Record::Said(desk.actor(), said));

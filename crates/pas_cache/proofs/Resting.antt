@@ -2,11 +2,12 @@
 use Rattle.std.proofs.Common.{◌≡◌, ℕ, ◌+◌, ◌*◌, ◌/◌, ◌%◌, ◌^◌, ◌<◌, ◌≤◌, ◌==◌, true, refl, ap, sym, ◌∙◌, arith, Bool, false, ◌||◌, if◌then◌else◌, List, ◌∷◌, ◌++◌, get_or, None, subst, true≢false, ◌&&◌, not, [], inl}
 use Rattle.std.proofs.lemmas.Bool.{eq-eqb, and_from, eqb-true, and_parts, or_right, false_from_ne_true, cond-false}
 use Rattle.pas_profile.specs.Classes.{IsClass, class_grains, IsSlotStart}
-use Rattle.pas_profile.specs.Runs.{in_run, grain_of, length_of}
+use Rattle.pas_bits.specs.Runs.{in_run}
+use Rattle.pas_profile.specs.Blocks.{grain_of, length_of}
 use Rattle.pas_profile.specs.declared.name.Block.{Block}
 use Rattle.pas_profile.specs.declared.profile.Profile.{Profile}
 use Rattle.pas_profile.proofs.ClassFacts.{class_size_whole, class_grains_positive, slot_end}
-use Rattle.pas_profile.proofs.Runs.{run_of, to_run}
+use Rattle.pas_bits.proofs.Runs.{run_of, to_run}
 use Rattle.pas_bits.specs.Masks.{is_set, IsLowestSet, HasMember}
 use Rattle.pas_rights.specs.Gives.{MayGive, give_steps, GivesRun}
 use Rattle.pas_rights.proofs.Gives.{may_give_on}

@@ -2,20 +2,21 @@
 use Rattle.std.proofs.Common.{◌≡◌, ℕ, ◌<◌, ◌≤◌, if◌then◌else◌, Option, None, Some, sym, subst, arith, max, ◌+◌, ◌-◌, ◌*◌, ◌/◌, ◌%◌, ◌==◌, Bool, true, false, List, [], ◌++◌, length, Ok, Err, Result, refl, ap, ◌∙◌, length-append, ◌||◌, ◌∷◌, ◌⊎◌, inl, inr, append_assoc, true≢false}
 use Rattle.std.proofs.lemmas.Bool.{le-leb, eqb-true, cases_Bool, and_parts, false_from_ne_true}
 use Rattle.pas_profile.specs.Classes.{sizes_of, IsAlignment}
-use Rattle.pas_profile.specs.Routes.{first_class, route_with, route_of, room_by, room_of}
+use Rattle.pas_profile.specs.Routes.{first_class, route_with, route_of, room_by, room_of, IsRouteOf}
 use Rattle.pas_profile.specs.declared.directory.Route.{Route}
 use Rattle.pas_profile.proofs.Sizes.{large_for}
 use Rattle.pas_cache.specs.Serves.{IsSmallRoute, Wanted, wanted_for, IsBlockFor, IsFew, IsSilent, IsToldBy, IsPreparing, IsDeedOf, MakesDeedsOf}
 use Rattle.std.specs.Prelude.{All, MatchResult, max, min}
 use Rattle.pas_profile.specs.Profiles.{IsPage}
 use Rattle.pas_profile.specs.Requests.{is_shared, kind_of_class, kind_of_route, route_in, room_in}
-use Rattle.pas_profile.specs.Runs.{in_run, address_of, grain_of, length_of}
+use Rattle.pas_bits.specs.Runs.{in_run}
+use Rattle.pas_profile.specs.Blocks.{address_of, grain_of, length_of}
 use Rattle.pas_profile.specs.declared.directory.Directory.{Directory}
 use Rattle.pas_profile.specs.declared.event.NoRoom.{NoRoom}
 use Rattle.pas_profile.specs.declared.name.Block.{Block}
 use Rattle.pas_profile.specs.declared.profile.Profile.{Profile}
-use Rattle.pas_profile.proofs.ClassFacts.{bitfit_suits}
-use Rattle.pas_profile.proofs.Runs.{run_of}
+use Rattle.pas_profile.proofs.ClassFacts.{bitfit_suits, route_is}
+use Rattle.pas_bits.proofs.Runs.{run_of}
 use Rattle.pas_steps.specs.Agreement.{Agreed}
 use Rattle.pas_steps.specs.Calls.{Kept, Lost, now}
 use Rattle.pas_steps.specs.Events.{events_by}
@@ -37,7 +38,7 @@ use Rattle.pas_bitfit.specs.Runs.{NoneFits, runs, run_at}
 use Rattle.pas_rights.specs.Gives.{give_steps}
 use Rattle.pas_rights.proofs.Gives.{covers}
 use Rattle.pas_cache.specs.Caches.{Cached, AtRest}
-use Rattle.pas_cache.specs.Calls.{MayAllocate, Allocates as Serves, MayAllocatePages, AllocatesPages, most_events}
+use Rattle.pas_cache.specs.Calls.{MayAllocate, Allocates as Serves, MayAllocatePages, AllocatesPages, most_events, IsNamed, MayRequestBy, MayRequest, AllocatesBy, AllocatesRequest}
 use Rattle.pas_cache.specs.Kinds.{allocating}
 use Rattle.pas_cache.specs.Locals.{any_keeps, IsLocal, RestsWith, keeps_right}
 use Rattle.pas_cache.proofs.Obtained.{chosen_few, silent_few, prepared, no_right_of}
@@ -56,7 +57,7 @@ use Rattle.pas_steps.proofs.Frames.{events_append}
 use Rattle.pas_steps.proofs.Past.{always_pair}
 use Rattle.pas_steps.proofs.Unknown.{unknown_stays}
 use Rattle.pas_large.specs.Allocates.{GaveLarge, IsServedNamed, IsScanned, AllocatesLarge}
-use Rattle.pas_large.proofs.Outcomes.{MadeOf, IsGivenRun, IsRefusedRun, HasEnded, ended}
+use Rattle.pas_large.proofs.Outcomes.{MadeOf, IsGivenRun, IsRefusedRun, HasEnded, ended, told_unnamed}
 use Rattle.pas_large.specs.Claims.{in_span}
 use Rattle.pas_large.specs.Finds.{MayFind, FindRoom, finding}
 use Rattle.pas_large.specs.Pages.{OnlyDeedsShow}
@@ -84,6 +85,47 @@ is_small classes size align le = small_with (first_class (sizes_of classes) 0 (m
 -- of more
 pub is_large : (classes size align : ℕ) → 2048 < size → route_of classes size align ≡ Route.Large
 is_large classes size align more = sym (large_for classes size align more)
+
+pub large_size : (classes size align : ℕ) → route_of classes size align ≡ Route.Large → 2048 < size
+large_size classes size align e = (subst (IsRouteOf classes size align) e (route_is classes size align)).0
+
+-- ==== A request goes by its route.
+pub goes : {σ σ' : Standing} {Answers : Option ℕ → Type 0} {wanted : Wanted} {tells : Bool} {c c' : Cached} {answer : Result Block NoRoom} (way : Route) (found : Option ℕ) → wanted.route ≡ way → IsNamed way Answers found
+    → AllocatesBy way wanted found tells c c' σ σ' answer → AllocatesRequest Answers wanted tells c c' σ σ' answer
+goes {σ} {σ'} {Answers} {wanted} {tells} {c} {c'} {answer} way found route named it = record {
+  found = found;
+  named = subst (λ (r : Route). IsNamed r Answers found) (sym route) named;
+  allocates = subst (λ (r : Route). AllocatesBy r wanted found tells c c' σ σ' answer) (sym route) it;
+}
+
+pub may_go : {σ : Standing} (c : Cached) (heap size align spare : ℕ) (way : Route) → route_in σ.seat.profile size align ≡ way → CanCall σ (MayRequest σ.seat.profile (wanted_for σ.seat.profile heap size align) c spare)
+    → CanCall σ (MayRequestBy way σ.seat.profile c (room_in σ.seat.profile size align / 4096) spare)
+may_go {σ} c heap size align spare way route can = subst (λ (r : Route). CanCall σ (MayRequestBy r σ.seat.profile c (room_in σ.seat.profile size align / 4096) spare)) route can
+
+-- where it is small
+pub small_may : {f : Profile} {c : Cached} {spare : ℕ} {v : View} (n : ℕ) (route : Route) → IsSmallRoute route → MayAllocate f c spare v → MayRequestBy route f c n spare v
+small_may n (Route.Class class) small may = may
+small_may n Route.Bitfit small may = may
+small_may n Route.Large small may = absurd small
+
+pub small_did : {σ σ' : Standing} {tells : Bool} {c c' : Cached} {answer : Result Block NoRoom} (wanted : Wanted) (found : Option ℕ) (route : Route) → IsSmallRoute route → AllocatesBy route wanted found tells c c' σ σ' answer → Serves wanted tells c c' σ σ' answer
+small_did wanted found (Route.Class class) small it = it
+small_did wanted found Route.Bitfit small it = it
+small_did wanted found Route.Large small it = absurd small
+
+-- no run was named where the door names none for whole pages
+pub none_named : (Answers : Option ℕ → Type 0) {found : Option ℕ} (route : Route) → (route ≡ Route.Large → Answers found → found ≡ None) → IsNamed route Answers found → found ≡ None
+none_named Answers (Route.Class class) by named = named
+none_named Answers Route.Bitfit by named = named
+none_named Answers Route.Large by named = by refl named
+
+-- where it is for whole pages, so many
+pub pages_asked : (f : Profile) (size align : ℕ) → route_in f size align ≡ Route.Large → room_in f size align / 4096 ≡ (size + 4096 - 1) / 4096
+pages_asked f size align route =
+    let more = large_size f.classes size align route in
+    let whole : max size 1 ≡ size = omega (arith, more) in
+    let room = ap (λ (r : Route). room_by r (max size 1)) route in
+    omega (arith, whole, room)
 
 -- ==== A bit-fit request: the actor is at rest with the cache as it was.
 
@@ -375,5 +417,6 @@ pages_allocates {σ} {σ'} size align heap n found tells c answer is some alignm
           (subst (λ xs. length (events_by k v xs) + unknown_pages f (xs ++ v) ≤ most_events n answer + unknown_pages f v) (sym same) (few f heap n e.got e.after answer e.outcome e.shows k v (subst (Agreed f v) same agreed)));
       outcome = subst (λ xs. MatchResult answer (IsBlockFor f (record { directory = large_directory heap; route = Route.Large; room = n * 4096; align = align }) (AtRest f c) xs) (λ why. MakesDeedsOf (large_directory heap) xs)) (sym same)
           (ends f heap n e.got e.after {Meets = AtRest f c} align c.locals alignment e.kinds (λ v met. met.locals) answer e.outcome);
-      told = λ none t v l stood met. subst (λ k. IsToldLarge f (large_directory heap) k l (triples σ.seat.actor (a.rest ++ a.tried) ++ l) answer) (sym count) (a.told none t v l stood (may_find f v heap c.locals met.locals));
+      told = λ none t v l stood met. subst (λ k. IsToldLarge f (large_directory heap) k l (triples σ.seat.actor (a.rest ++ a.tried) ++ l) answer) (sym count)
+          (told_unnamed f (large_directory heap) n found l (triples σ.seat.actor (a.rest ++ a.tried) ++ l) (a.rest ++ a.tried) answer none (a.told t v l stood (may_find f v heap c.locals met.locals)));
     })

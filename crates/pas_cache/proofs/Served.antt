@@ -17,7 +17,8 @@ use Rattle.pas_profile.proofs.ClassFacts.{class_suits, class_known, routed_slot_
 use Rattle.pas_cache.specs.Caches.{Cached, AtRest}
 use Rattle.pas_cache.specs.Calls.{MayAllocate, Allocates}
 use Rattle.std.specs.List.{AllByRecursion}
-use Rattle.pas_profile.specs.Classes.{IsClass, class_size, IsSlotStart, has_bit}
+use Rattle.pas_profile.specs.Classes.{IsClass, class_size, IsSlotStart}
+use Rattle.pas_bits.specs.Bits.{has_bit}
 use Rattle.pas_profile.specs.Directories.{IsKind, IsKindAmong, deed_word_of}
 use Rattle.pas_profile.specs.declared.profile.Profile.{Profile}
 use Rattle.pas_profile.specs.declared.directory.Directory.{Directory}
@@ -241,9 +242,9 @@ kind_among false classes class is = is
 pub routed : (f told : Profile) (size align : ℕ) (route way : Route) → told ≡ f → route ≡ route_in told size align → route ≡ way → route_in f size align ≡ way
 routed f told size align route way same is at = ap (λ (h : Profile). route_in h size align) (sym same) ∙ sym is ∙ at
 
--- and so is the room
-pub roomed : (f told : Profile) (size align room : ℕ) → told ≡ f → room ≡ room_in told size align → room_in f size align ≡ room
-roomed f told size align room same is = ap (λ (h : Profile). room_in h size align) (sym same) ∙ sym is
+-- the room of a bit-fit block is that of its request
+pub roomed : (f : Profile) (size align room : ℕ) → route_in f size align ≡ Route.Bitfit → room ≡ room_by Route.Bitfit (max size 1) → room_in f size align ≡ room
+roomed f size align room route is = ap (λ (r : Route). room_by r (max size 1)) route ∙ sym is
 
 -- the class of a request has its home in the heap
 pub filling_for : (f : Profile) (size align heap class : ℕ) → IsAdmitted f size align heap → route_in f size align ≡ Route.Class class → IsFilling f (filling_in (class_home f heap class) class)

@@ -2,6 +2,7 @@
 use Rattle.std.specs.Prelude.{ℕ, ◌+◌, ◌*◌, ◌≤◌, ◌≡◌, Bool, true, List, [], ◌∷◌, ◌++◌, length, Option, None, Result, Ok, Err, MatchResult}
 use Rattle.pas_profile.specs.declared.event.FreeFault.{FreeFault}
 use Rattle.pas_profile.specs.declared.event.NoRoom.{NoRoom}
+use Rattle.pas_profile.specs.declared.directory.Route.{Route}
 use Rattle.pas_profile.specs.declared.name.Name.{Name}
 use Rattle.pas_profile.specs.declared.name.Block.{Block}
 use Rattle.pas_profile.specs.declared.profile.Profile.{Profile}
@@ -84,6 +85,35 @@ pub record AllocatesPages (wanted : Wanted) (found : Option ℕ) (tells : Bool) 
   pub few : MakesAtMost desk.seat.profile (AtRest desk.seat.profile c) (most_events (pages_of wanted) answer) steps
   pub outcome : MatchResult answer (IsBlockFor desk.seat.profile wanted (AtRest desk.seat.profile c) steps) (λ room. MakesDeedsOf wanted.directory steps)
   pub told : found ≡ None → tells ≡ true → (v : View) (l : Whole) → desk.stands v l → AtRest desk.seat.profile c v → IsToldLarge desk.seat.profile wanted.directory (pages_of wanted) l (triples desk.seat.actor steps ++ l) answer
+
+-- ---- serve
+-- What is known of the run that was named for a request of this route: the door's answer where the request is for whole pages. For another request the
+-- door isn't asked.
+abbrev pub IsNamed : Route → (Option ℕ → Type 0) → Option ℕ → Type 0
+IsNamed (Route.Class class) Answers found = found ≡ None
+IsNamed Route.Bitfit Answers found = found ≡ None
+IsNamed Route.Large Answers found = Answers found
+
+-- the actor may make a request of this route, for n pages where it is for whole ones, and what it comes to
+abbrev pub MayRequestBy : Route → Profile → Cached → ℕ → ℕ → View → Type 0
+MayRequestBy (Route.Class class) f c n spare v = MayAllocate f c spare v
+MayRequestBy Route.Bitfit f c n spare v = MayAllocate f c spare v
+MayRequestBy Route.Large f c n spare v = MayAllocatePages f c n spare v
+
+abbrev pub AllocatesBy : Route → Wanted → Option ℕ → Bool → Cached → Cached → Standing → Standing → Result Block NoRoom → Type 0
+AllocatesBy (Route.Class class) wanted found tells c c' desk desk' answer = Allocates wanted tells c c' desk desk' answer
+AllocatesBy Route.Bitfit wanted found tells c c' desk desk' answer = Allocates wanted tells c c' desk desk' answer
+AllocatesBy Route.Large wanted found tells c c' desk desk' answer = AllocatesPages wanted found tells c c' desk desk' answer
+
+-- the actor is at rest, and there is room for the request's events
+abbrev pub MayRequest : Profile → Wanted → Cached → ℕ → View → Type 0
+MayRequest f wanted c spare v = MayRequestBy wanted.route f c (pages_of wanted) spare v
+
+-- A request goes by its route, with the run that the door named for it or none.
+pub record AllocatesRequest (Answers : Option ℕ → Type 0) (wanted : Wanted) (tells : Bool) (c c' : Cached) (desk desk' : Standing) (answer : Result Block NoRoom) : Type 0 where
+  pub found : Option ℕ
+  pub named : IsNamed wanted.route Answers found
+  pub allocates : AllocatesBy wanted.route wanted found tells c c' desk desk' answer
 
 -- ---- settle
 -- each of the runs was handed on, in order, and the index changed by each

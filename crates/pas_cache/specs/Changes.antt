@@ -6,7 +6,7 @@ use Rattle.pas_profile.specs.Lives.{turn_of}
 use Rattle.pas_profile.specs.declared.name.Block.{Block}
 use Rattle.pas_profile.specs.declared.word.Word.TheVariants as Word
 use Rattle.pas_bits.specs.Masks.{is_set, IsLowestSet, IsEmpty}
-use Rattle.pas_profile.specs.Runs.{address_of}
+use Rattle.pas_profile.specs.Blocks.{address_of}
 use Rattle.pas_steps.specs.Views.{View}
 use Rattle.pas_steps.specs.Events.{events_by}
 use Rattle.pas_steps.specs.Desks.{made}

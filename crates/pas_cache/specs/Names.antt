@@ -5,7 +5,7 @@ use Rattle.pas_profile.specs.declared.event.FreeFault.{FreeFault}
 use Rattle.pas_profile.specs.declared.event.FreeFault.TheVariants.{Outside, Unaligned}
 use Rattle.pas_profile.specs.declared.name.Name.{Name}
 use Rattle.pas_profile.specs.declared.profile.Profile.{Profile}
-use Rattle.pas_profile.specs.Runs.{address_of}
+use Rattle.pas_profile.specs.Blocks.{address_of}
 use Rattle.pas_steps.specs.Views.{View}
 use Rattle.pas_steps.specs.Calls.{Calls, Does, nothing}
 use Rattle.pas_steps.specs.Desks.{Standing}

@@ -12,7 +12,8 @@ use Rattle.pas_profile.specs.declared.event.Event.{Event}
 use Rattle.pas_profile.specs.declared.event.NoRoom.{NoRoom}
 use Rattle.pas_profile.specs.declared.name.Block.{Block}
 use Rattle.pas_profile.specs.declared.profile.Profile.{Profile}
-use Rattle.pas_profile.specs.Runs.{in_run, address_of, grain_of, length_of}
+use Rattle.pas_bits.specs.Runs.{in_run}
+use Rattle.pas_profile.specs.Blocks.{address_of, grain_of, length_of}
 use Rattle.pas_steps.specs.Views.{View, KnowsDeed}
 use Rattle.pas_steps.specs.Events.{events_by}
 use Rattle.pas_steps.specs.Agreement.{Agreed}

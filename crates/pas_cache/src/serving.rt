@@ -1,5 +1,7 @@
 //! A request is served.
-ghost use Rattle.std.specs.Prelude.{◌≡◌};
+ghost use Rattle.std.specs.Prelude.{◌≡◌, ◌≤◌, max};
+ghost use Rattle.pas_profile.specs.Routes.{room_by};
+ghost use Rattle.pas_profile.specs.declared.directory.Route.TheVariants as TheRoute;
 ghost use Rattle.pas_steps.specs.Desks.{CanCall};
 ghost use Rattle.pas_cache.specs.Serves.{IsFilling, filling_in};
 ghost use Rattle.pas_cache.specs.Parts.{MayObtain, ServesFrom};
@@ -9,14 +11,15 @@ use crate::giving::give_lowest;
 use crate::obtaining::obtain;
 use arrayvec::ArrayVec;
 use pas_heap::HeapTable;
-use pas_profile::limits::MOST_LOCALS;
+use pas_large::{Door, NoIndex};
+use pas_profile::limits::{GRAIN_BYTES, MOST_LOCALS};
 use pas_profile::{Block, Directory, NoRoom, Route};
 use pas_segregated::Slots;
 use pas_steps::Desk;
 
 /// Serves a request of the class, which is at home in the directory, from the local allocators.
 #[inline(always)]
-fn serve<D: Desk>(
+fn serve_class<D: Desk>(
     desk: &mut D,
     locals: &mut ArrayVec<Slots, MOST_LOCALS>,
     home: Directory,
@@ -36,25 +39,57 @@ fn serve<D: Desk>(
     }
 }
 
+/// The room of a bit-fit block for so many bytes, of which none count as one: whole grains.
+fn bitfit_room(size: u32) -> u32
+    requires { size ≤ 2048 }
+    ensures { result ≡ room_by TheRoute.Bitfit (max size 1) }
+{
+    size.max(1).div_ceil(GRAIN_BYTES) * GRAIN_BYTES
+}
+
 impl ThreadCache {
-    ghost use Rattle.std.specs.Prelude.{◌≡◌};
+    ghost use Rattle.std.specs.Prelude.{◌≡◌, ◌+◌, ◌-◌, ◌/◌};
     ghost use Rattle.pas_profile.specs.Profiles.{IsAdmitted};
     ghost use Rattle.pas_profile.specs.Requests.{route_in};
     ghost use Rattle.pas_cache.specs.Serves.{IsSmallRoute, wanted_for};
     ghost use Rattle.pas_cache.specs.Caches.{cached, seat_of};
-    ghost use Rattle.pas_cache.specs.Calls.{MayAllocate, Allocates};
+    ghost use Rattle.pas_cache.specs.Calls.{MayAllocate, Allocates, MayRequest, AllocatesRequest};
 
-    /// A block of the heap for so many bytes, at a multiple of the alignment. The request is one that the profile admits, and its route isn't
-    /// whole pages.
+    /// A block of the heap for so many bytes, at a multiple of the alignment. The request is one that the profile admits.
     ///
     /// Of a class: where the local allocator of the heap and the class has a slot, its lowest one is given in two steps. Otherwise one without a
     /// slot is left, the one used longest ago is stopped where 32 are there, and new slots are searched for, in shared pages where the heap is
     /// declared as shared: in the offered pages from the lowest up, then in the lowest page without a deed. A bit-fit request is served from the
-    /// heap's bit-fit pages, and nothing is cached.
+    /// heap's bit-fit pages, and nothing is cached. One for whole pages goes as `alloc_large` says; no other asks the door.
     ///
     /// `NoSpace` and `Held` come where no page serves: `Held` with the lowest page of the directory that was in some actor's hands. There is room
-    /// for two events, and for a third one where the deed of some page isn't known.
+    /// for two events, and for a third one where the deed of some page isn't known; for whole pages as `alloc_large` says.
     #[inline(always)]
+    pub fn serve<D: Desk, O: Door>(
+        &mut self,
+        desk: &mut D,
+        door: &mut O,
+        heap: u8,
+        size: u32,
+        align: u32,
+    ) -> Result<Block, NoRoom>
+        requires admitted { IsAdmitted (D.standing desk.old).seat.profile size align heap }
+        requires can { CanCall (D.standing desk.old) (MayRequest (D.standing desk.old).seat.profile (wanted_for (D.standing desk.old).seat.profile heap size align) (cached self.old) (D.spare_of desk.old)) }
+        ensures allocates { AllocatesRequest (O.answers door.old door.new heap ((size + 4096 - 1) / 4096)) (wanted_for (D.standing desk.old).seat.profile heap size align) D.tells (cached self.old) (cached self.new) (D.standing desk.old) (D.standing desk.new) result }
+        ensures actor { seat_of self.new ≡ seat_of self.old }
+        ensures home { D.home desk.new ≡ D.home desk.old }
+    {
+        match desk.profile().route(size, align) {
+            Route::Class(class) => {
+                let kind = HeapTable::new(desk.profile()).kind_for(heap, class);
+                serve_class(desk, &mut self.locals, Directory { heap, kind }, class)
+            }
+            Route::Bitfit => pas_bitfit::alloc(desk, heap, bitfit_room(size), align),
+            Route::Large => self.alloc_large(desk, door, heap, size),
+        }
+    }
+
+    /// The same where the route isn't whole pages.
     pub fn alloc<D: Desk>(
         &mut self,
         desk: &mut D,
@@ -69,16 +104,6 @@ impl ThreadCache {
         ensures actor { seat_of self.new ≡ seat_of self.old }
         ensures home { D.home desk.new ≡ D.home desk.old }
     {
-        match desk.profile().route(size, align) {
-            Route::Class(class) => {
-                let kind = HeapTable::new(desk.profile()).kind_for(heap, class);
-                serve(desk, &mut self.locals, Directory { heap, kind }, class)
-            }
-            Route::Bitfit => {
-                let room = desk.profile().room_for(size, align);
-                pas_bitfit::alloc(desk, heap, room, align)
-            }
-            Route::Large => unreachable!(),
-        }
+        self.serve(desk, &mut NoIndex, heap, size, align)
     }
 }

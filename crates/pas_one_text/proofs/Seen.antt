@@ -10,7 +10,8 @@ use Rattle.pas_profile.specs.declared.event.Why.TheVariants as Why
 use Rattle.pas_profile.specs.declared.name.Block.{Block}
 use Rattle.pas_profile.specs.declared.name.Name.{Name}
 use Rattle.pas_profile.specs.declared.profile.Profile.{Profile}
-use Rattle.pas_profile.specs.Runs.{count_below, grain_of}
+use Rattle.pas_bits.specs.Bits.{count_below}
+use Rattle.pas_profile.specs.Blocks.{grain_of}
 use Rattle.pas_machine.specs.State.{deed_in, epoch_in}
 use Rattle.pas_machine.specs.Totals.{deeds_total, backed_total, live_total, given_total, ended_total}
 use Rattle.pas_report.specs.Marks.{Marked}

@@ -1,7 +1,8 @@
 -- FREES, FLUSHES AND STOPS.
 use Rattle.std.specs.Prelude.{ℕ, ◌+◌, ◌*◌, ◌%◌, ◌==◌, nat_le, nat_lt, ◌&&◌, if◌then◌else◌, List, [], ◌∷◌, ◌++◌, length, Option, None, Some}
 use Rattle.std.specs.List.{filter}
-use Rattle.pas_profile.specs.Runs.{meets_page, address_of, grain_of, length_of}
+use Rattle.pas_bits.specs.Runs.{meets_page}
+use Rattle.pas_profile.specs.Blocks.{address_of, grain_of, length_of}
 use Rattle.pas_profile.specs.declared.event.Event.{Event}
 use Rattle.pas_profile.specs.declared.event.FreeFault.{FreeFault}
 use Rattle.pas_profile.specs.declared.event.Why.{Why}

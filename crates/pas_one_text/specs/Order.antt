@@ -8,7 +8,7 @@ use Rattle.pas_trace.specs.declared.plan.Op.{Op}
 use Rattle.pas_trace.specs.declared.plan.What.{What}
 use Rattle.pas_trace.specs.Plans.{Parsed, parsed, phases_in, shared_in}
 use Rattle.pas_report.specs.declared.record.Record.{Record}
-use Rattle.pas_answers.specs.Acts.{Act, numbers_from, acts_of}
+use Rattle.pas_trace.specs.Acts.{Act, numbers_from, acts_of}
 use Rattle.pas_one_text.specs.State.{World, each, no_cache, cache_of, set_cache, says}
 use Rattle.pas_one_text.specs.Classes.{serves_class}
 use Rattle.pas_one_text.specs.Runs.{serves_bitfit, serves_pages}

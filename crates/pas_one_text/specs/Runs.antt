@@ -5,7 +5,7 @@ use Rattle.pas_profile.specs.declared.directory.Directory.{Directory}
 use Rattle.pas_profile.specs.declared.directory.Kind.{Kind}
 use Rattle.pas_profile.specs.declared.event.NoRoom.{NoRoom}
 use Rattle.pas_profile.specs.declared.profile.Profile.{Profile}
-use Rattle.pas_answers.specs.Acts.{numbers_from}
+use Rattle.pas_trace.specs.Acts.{numbers_from}
 use Rattle.pas_one_text.specs.State.{World, each}
 use Rattle.pas_one_text.specs.Pages.{page_numbers, each_of, are_free, is_empty, is_unowned, is_offered}
 use Rattle.pas_one_text.specs.Searches.{refusal, searched, deeds, backs, readies, address_on, gives, refuses}

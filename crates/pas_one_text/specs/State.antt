@@ -2,7 +2,7 @@
 -- the events, the caches and the hints.
 use Rattle.std.specs.Prelude.{ℕ, ◌-◌, ◌==◌, not, Bool, if◌then◌else◌, List, [], ◌∷◌, Option}
 use Rattle.std.specs.List.{find, filter}
-use Rattle.pas_profile.specs.Runs.{address_of}
+use Rattle.pas_profile.specs.Blocks.{address_of}
 use Rattle.pas_profile.specs.declared.event.Event.{Event}
 use Rattle.pas_profile.specs.declared.name.Block.{Block}
 use Rattle.pas_profile.specs.declared.name.Name.{Name}

@@ -1,2 +1,2 @@
-pub mod Shown
+mod Shown
 mod Answered

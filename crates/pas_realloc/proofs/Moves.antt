@@ -1,9 +1,8 @@
 -- A block gets another size.
-use Rattle.std.proofs.Common.{◌≡◌, ◌≢◌, ℕ, ◌+◌, ◌-◌, ◌/◌, ◌%◌, ◌<◌, ◌≤◌, ◌==◌, ◌&&◌, ◌++◌, true, false, if◌then◌else◌, [], length, Option, None, Result, Ok, Err, refl, ap, sym, ◌∙◌, subst, arith, true≢false, max}
+use Rattle.std.proofs.Common.{◌≡◌, ℕ, ◌%◌, ◌≤◌, ◌==◌, ◌&&◌, ◌++◌, true, false, if◌then◌else◌, [], length, Option, Result, Ok, Err, refl, ap, sym, ◌∙◌, subst, arith, true≢false, max}
 use Rattle.std.specs.Prelude.{nat_le}
 use Rattle.std.proofs.lemmas.Bool.{and_parts, and_from, leb-true, le-leb, eqb-true, eq-eqb}
-use Rattle.pas_profile.specs.Runs.{address_of}
-use Rattle.pas_profile.specs.declared.directory.Route.{Route}
+use Rattle.pas_profile.specs.Blocks.{address_of}
 use Rattle.pas_profile.specs.declared.event.FreeFault.{FreeFault}
 use Rattle.pas_profile.specs.declared.event.FreeFault.TheVariants.{Outside, Unaligned}
 use Rattle.pas_profile.specs.declared.event.NoRoom.{NoRoom}
@@ -11,36 +10,24 @@ use Rattle.pas_profile.specs.declared.name.Block.{Block}
 use Rattle.pas_profile.specs.declared.name.Name.{Name}
 use Rattle.pas_profile.specs.declared.profile.Profile.{Profile}
 use Rattle.pas_trace.specs.Reasons.{cost_of_size}
-use Rattle.pas_trace.proofs.Costs.{small_cost, large_cost}
 use Rattle.pas_steps.specs.Desks.{Seat, Standing, CanCall}
 use Rattle.pas_steps.specs.Events.{events_by}
 use Rattle.pas_steps.proofs.Called.{call_none, call_then, next_call}
 use Rattle.pas_steps.proofs.SpareRoom.{Spares, spare_falls}
-use Rattle.pas_steps.proofs.Unknown.{has_room}
+use Rattle.pas_steps.proofs.Adding.{adds_none, can_call}
 use Rattle.pas_cache.specs.Caches.{Cached, AtRest}
-use Rattle.pas_cache.specs.Calls.{MayAllocate, MayAllocatePages, TakesEntry, Frees}
+use Rattle.pas_cache.specs.Calls.{MayRequest, IsNamed, TakesEntry, Frees}
 use Rattle.pas_free_log.specs.Logs.{entry_of}
 use Rattle.pas_cache.specs.Names.{IsInRegion, IsFaultOf}
-use Rattle.pas_cache.specs.Serves.{Wanted, IsSmallRoute}
+use Rattle.pas_cache.specs.Serves.{Wanted, wanted_for}
 use Rattle.pas_cache.specs.declared.moving.Moved.TheVariants.{Kept, New}
 use Rattle.pas_answers.specs.Calls.{Serves}
-use Rattle.pas_realloc.specs.Moves.{Suits, flush_of_full, MayMove, MayPlace, IsNamed, Moves}
+use Rattle.pas_answers.proofs.Requests.{may_request}
+use Rattle.pas_realloc.specs.Moves.{Suits, flush_of_full, MayMove, Moves}
 
 -- ---- the request
-pub can_allocate : {σ : Standing} (c : Cached) (size spare : ℕ) → size ≤ 2048 → CanCall σ (MayPlace σ.seat.profile c (cost_of_size size) spare) → CanCall σ (MayAllocate σ.seat.profile c spare)
-can_allocate {σ} c size spare small can =
-    let cost = small_cost size small in let room = can.met.room in
-    record { view = can.view; whole = can.whole; stood = can.stood; met = record { rest = can.met.rest; room = has_room σ.seat.profile 2 spare can.view (omega (arith, cost, room)) } }
-
-pub can_allocate_pages : {σ : Standing} (c : Cached) (size spare : ℕ) → 2048 < size → CanCall σ (MayPlace σ.seat.profile c (cost_of_size size) spare)
-    → CanCall σ (MayAllocatePages σ.seat.profile c ((size + 4096 - 1) / 4096) spare)
-can_allocate_pages {σ} c size spare large can =
-    let cost = large_cost size large in let room = can.met.room in
-    let pages : (size + 4095) / 4096 ≡ (size + 4096 - 1) / 4096 = omega arith in
-    record { view = can.view; whole = can.whole; stood = can.stood; met = record { rest = can.met.rest; room = omega (arith, room, cost, pages) } }
-
-pub can_place : {σ : Standing} (c : Cached) (cost spare : ℕ) → CanCall σ (MayMove σ.seat.profile c cost spare) → CanCall σ (MayPlace σ.seat.profile c cost spare)
-can_place c cost spare can = record { view = can.view; whole = can.whole; stood = can.stood; met = record { rest = can.met.rest; room = (let room = can.met.room in omega (arith, room)) } }
+pub can_serve : {σ : Standing} (c : Cached) (heap size align spare : ℕ) → CanCall σ (MayMove σ.seat.profile c (cost_of_size size) spare) → CanCall σ (MayRequest σ.seat.profile (wanted_for σ.seat.profile heap size align) c spare)
+can_serve {σ} c heap size align spare can = can_call adds_none can (λ v l stood met. let room = met.room in may_request σ.seat.profile c heap size align spare v met.rest (omega (arith, room)))
 
 -- ---- whether it suits
 pub suiting : (old : Block) (size align : ℕ) → (nat_le (max size 1) old.room && (address_of old.name % align == 0)) ≡ true → Suits old size align
@@ -48,15 +35,6 @@ suiting old size align is = let parts = and_parts (nat_le (max size 1) old.room)
 
 pub unsuiting : (old : Block) (size align : ℕ) → (nat_le (max size 1) old.room && (address_of old.name % align == 0)) ≡ false → Suits old size align → ⊥
 unsuiting old size align other suits = true≢false (sym (and_from (nat_le (max size 1) old.room) (address_of old.name % align == 0) (le-leb (max size 1) old.room suits.0) (eq-eqb (address_of old.name % align) 0 suits.1)) ∙ other)
-
--- ---- the run that was named
-pub none_named : (Answers : Option ℕ → Type 0) (route : Route) → IsSmallRoute route → IsNamed route Answers None
-none_named Answers (Route.Class class) small = refl
-none_named Answers Route.Bitfit small = refl
-none_named Answers Route.Large small = absurd small
-
-pub door_named : (Answers : Option ℕ → Type 0) (route : Route) (found : Option ℕ) → route ≡ Route.Large → Answers found → IsNamed route Answers found
-door_named Answers route found large answers = subst (λ r. IsNamed r Answers found) (sym large) answers
 
 -- ---- what it comes to
 pub kept : {σ : Standing} (Answers : Option ℕ → Type 0) (wanted : Wanted) (old : Block) (size align : ℕ) (c : Cached) → Suits old size align → Moves Answers wanted old size align c c σ σ (Ok Kept)

@@ -1,7 +1,6 @@
 -- How a block gets another size.
-use Rattle.std.specs.Prelude.{ℕ, ◌+◌, ◌%◌, ◌≤◌, ◌≡◌, max, nat_le, if◌then◌else◌, List, [], ◌++◌, length, Option, None, Result, Ok, Err}
-use Rattle.pas_profile.specs.Runs.{address_of}
-use Rattle.pas_profile.specs.declared.directory.Route.{Route}
+use Rattle.std.specs.Prelude.{ℕ, ◌+◌, ◌%◌, ◌≤◌, ◌≡◌, max, nat_le, if◌then◌else◌, List, [], ◌++◌, length, Option, Result, Ok, Err}
+use Rattle.pas_profile.specs.Blocks.{address_of}
 use Rattle.pas_profile.specs.declared.event.NoRoom.{NoRoom}
 use Rattle.pas_profile.specs.declared.name.Block.{Block}
 use Rattle.pas_profile.specs.declared.profile.Profile.{Profile}
@@ -12,7 +11,7 @@ use Rattle.pas_steps.specs.Views.{View}
 use Rattle.pas_steps.specs.declared.step.Made.{Made}
 use Rattle.pas_cache.specs.Caches.{Cached, AtRest}
 use Rattle.pas_free_log.specs.Logs.{entry_of}
-use Rattle.pas_cache.specs.Calls.{Rests, TakesEntry}
+use Rattle.pas_cache.specs.Calls.{Rests, TakesEntry, IsNamed}
 use Rattle.pas_cache.specs.Kinds.{allocating}
 use Rattle.pas_cache.specs.Serves.{Wanted, ServesRequest, IsBlockFor}
 use Rattle.pas_cache.specs.declared.moving.Moved.{Moved}
@@ -33,18 +32,6 @@ flush_of_full log = if nat_le 64 (length log) then 64 else 0
 pub record MayMove (f : Profile) (c : Cached) (cost spare : ℕ) (v : View) : Type 0 where
   pub rest : AtRest f c v
   pub room : cost + unknown_pages f v + flush_of_full c.log ≤ spare
-
--- .. for the request alone
-pub record MayPlace (f : Profile) (c : Cached) (cost spare : ℕ) (v : View) : Type 0 where
-  pub rest : AtRest f c v
-  pub room : cost + unknown_pages f v ≤ spare
-
--- What is known of the run that was named for a request of this route: the door's answer where the request is for whole pages. For another request the
--- door isn't asked.
-abbrev pub IsNamed : Route → (Option ℕ → Type 0) → Option ℕ → Type 0
-IsNamed (Route.Class class) Answers found = found ≡ None
-IsNamed Route.Bitfit Answers found = found ≡ None
-IsNamed Route.Large Answers found = Answers found
 
 -- It suits as it is: nothing was done.
 pub record Keeps (old : Block) (size align : ℕ) (c c' : Cached) (steps : List Made) : Type 0 where

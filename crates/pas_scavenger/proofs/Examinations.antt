@@ -2,9 +2,9 @@
 use Rattle.std.proofs.Common.{◌≡◌, ℕ, ◌*◌, ◌/◌, ◌%◌, ◌<◌, ◌==◌, nat_lt, Bool, true, false, ◌&&◌, ◌||◌, length, slice_index, slice_set, refl, ap, sym, ◌∙◌, arith, inl, inr, get_or-set_same, get_or-set_other, ◌+◌, not, if◌then◌else◌, List, [], ◌∷◌, ◌++◌, Option, None, Some, subst, bit_and, ◌≢◌, ◌≤◌, append_assoc, length-append}
 use Rattle.std.proofs.Math.Bool.{or-false}
 use Rattle.std.proofs.lemmas.Bool.{cases_eq, cases_lt, eq-eqb, ne_eqb, lt-ltb, le-ltb, ltb-true, eqb-true, cases_Bool, and_from, and_right}
-use Rattle.pas_profile.specs.Classes.{has_bit}
-use Rattle.pas_profile.specs.Runs.{in_run}
-use Rattle.pas_profile.proofs.Runs.{to_run, run_of}
+use Rattle.pas_bits.specs.Bits.{has_bit}
+use Rattle.pas_bits.specs.Runs.{in_run}
+use Rattle.pas_bits.proofs.Runs.{to_run, run_of}
 use Rattle.pas_bits.specs.declared.mask.Mask4.{Mask4}
 use Rattle.pas_bits.specs.Masks.{is_set}
 use Rattle.pas_bits.proofs.Words.{none_past, full_bit}

@@ -11,7 +11,7 @@ use Rattle.pas_steps.proofs.SpareRoom.{Spares, spare_falls}
 use Rattle.std.specs.Prelude.{reverse, map}
 use Rattle.std.proofs.lemmas.List.{reverse-append, length-reverse, append-nil}
 use Rattle.std.proofs.lemmas.Bool.{cases_eq}
-use Rattle.pas_profile.specs.Classes.{has_bit}
+use Rattle.pas_bits.specs.Bits.{has_bit}
 use Rattle.pas_profile.specs.declared.event.Outcome.{Outcome}
 use Rattle.pas_profile.specs.declared.event.Outcome.TheVariants.{Unbacked}
 use Rattle.pas_profile.specs.Profiles.{IsPage, vector_words}
@@ -49,7 +49,7 @@ unbacks_append : (k epoch : ℕ) (xs ys : List (ℕ × Outcome)) → unbacks_in 
 unbacks_append k epoch [] ys = refl
 unbacks_append k epoch (x ∷ xs) ys = ap (λ es. unback_of k epoch x.0 x.1 ++ es) (unbacks_append k epoch xs ys) ∙ sym (append_assoc (unback_of k epoch x.0 x.1) (unbacks_in k epoch xs) (unbacks_in k epoch ys))
 
-one_unback : (k epoch page : ℕ) (o : Outcome) → length (unback_of k epoch page o) ≤ 1
+pub one_unback : (k epoch page : ℕ) (o : Outcome) → length (unback_of k epoch page o) ≤ 1
 one_unback k epoch page Unbacked = omega arith
 one_unback k epoch page other = omega arith
 

@@ -1,7 +1,7 @@
 -- A pass of the scavenger.
 use Rattle.std.specs.Prelude.{ℕ, zero, suc, ◌+◌, ◌*◌, ◌%◌, ◌≤◌, ◌≡◌, true, false, if◌then◌else◌, List, [], ◌∷◌, ◌++◌, Option, None, Some, length, map, reverse}
 use Rattle.std.specs.List.{flat_map}
-use Rattle.pas_profile.specs.Classes.{has_bit}
+use Rattle.pas_bits.specs.Bits.{has_bit}
 use Rattle.pas_profile.specs.Profiles.{vector_words}
 use Rattle.pas_profile.specs.declared.profile.Profile.{Profile}
 use Rattle.pas_profile.specs.declared.event.Event.{Event}

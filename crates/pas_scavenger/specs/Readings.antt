@@ -1,6 +1,6 @@
 -- Free words of a page that are taken in order until one isn't all ones.
 use Rattle.std.specs.Prelude.{ℕ, ◌/◌, ◌%◌, ◌==◌, nat_lt, Bool, ◌&&◌, ◌||◌, List, ◌∷◌, Option, None, Some}
-use Rattle.pas_profile.specs.Classes.{has_bit}
+use Rattle.pas_bits.specs.Bits.{has_bit}
 use Rattle.pas_rights.specs.Looks.{AreUsed}
 use Rattle.pas_rights.specs.Takes.{HasRight, takes}
 use Rattle.pas_rights.specs.Words.{ones}

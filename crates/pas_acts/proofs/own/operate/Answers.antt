@@ -1,16 +1,23 @@
-use Rattle.std.proofs.Common.{refl}
-use Rattle.pas_acts.proofs.Working.{may_operate, its_own, room_now, operated}
+use Rattle.std.proofs.Common.{refl, sym, ◌∙◌}
+use Rattle.pas_answers.proofs.Kept.{own_what}
+use Rattle.pas_acts.proofs.Working.{no_chore, may_operate, its_own, room_now, operated}
 use Rattle.pas_acts.proofs.own.operate.Goals as goal
 
 pub freed-meant-requires : goal.freed-meant-requires
 freed-meant-requires g c = its_own c.requires.stands.4.names
 
 pub operate-came-requires : goal.operate-came-requires
-operate-came-requires g c = record { stands = (c.requires.stands.0, _, c.requires.stands.3, may_operate c.requires.stands.4 c.freed-meant.ensures) }
+operate-came-requires g c =
+    let is = own_what c.args.op.what c.in-Own.task (sym c.work.ensures ∙ c.in-Own.is) in
+    record { stands = (c.requires.stands.0, c.args.op, _, c.requires.stands.3, is, may_operate is c.requires.stands.4 c.freed-meant.ensures) }
 
 pub keep-requires : goal.keep-requires
-keep-requires g c = room_now c.requires.stands.4.names
+keep-requires g c = room_now (own_what c.args.op.what c.in-Own.task (sym c.work.ensures ∙ c.in-Own.is)) c.requires.stands.4.names
 
-pub returns-clause-works : goal.returns-clause-works
-returns-clause-works g c = λ f next later p at.
-    operated at (c.operate-came.ensures.operates f _ p (may_operate at c.freed-meant.ensures)) (record { book = refl; requests = c.keep.ensures.kept; room = c.keep.ensures.room }) c.operate-came.ensures.turn
+pub returns-in-Own-clause-works : goal.returns-in-Own-clause-works
+returns-in-Own-clause-works g c = λ f next later p at.
+    let is = own_what c.args.op.what c.in-Own.task (sym c.work.ensures ∙ c.in-Own.is) in
+    operated is at (c.operate-came.ensures.operates f c.args.op _ p is (may_operate is at c.freed-meant.ensures)) (record { book = refl; requests = c.keep.ensures.kept; room = c.keep.ensures.room }) c.operate-came.ensures.turn
+
+pub returns-in_default-clause-works : goal.returns-in_default-clause-works
+returns-in_default-clause-works g c = λ f next later p at. absurd (no_chore f _ at.names.asked at.names.fit.1 (sym c.work.ensures ∙ c.in_default.is))

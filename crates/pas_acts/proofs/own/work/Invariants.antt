@@ -2,7 +2,7 @@
 use Rattle.std.proofs.Common.{◌≡◌, ◌≤◌, List, ◌++◌, drop}
 use Rattle.pas_profile.specs.declared.profile.Profile.{Profile}
 use Rattle.pas_cache.specs.Caches.{cached}
-use Rattle.pas_answers.specs.Acts.{Act, own_acts}
+use Rattle.pas_trace.specs.Acts.{Act, own_acts}
 use Rattle.pas_answers.specs.Answers.{Progress}
 use Rattle.pas_acts.specs.NameBooks.{table}
 use Rattle.pas_acts.specs.Works.{Later, keeps, ThreadAt, Works}

@@ -5,7 +5,7 @@ use Rattle.pas_answers.proofs.Frees.{frees_taken, frees_refused}
 use Rattle.pas_answers.proofs.answering.free.Goals as goal
 
 pub returns-in-Ok-clause-frees : goal.returns-in-Ok-clause-frees
-returns-in-Ok-clause-frees g c = frees_taken c.args.block (cached c.args.cache.now) (cached c.free.new.self) c.in-Ok.field-0 c.free.ensures.frees c.in-Ok.is
+returns-in-Ok-clause-frees g c = frees_taken c.args.block (cached c.args.cache.now) (cached c.free.new.self) c.in-Ok.field-0 c.in-Ok.ensures.frees
 
 pub returns-in-Err-Outside-clause-frees : goal.returns-in-Err-Outside-clause-frees
 returns-in-Err-Outside-clause-frees g c =

@@ -3,16 +3,16 @@ use Rattle.pas_answers.proofs.Frees.{performs_free, performs_skip, performs_raw,
 use Rattle.pas_answers.proofs.answering.perform.Goals as goal
 
 pub returns-in-Some-clause-performs : goal.returns-in-Some-clause-performs
-returns-in-Some-clause-performs g c = performs_free c.args.what c.args.meant (cached c.args.cache.now) (cached c.free.new.cache) c.in-Free.name c.in-Some.block c.in-Free.is c.in-Some.is c.free.ensures.frees
+returns-in-Some-clause-performs g c = performs_free c.args.task c.args.meant (cached c.args.cache.now) (cached c.free.new.cache) c.in-Free.name c.in-Some.block c.in-Free.is c.in-Some.is c.free.ensures.frees
 
 pub returns-in-None-clause-performs : goal.returns-in-None-clause-performs
-returns-in-None-clause-performs g c = performs_skip c.args.what c.args.meant (cached c.args.cache.now) c.in-Free.name c.in-Free.is c.in-None.is
+returns-in-None-clause-performs g c = performs_skip c.args.task c.args.meant (cached c.args.cache.now) c.in-Free.name c.in-Free.is c.in-None.is
 
-pub returns-in-Raw-clause-performs : goal.returns-in-Raw-clause-performs
-returns-in-Raw-clause-performs g c = performs_raw c.args.what c.args.meant (cached c.args.cache.now) (cached c.free-in-Raw.new.cache) c.in-Raw.block c.in-Raw.is c.free-in-Raw.ensures.frees
+pub returns-in-FreeRaw-clause-performs : goal.returns-in-FreeRaw-clause-performs
+returns-in-FreeRaw-clause-performs g c = performs_raw c.args.task c.args.meant (cached c.args.cache.now) (cached c.free-in-FreeRaw.new.cache) c.in-FreeRaw.block c.in-FreeRaw.is c.free-in-FreeRaw.ensures.frees
 
 pub returns-in-Flush-clause-performs : goal.returns-in-Flush-clause-performs
-returns-in-Flush-clause-performs g c = performs_flush c.args.what c.args.meant (cached c.args.cache.now) (cached c.flush.new.self) c.in-Flush.is c.flush.ensures.flushes
+returns-in-Flush-clause-performs g c = performs_flush c.args.task c.args.meant (cached c.args.cache.now) (cached c.flush.new.self) c.in-Flush.is c.flush.ensures.flushes
 
 pub returns-in-Stop-clause-performs : goal.returns-in-Stop-clause-performs
-returns-in-Stop-clause-performs g c = performs_stop c.args.what c.args.meant (cached c.args.cache.now) (cached c.stop.new.self) c.in-Stop.is c.stop.ensures.stops
+returns-in-Stop-clause-performs g c = performs_stop c.args.task c.args.meant (cached c.args.cache.now) (cached c.stop.new.self) c.in-Stop.is c.stop.ensures.stops

@@ -1,26 +1,27 @@
 use Rattle.std.proofs.Common.{sym, ◌∙◌}
 use Rattle.pas_trace.specs.Reasons.{cost_of_size}
 use Rattle.pas_cache.specs.Caches.{cached}
-use Rattle.pas_realloc.proofs.Moves.{suiting, unsuiting, can_place, kept, refused, room_to_free, can_free, no_fault, replaced, in_same}
+use Rattle.pas_answers.proofs.Requests.{serves}
+use Rattle.pas_realloc.proofs.Moves.{suiting, unsuiting, can_serve, kept, refused, room_to_free, can_free, no_fault, replaced, in_same}
 use Rattle.pas_realloc.proofs.moving.reallocate.Goals as goal
 
 pub returns-then-suits-clause-moves : goal.returns-then-suits-clause-moves
 returns-then-suits-clause-moves g c = kept _ _ c.args.old c.args.size c.args.align (cached c.args.cache.now) (suiting c.args.old c.args.size c.args.align (sym c.suits.ensures ∙ c.if-suits.true))
 
-pub place-requires-clause-can : goal.place-requires-clause-can
-place-requires-clause-can g c = can_place (cached c.args.cache.now) (cost_of_size c.args.size) (g.D.Desk.spare_of c.args.desk.now) c.requires.can
+pub serve-requires-clause-can : goal.serve-requires-clause-can
+serve-requires-clause-can g c = can_serve (cached c.args.cache.now) c.args.old.heap c.args.size c.args.align (g.D.Desk.spare_of c.args.desk.now) c.requires.can
 
 pub returns-in-Err-clause-moves : goal.returns-in-Err-clause-moves
-returns-in-Err-clause-moves g c = let serves = c.in-Err.ensures.serves in refused _ (cost_of_size c.args.size) _ serves.0 c.args.old c.args.size c.args.align (cached c.args.cache.now) (cached c.place.new.cache) c.in-Err.room (unsuiting c.args.old c.args.size c.args.align (sym c.suits.ensures ∙ c.if-suits.false)) serves.1 serves.2
+returns-in-Err-clause-moves g c = let r = c.in-Err.ensures.allocates in let s = serves (cached c.args.cache.now) (cached c.serve.new.self) c.args.old.heap c.args.size c.args.align r in refused _ (cost_of_size c.args.size) _ r.found c.args.old c.args.size c.args.align (cached c.args.cache.now) (cached c.serve.new.self) c.in-Err.room (unsuiting c.args.old c.args.size c.args.align (sym c.suits.ensures ∙ c.if-suits.false)) r.named s
 
 pub free-requires-clause-room : goal.free-requires-clause-room
-free-requires-clause-room g c = let serves = c.in-Ok.ensures.serves in room_to_free (cost_of_size c.args.size) (g.D.Desk.spare_of c.args.desk.now) (g.D.Desk.spare_of c.place.new.desk) _ serves.0 (cached c.args.cache.now) (cached c.place.new.cache) c.in-Ok.block serves.2 c.requires.can (g.met.D.Desk.spares c.args.desk.now) (g.met.D.Desk.spares c.place.new.desk)
+free-requires-clause-room g c = let r = c.in-Ok.ensures.allocates in let s = serves (cached c.args.cache.now) (cached c.serve.new.self) c.args.old.heap c.args.size c.args.align r in room_to_free (cost_of_size c.args.size) (g.D.Desk.spare_of c.args.desk.now) (g.D.Desk.spare_of c.serve.new.desk) _ r.found (cached c.args.cache.now) (cached c.serve.new.self) c.in-Ok.block s c.requires.can (g.met.D.Desk.spares c.args.desk.now) (g.met.D.Desk.spares c.serve.new.desk)
 
 pub free-requires-clause-can : goal.free-requires-clause-can
-free-requires-clause-can g c = let serves = c.in-Ok.ensures.serves in can_free (cost_of_size c.args.size) (g.D.Desk.spare_of c.args.desk.now) _ serves.0 (cached c.args.cache.now) (cached c.place.new.cache) c.in-Ok.block serves.2 c.requires.can
+free-requires-clause-can g c = let r = c.in-Ok.ensures.allocates in let s = serves (cached c.args.cache.now) (cached c.serve.new.self) c.args.old.heap c.args.size c.args.align r in can_free (cost_of_size c.args.size) (g.D.Desk.spare_of c.args.desk.now) _ r.found (cached c.args.cache.now) (cached c.serve.new.self) c.in-Ok.block s c.requires.can
 
 pub unreachable-requires : goal.unreachable-requires
-unreachable-requires g c = no_fault (g.D.Desk.standing c.place.new.desk).seat.profile c.args.old.name c.in-Err-free._fault (in_same c.in-Ok.ensures.serves.2 c.args.old.name c.requires.region) c.in-Err-free.ensures.frees.outcome.fault_is
+unreachable-requires g c = let s = serves (cached c.args.cache.now) (cached c.serve.new.self) c.args.old.heap c.args.size c.args.align c.in-Ok.ensures.allocates in no_fault (g.D.Desk.standing c.serve.new.desk).seat.profile c.args.old.name c.in-Err-free._fault (in_same s c.args.old.name c.requires.region) c.in-Err-free.ensures.frees.outcome.fault_is
 
 pub returns-in-Ok-free-clause-moves : goal.returns-in-Ok-free-clause-moves
-returns-in-Ok-free-clause-moves g c = let serves = c.in-Ok.ensures.serves in replaced _ (cost_of_size c.args.size) _ serves.0 c.args.old c.args.size c.args.align (cached c.args.cache.now) (cached c.place.new.cache) (cached c.free.new.self) c.in-Ok.block (unsuiting c.args.old c.args.size c.args.align (sym c.suits.ensures ∙ c.if-suits.false)) serves.1 serves.2 c.in-Ok-free.ensures.frees
+returns-in-Ok-free-clause-moves g c = let r = c.in-Ok.ensures.allocates in let s = serves (cached c.args.cache.now) (cached c.serve.new.self) c.args.old.heap c.args.size c.args.align r in replaced _ (cost_of_size c.args.size) _ r.found c.args.old c.args.size c.args.align (cached c.args.cache.now) (cached c.serve.new.self) (cached c.free.new.self) c.in-Ok.block (unsuiting c.args.old c.args.size c.args.align (sym c.suits.ensures ∙ c.if-suits.false)) r.named s c.in-Ok-free.ensures.frees

@@ -6,7 +6,7 @@ use Rattle.pas_answers.specs.Fit.{IsBelow}
 use Rattle.pas_answers.specs.Names.{names_held}
 use Rattle.pas_answers.specs.declared.names.Names.{Names}
 use Rattle.pas_acts.specs.NameBooks.{names_asked, ArePlaced}
-use Rattle.pas_answers.specs.Acts.{own_acts}
+use Rattle.pas_trace.specs.Acts.{own_acts}
 use Rattle.std.proofs.lemmas.List.{take_all}
 use Rattle.pas_acts.proofs.Noting.{asks_same, no_request, below_at, placed_next, counted, count_small}
 use Rattle.pas_acts.proofs.names.NameBook.note.Goals as goal
