@@ -5,7 +5,7 @@ use Rattle.std.proofs.lemmas.List.{drop_more}
 use Rattle.pas_trace.specs.Plans.{ops_of}
 use Rattle.pas_trace.specs.declared.plan.Op.{Op}
 use Rattle.pas_trace.specs.declared.plan.Phase.{Phase}
-use Rattle.pas_answers.specs.Acts.{Act, MarksPhase, numbers_from, threads_where, phase_acts, close_acts, acts_from, acts_of}
+use Rattle.pas_trace.specs.Acts.{Act, MarksPhase, numbers_from, threads_where, phase_acts, close_acts, acts_from, acts_of}
 
 -- the numbers that are left
 pub number_next : (k n m : ℕ) → n ≡ m + 1 → numbers_from k n ≡ k ∷ numbers_from (k + 1) m

@@ -1,7 +1,7 @@
 -- The acts of a plan fit where its operations do, and cost no more than they, and one record for each phase and one for the close.
 use Rattle.std.proofs.Common.{◌≡◌, ℕ, zero, suc, ◌+◌, ◌*◌, ◌<◌, ◌≤◌, ◌==◌, Bool, true, false, if◌then◌else◌, cond, List, [], ◌∷◌, ◌++◌, length, refl, ap, sym, subst, arith, append_assoc}
 use Rattle.std.specs.Prelude.{map, not, MatchOption}
-use Rattle.std.specs.List.{filter}
+use Rattle.std.specs.List.{AllByRecursion, filter}
 use Rattle.std.proofs.lemmas.Bool.{eq-eqb}
 use Rattle.std.proofs.Math.Nat.{suc-mul}
 use Rattle.pas_profile.specs.declared.profile.Profile.{Profile}
@@ -11,7 +11,7 @@ use Rattle.pas_trace.specs.declared.plan.Task.{Task}
 use Rattle.pas_trace.specs.declared.plan.Chore.{Chore}
 use Rattle.pas_trace.specs.declared.plan.Work.{Work}
 use Rattle.pas_trace.specs.declared.plan.Op.{Op}
-use Rattle.pas_answers.specs.Acts.{Act, Operates, Settles, Ticks, MakesPass, ReadsEpoch, StopsIdle, MarksPhase, MarksClose, Wakes, Ends, is_active, numbers_from, active_threads, idle_threads, idle_stops, acts_of_chore, acts_of_work, acts_of_op, acts_of_ops, phase_acts, close_acts, acts_from, acts_of}
+use Rattle.pas_trace.specs.Acts.{Act, Operates, Ticks, StopsIdle, MarksPhase, MarksClose, Wakes, Ends, is_active, numbers_from, active_threads, idle_threads, idle_stops, acts_of_chore, acts_of_work, acts_of_op, acts_of_ops, phase_acts, close_acts, acts_from, acts_of}
 use Rattle.pas_answers.specs.Fit.{IsFitTask, IsFitWork, AreFit, AreOfThreads, cost_of_work, cost_of_what, cost_of_act, costs_of, own_cost_of_act, own_costs_of, unbacks_of_act, unbacks_of, sum_over, AreBelow}
 
 -- ---- so many threads
@@ -31,10 +31,18 @@ pub idle_few : (threads : ℕ) (ops : List Op) → length (idle_threads threads 
 idle_few threads ops = let few = chosen_few (λ k. not (is_active ops k)) (numbers_from 1 threads) in let count = numbers_count 1 threads in omega (arith, few, count)
 
 -- ---- operations of a plan
+-- what is so of all is so of the first, and of those that follow
+pub all_front : {A : Type 0} (P : A → Type 0) (xs ys : List A) → AllByRecursion P (xs ++ ys) → AllByRecursion P xs
+all_front P [] ys all = tt
+all_front P (x ∷ xs) ys all = (all.0, all_front P xs ys all.1)
+
+pub all_back : {A : Type 0} (P : A → Type 0) (xs ys : List A) → AllByRecursion P (xs ++ ys) → AllByRecursion P ys
+all_back P [] ys all = all
+all_back P (x ∷ xs) ys all = all_back P xs ys all.1
+
 -- each is of an actor that may make it
 abbrev pub ArePlanned : Profile → List Op → Type 0
-ArePlanned f [] = Unit {0}
-ArePlanned f (op ∷ ops) = IsActorOf f op.what op.actor × ArePlanned f ops
+ArePlanned f ops = AllByRecursion (λ (op : Op). IsActorOf f op.what op.actor) ops
 
 pub are_planned : (f : Profile) (asked : List ℕ) (ops : List Op) → AreSound f asked ops → ArePlanned f ops
 are_planned f asked [] sound = tt
@@ -85,19 +93,11 @@ module _ (f : Profile) (cost : Act → ℕ) (most : Op → ℕ) (mark : ℕ) (ea
   ops_both [] ys = omega arith
   ops_both (x ∷ xs) ys = let rest = ops_both xs ys in omega (arith, rest)
 
-  front : (xs ys : List Op) → ArePlanned f (xs ++ ys) → ArePlanned f xs
-  front [] ys all = tt
-  front (x ∷ xs) ys all = (all.0, front xs ys all.1)
-
-  back : (xs ys : List Op) → ArePlanned f (xs ++ ys) → ArePlanned f ys
-  back [] ys all = all
-  back (x ∷ xs) ys all = back xs ys all.1
-
   of_later : (n : ℕ) (phases : List (List Op)) → ArePlanned f (all_ops phases) → sum_over cost (acts_from f.threads n phases) ≤ sum_of_ops most (all_ops phases) + (length phases + 1) * mark
   of_later n [] all = let last = of_close in omega (arith, last)
   of_later n (p ∷ ps) all =
-      let this = of_phase p (front p (all_ops ps) all) in
-      let rest = of_later (n + 1) ps (back p (all_ops ps) all) in
+      let this = of_phase p (all_front (λ (op : Op). IsActorOf f op.what op.actor) p (all_ops ps) all) in
+      let rest = of_later (n + 1) ps (all_back (λ (op : Op). IsActorOf f op.what op.actor) p (all_ops ps) all) in
       let both = sum_both cost (phase_acts f.threads p) (acts_from f.threads (n + 1) ps) in
       let ops = ops_both p (all_ops ps) in
       let marked = phase n in
@@ -106,13 +106,7 @@ module _ (f : Profile) (cost : Act → ℕ) (most : Op → ℕ) (mark : ℕ) (ea
 
   pub of_plan : (phases : List (List Op)) → ArePlanned f (all_ops phases) → sum_over cost (acts_of f.threads phases) ≤ sum_of_ops most (all_ops phases) + (length phases + 1) * mark
   of_plan [] all = let last = of_close in omega (arith, last)
-  of_plan (p ∷ ps) all =
-      let this = of_phase p (front p (all_ops ps) all) in
-      let rest = of_later 2 ps (back p (all_ops ps) all) in
-      let both = sum_both cost (phase_acts f.threads p) (acts_from f.threads 2 ps) in
-      let ops = ops_both p (all_ops ps) in
-      let more = suc-mul (length ps + 1) mark in
-      omega (arith, this, rest, both, ops, more)
+  of_plan (p ∷ ps) all = let marked = of_later 1 (p ∷ ps) all in omega (arith, marked)
 
 -- ---- each operation
 -- records
@@ -232,20 +226,12 @@ later_fit f limit threads n (p ∷ ps) below asked sound =
     phase_fit f limit threads p (all_ops ps) (acts_from threads (n + 1) ps) below (later_fit f limit threads (n + 1) ps (back_below limit p (all_ops ps) below)) asked sound
 
 pub acts_fit : (f : Profile) (limit threads : ℕ) (phases : List (List Op)) → AreBelow limit (all_ops phases) → AreSound f [] (all_ops phases) → AreFit f limit [] (acts_of threads phases)
-acts_fit f limit threads [] below sound = ends_fit f limit [] (numbers_from 1 threads)
-acts_fit f limit threads (p ∷ ps) below sound =
-    phase_fit f limit threads p (all_ops ps) (acts_from threads 2 ps) below (later_fit f limit threads 2 ps (back_below limit p (all_ops ps) below)) [] sound
+acts_fit f limit threads [] below sound = later_fit f limit threads 1 [] below [] sound
+acts_fit f limit threads (p ∷ ps) below sound = later_fit f limit threads 1 (p ∷ ps) below [] sound
 
 -- ---- acts that fit are those of the profile's threads
 pub of_threads : (f : Profile) (limit : ℕ) (asked : List ℕ) (acts : List Act) → AreFit f limit asked acts → AreOfThreads f.threads acts
 of_threads f limit asked [] fit = tt
 of_threads f limit asked (Operates op ∷ acts) fit = (fit.0.1, of_threads f limit (asked_after op.what asked) acts fit.2)
-of_threads f limit asked (Settles k ∷ acts) fit = (tt, of_threads f limit asked acts fit)
 of_threads f limit asked (Ticks epoch ∷ acts) fit = (tt, of_threads f limit asked acts fit.1)
-of_threads f limit asked (MakesPass ∷ acts) fit = (tt, of_threads f limit asked acts fit)
-of_threads f limit asked (ReadsEpoch ∷ acts) fit = (tt, of_threads f limit asked acts fit)
-of_threads f limit asked (StopsIdle k n ∷ acts) fit = (tt, of_threads f limit asked acts fit)
-of_threads f limit asked (MarksPhase n ∷ acts) fit = (tt, of_threads f limit asked acts fit)
-of_threads f limit asked (Wakes k ∷ acts) fit = (tt, of_threads f limit asked acts fit)
-of_threads f limit asked (MarksClose ∷ acts) fit = (tt, of_threads f limit asked acts fit)
-of_threads f limit asked (Ends k ∷ acts) fit = (tt, of_threads f limit asked acts fit)
+of_threads f limit asked (act ∷ acts) fit = (tt, of_threads f limit asked acts fit)

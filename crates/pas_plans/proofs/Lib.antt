@@ -2,5 +2,5 @@ pub mod ActsOfPlan
 pub mod NameLimits
 pub mod PlanFacts
 pub mod ActsLeft
-pub mod Making
+mod Making
 pub mod Nothing

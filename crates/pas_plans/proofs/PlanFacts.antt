@@ -7,7 +7,7 @@ use Rattle.pas_trace.specs.EveryPlan.{all_ops}
 use Rattle.pas_trace.specs.Plans.{IsPlanOf, bounds_of, ops_of}
 use Rattle.pas_trace.specs.declared.plan.Plan.{Plan}
 use Rattle.pas_trace.proofs.EveryPlan.{every_plan}
-use Rattle.pas_answers.specs.Acts.{acts_of}
+use Rattle.pas_trace.specs.Acts.{acts_of}
 use Rattle.pas_answers.specs.Fit.{AreFit, AreOfThreads, costs_of, own_costs_of, unbacks_of, AllBelow}
 use Rattle.pas_answers.specs.Replays.{phases_of, region_of, threads_of}
 use Rattle.pas_plans.proofs.ActsOfPlan.{ArePlanned, are_planned, plan_costs, plan_owns, plan_unbacks, acts_fit, of_threads}

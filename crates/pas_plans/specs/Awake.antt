@@ -2,7 +2,7 @@
 use Rattle.std.specs.Prelude.{ℕ, not, List}
 use Rattle.pas_bits.specs.Masks.{is_set}
 use Rattle.pas_bits.specs.declared.mask.Mask4.{Mask4}
-use Rattle.pas_answers.specs.Acts.{threads_where}
+use Rattle.pas_trace.specs.Acts.{threads_where}
 
 -- of so many, those of the mask, which are awake, and the others, which are idle
 abbrev pub awake_in : Mask4 → ℕ → List ℕ

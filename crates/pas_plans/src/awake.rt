@@ -1,7 +1,7 @@
 //! The threads that are awake in a phase.
 ghost use Rattle.std.specs.Prelude.{◌≡◌, ℕ};
 ghost use Rattle.pas_bits.specs.Masks.{is_set};
-ghost use Rattle.pas_answers.specs.Acts.{is_active};
+ghost use Rattle.pas_trace.specs.Acts.{is_active};
 
 use pas_bits::Mask4;
 use pas_trace::Op;

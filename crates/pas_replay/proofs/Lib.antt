@@ -1,9 +1,9 @@
-pub mod Turns
-pub mod Threads
-pub mod Turning
-pub mod ByActors
-pub mod ActsInOrder
-pub mod Opening
-pub mod StartAndEnd
-pub mod PlansOfOne
-pub mod RecordsOfOne
+mod Turns
+mod Threads
+mod Turning
+mod ByActors
+mod ActsInOrder
+mod Opening
+mod StartAndEnd
+mod PlansOfOne
+mod RecordsOfOne

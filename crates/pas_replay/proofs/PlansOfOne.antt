@@ -1,27 +1,23 @@
 -- The bounds of a plan say whether it is of one thread, and the acts of such a plan are that thread's.
-use Rattle.std.proofs.Common.{◌≡◌, ℕ, ◌+◌, ◌≤◌, ◌==◌, Bool, true, false, if◌then◌else◌, List, [], ◌∷◌, ◌++◌, slice_index, refl, ap, sym, ◌∙◌, subst, arith}
+use Rattle.std.proofs.Common.{◌≡◌, ℕ, ◌+◌, ◌≤◌, ◌==◌, Bool, true, false, if◌then◌else◌, List, [], ◌∷◌, slice_index, refl, ap, sym, ◌∙◌, subst, arith}
 use Rattle.std.specs.Prelude.{map}
 use Rattle.std.specs.List.{AllByRecursion}
 use Rattle.std.proofs.lemmas.Bool.{eq-eqb}
 use Rattle.pas_profile.specs.declared.profile.Profile.{Profile}
+use Rattle.pas_profile.proofs.Lists.{all_both}
 use Rattle.pas_trace.specs.Asked.{work_of}
-use Rattle.pas_trace.specs.EveryPlan.{all_ops, IsActorBy, records_of_chore, records_of_work, records_of_what, own_records}
+use Rattle.pas_trace.specs.EveryPlan.{all_ops, IsActorBy, IsActorOf, records_of_chore, records_of_work, records_of_what, own_records}
 use Rattle.pas_trace.specs.Plans.{IsPlanOf, bounds_of}
 use Rattle.pas_trace.specs.declared.plan.Chore.{Chore}
 use Rattle.pas_trace.specs.declared.plan.Work.{Work}
 use Rattle.pas_trace.specs.declared.plan.Op.{Op}
 use Rattle.pas_trace.specs.declared.plan.Plan.{Plan}
 use Rattle.pas_trace.proofs.EveryPlan.{every_plan}
-use Rattle.pas_answers.specs.Acts.{Act, Operates, Ticks, MakesPass, ReadsEpoch, StopsIdle, Wakes, Ends, active_threads, idle_threads, acts_of_work, acts_of_op, acts_of_ops, phase_acts, acts_from, acts_of}
+use Rattle.pas_trace.specs.Acts.{Act, Operates, Ticks, MakesPass, ReadsEpoch, StopsIdle, Wakes, Ends, active_threads, idle_threads, acts_of_work, acts_of_op, acts_of_ops, phase_acts, acts_from, acts_of}
 use Rattle.pas_answers.specs.Replays.{phases_of, threads_of}
 use Rattle.pas_replay.specs.OneThread.{IsOfOneThread}
-use Rattle.pas_plans.proofs.ActsOfPlan.{ArePlanned}
+use Rattle.pas_plans.proofs.ActsOfPlan.{ArePlanned, all_front, all_back}
 use Rattle.pas_plans.proofs.PlanFacts.{plan_planned}
-
--- ---- elements of two lists
-pub all_both : {A : Type 0} (P : A → Type 0) (xs ys : List A) → AllByRecursion P xs → AllByRecursion P ys → AllByRecursion P (xs ++ ys)
-all_both P [] ys first second = second
-all_both P (x ∷ xs) ys first second = (first.0, all_both P xs ys first.1 second)
 
 -- ---- operations of thread 1
 abbrev pub IsOfOne : Op → Type 0
@@ -82,49 +78,41 @@ AreActsOfOne acts = AllByRecursion IsActOfOne acts
 not_first : {A : Type 0} (k : ℕ) → k ≡ 0 → k ≡ 1 → A
 not_first k none one = absurd (omega (arith, none, one))
 
+-- an operation of a plan that is thread 1's
+abbrev IsPlannedOfOne : Profile → Op → Type 0
+IsPlannedOfOne f op = IsActorOf f op.what op.actor × IsOfOne op
+
+are_both : (f : Profile) (ops : List Op) → ArePlanned f ops → AreOfOne ops → AllByRecursion (IsPlannedOfOne f) ops
+are_both f [] all own = tt
+are_both f (op ∷ ops) all own = ((all.0, own.0), are_both f ops all.1 own.1)
+
 work_of_one : (f : Profile) (idle : List ℕ) (op : Op) (work : Work) → IsActorBy f work op.actor → IsOfOne op → AreActsOfOne (acts_of_work idle op work)
 work_of_one f idle op (Work.Own task) of one = (one, (tt, tt))
 work_of_one f idle op (Work.Chore chore) of one = not_first op.actor of one
 
--- each phase takes the first operations, and its acts come before those that follow
-ops_of_one : (f : Profile) (idle : List ℕ) (ops : List Op) → ArePlanned f ops → AreOfOne ops → AreActsOfOne (acts_of_ops idle ops)
-ops_of_one f idle [] all own = tt
-ops_of_one f idle (op ∷ ops) all own =
-    all_both IsActOfOne (acts_of_op idle op) (acts_of_ops idle ops) (work_of_one f idle op (work_of op.what) all.0 own.0) (ops_of_one f idle ops all.1 own.1)
+ops_of_one : (f : Profile) (idle : List ℕ) (ops : List Op) → AllByRecursion (IsPlannedOfOne f) ops → AreActsOfOne (acts_of_ops idle ops)
+ops_of_one f idle [] all = tt
+ops_of_one f idle (op ∷ ops) all = all_both IsActOfOne (acts_of_op idle op) (acts_of_ops idle ops) (work_of_one f idle op (work_of op.what) all.0.0 all.0.1) (ops_of_one f idle ops all.1)
 
 wakes_of_one : (ks : List ℕ) → AreActsOfOne (map Wakes ks)
 wakes_of_one [] = tt
 wakes_of_one (k ∷ ks) = (tt, wakes_of_one ks)
 
-phase_of_one : (f : Profile) (ops : List Op) → ArePlanned f ops → AreOfOne ops → AreActsOfOne (phase_acts 1 ops)
-phase_of_one f ops all own =
-    all_both IsActOfOne (map Wakes (active_threads 1 ops)) (acts_of_ops (idle_threads 1 ops) ops) (wakes_of_one (active_threads 1 ops)) (ops_of_one f (idle_threads 1 ops) ops all own)
+phase_of_one : (f : Profile) (ops : List Op) → AllByRecursion (IsPlannedOfOne f) ops → AreActsOfOne (phase_acts 1 ops)
+phase_of_one f ops all = all_both IsActOfOne (map Wakes (active_threads 1 ops)) (acts_of_ops (idle_threads 1 ops) ops) (wakes_of_one (active_threads 1 ops)) (ops_of_one f (idle_threads 1 ops) ops all)
 
--- those of a phase are planned and thread 1's, and those of the phases after it
-record AreBoth (f : Profile) (ops more : List Op) : Type 0 where
-  planned : ArePlanned f ops
-  own : AreOfOne ops
-  planned_after : ArePlanned f more
-  own_after : AreOfOne more
+-- each phase takes the first operations, and its acts come before those that follow
+later_of_one : (f : Profile) (n : ℕ) (phases : List (List Op)) → AllByRecursion (IsPlannedOfOne f) (all_ops phases) → AreActsOfOne (acts_from 1 n phases)
+later_of_one f n [] all = (tt, (refl, tt))
+later_of_one f n (p ∷ ps) all =
+    let this = phase_of_one f p (all_front (IsPlannedOfOne f) p (all_ops ps) all) in
+    (tt, all_both IsActOfOne (phase_acts 1 p) (acts_from 1 (n + 1) ps) this (later_of_one f (n + 1) ps (all_back (IsPlannedOfOne f) p (all_ops ps) all)))
 
-both_of : (f : Profile) (ops more : List Op) → ArePlanned f (ops ++ more) → AreOfOne (ops ++ more) → AreBoth f ops more
-both_of f [] more all own = record { planned = tt; own = tt; planned_after = all; own_after = own }
-both_of f (op ∷ ops) more all own =
-    let rest = both_of f ops more all.1 own.1 in
-    record { planned = (all.0, rest.planned); own = (own.0, rest.own); planned_after = rest.planned_after; own_after = rest.own_after }
-
-later_of_one : (f : Profile) (n : ℕ) (phases : List (List Op)) → ArePlanned f (all_ops phases) → AreOfOne (all_ops phases) → AreActsOfOne (acts_from 1 n phases)
-later_of_one f n [] all own = (tt, (refl, tt))
-later_of_one f n (p ∷ ps) all own =
-    let both = both_of f p (all_ops ps) all own in
-    (tt, all_both IsActOfOne (phase_acts 1 p) (acts_from 1 (n + 1) ps) (phase_of_one f p both.planned both.own) (later_of_one f (n + 1) ps both.planned_after both.own_after))
-
-acts_of_one : (f : Profile) (phases : List (List Op)) → ArePlanned f (all_ops phases) → AreOfOne (all_ops phases) → AreActsOfOne (acts_of 1 phases)
-acts_of_one f [] all own = (tt, (refl, tt))
-acts_of_one f (p ∷ ps) all own =
-    let both = both_of f p (all_ops ps) all own in
-    all_both IsActOfOne (phase_acts 1 p) (acts_from 1 2 ps) (phase_of_one f p both.planned both.own) (later_of_one f 2 ps both.planned_after both.own_after)
+-- the first phase has no mark
+acts_of_one : (f : Profile) (phases : List (List Op)) → AllByRecursion (IsPlannedOfOne f) (all_ops phases) → AreActsOfOne (acts_of 1 phases)
+acts_of_one f [] all = later_of_one f 1 [] all
+acts_of_one f (p ∷ ps) all = (later_of_one f 1 (p ∷ ps) all).1
 
 pub plan_of_one : {text : List ℕ} {plan : Plan} → IsPlanOf text plan → IsOfOneThread plan → AreActsOfOne (acts_of (threads_of plan) (phases_of plan))
 plan_of_one {text} {plan} is alone =
-    subst (λ (n : ℕ). AreActsOfOne (acts_of n (phases_of plan))) (sym alone.threads) (acts_of_one plan.profile (phases_of plan) (plan_planned is) alone.own)
+    subst (λ (n : ℕ). AreActsOfOne (acts_of n (phases_of plan))) (sym alone.threads) (acts_of_one plan.profile (phases_of plan) (are_both plan.profile (all_ops (phases_of plan)) (plan_planned is) alone.own))

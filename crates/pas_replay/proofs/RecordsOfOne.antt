@@ -3,20 +3,21 @@ use Rattle.std.proofs.Common.{◌≡◌, ℕ, ◌==◌, List, [], ◌∷◌, ◌
 use Rattle.std.specs.List.{AllByRecursion}
 use Rattle.std.proofs.lemmas.List.{append-nil}
 use Rattle.pas_profile.specs.declared.profile.Profile.{Profile}
+use Rattle.pas_profile.proofs.Lists.{all_both}
 use Rattle.pas_steps.specs.Events.{events_by}
 use Rattle.pas_steps.specs.Lists.{Whole, part}
 use Rattle.pas_steps.specs.declared.state.State.{State}
 use Rattle.pas_trace.specs.Plans.{IsPlanOf}
 use Rattle.pas_trace.specs.declared.plan.Plan.{Plan}
 use Rattle.pas_report.specs.declared.record.Record.{Record}
-use Rattle.pas_answers.specs.Acts.{Act, Operates, Settles, MarksPhase, Wakes, MarksClose, Ends, acts_of}
+use Rattle.pas_trace.specs.Acts.{Act, Operates, Settles, MarksPhase, Wakes, MarksClose, Ends, acts_of}
 use Rattle.pas_answers.specs.Answers.{Progress, records_of, said_by}
 use Rattle.pas_answers.specs.Reaching.{Advances, Reaches}
 use Rattle.pas_answers.specs.Replays.{at_start, phases_of, IsReplay, Shows, region_of, threads_of}
 use Rattle.pas_answers.specs.Ways.{InOrder, OnThreads, is_of, EachOf, records_by, by_actors, by_phases, arranged}
 use Rattle.pas_answers.proofs.OwnRecords.{each_both, piece_of, all_by, none_by}
 use Rattle.pas_replay.specs.OneThread.{IsOfOneThread}
-use Rattle.pas_replay.proofs.PlansOfOne.{all_both, IsActOfOne, AreActsOfOne, plan_of_one}
+use Rattle.pas_replay.proofs.PlansOfOne.{IsActOfOne, AreActsOfOne, plan_of_one}
 
 -- ---- thread 1's own
 -- the record is its own, or a mark

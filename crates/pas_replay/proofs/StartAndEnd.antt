@@ -11,7 +11,6 @@ use Rattle.pas_steps.specs.States.{profile_of as the_profile_of, word_in}
 use Rattle.pas_steps.specs.Views.{View}
 use Rattle.pas_steps.specs.declared.state.State.{State}
 use Rattle.pas_trace.specs.Plans.{IsPlanOf, bounds_of}
-use Rattle.pas_trace.specs.declared.plan.Op.{Op}
 use Rattle.pas_trace.specs.declared.plan.Plan.{Plan}
 use Rattle.pas_plain.specs.Plain.{profile_of, RegionStands}
 use Rattle.pas_plain.specs.declared.pass.PlainPass.{PlainPass}
@@ -21,17 +20,17 @@ use Rattle.pas_report.specs.declared.record.Record.{Record}
 use Rattle.pas_cache.specs.Caches.{Cached, AtRest}
 use Rattle.pas_cache.specs.declared.cache.ThreadCache.{ThreadCache}
 use Rattle.pas_cache.proofs.FlushesAndFrees.{rests_empty}
-use Rattle.pas_answers.specs.Acts.{Act, acts_of}
+use Rattle.pas_trace.specs.Acts.{acts_of}
 use Rattle.pas_answers.specs.Calls.{owed_events}
-use Rattle.pas_answers.specs.Fit.{AreFit, AreOfThreads, own_costs_of}
+use Rattle.pas_answers.specs.Fit.{AreFit, own_costs_of}
 use Rattle.pas_answers.specs.Names.{names_held}
 use Rattle.pas_answers.specs.Replays.{at_start, phases_of, region_of, threads_of, empty_cache, empty_caches, Shows}
 use Rattle.pas_answers.specs.Ways.{InOrder}
 use Rattle.pas_answers.proofs.Consequences.{replays}
 use Rattle.pas_answers.proofs.TrueRefusals.{all_refuse}
 use Rattle.pas_answers.specs.declared.names.Names.{Names}
-use Rattle.pas_replay.specs.Kits.{IsFresh, IsKitOf}
-use Rattle.pas_replay.specs.Sessions.{pass_in, SeatStands, ActorStands, AreEmpty, Hand, hand_of, SoFar, owed_by}
+use Rattle.pas_replay.specs.Kits.{IsFresh, IsKitOf, replay_of}
+use Rattle.pas_replay.specs.Sessions.{pass_in, SeatStands, ActorStands, AreEmpty, Replay, Hand, hand_of, SoFar, owed_by}
 use Rattle.pas_replay.specs.declared.kit.PlainKit.{PlainKit}
 use Rattle.pas_replay.specs.declared.seats.Actors.{Actors}
 use Rattle.pas_plans.proofs.PlanFacts.{plan_threads, plan_operate, plan_fit, plan_own, plan_scavenger, plan_total}
@@ -60,22 +59,18 @@ owed_start f (suc n) =
     let more = suc-mul n f.pages in
     omega (arith, this, rest, more)
 
-pub start : {text : List ℕ} {plan : Plan} {kit : PlainKit} {out : Records} → IsPlanOf text plan → IsKitOf plan kit → records_in out ≡ [] → plan.total + length (phases_of plan) + 1 ≤ room_of out
-    → SoFar (region_of plan) (acts_of (threads_of plan) (phases_of plan)) (acts_of (threads_of plan) (phases_of plan)) (hand_of kit.region kit.actors kit.names out)
+pub start : {text : List ℕ} {plan : Plan} {kit : PlainKit} {out : Records} → IsPlanOf text plan → IsKitOf plan kit → records_in out ≡ [] → plan.total + length (phases_of plan) + 1 ≤ room_of out → SoFar (replay_of plan) (replay_of plan).acts (hand_of kit.region kit.actors kit.names out)
 start {text} {plan} {kit} {out} read made empty room =
-    let f = region_of plan in
-    let acts = acts_of (threads_of plan) (phases_of plan) in
-    let many = made.unused.many in
-    let within = plan_threads plan in
-    let owed = ap (λ (n : ℕ). owed_by f [] empty_caches n) many ∙ owed_start f (threads_of plan) in
+    let owed = owed_start (region_of plan) (threads_of plan) in
     let total = plan_total read in
     let none = ap (λ (rs : List Record). length rs) empty in (
       at_start,
       record {
         profile_is = made.profile;
         actors = made.actors;
-        threads = omega (arith, many, within);
-        operate = subst (λ (n : ℕ). AreOfThreads n acts) (sym many) (plan_operate read);
+        many = made.unused.many;
+        threads = plan_threads plan;
+        operate = plan_operate read;
         places = made.places;
         stands = made.opening;
         each = λ k le. actor_starts read made k le;
@@ -98,23 +93,24 @@ some_cache : (caches : List ThreadCache) → 1 ≤ length caches → ThreadCache
 some_cache [] bad = absurd (omega (arith, bad))
 some_cache (cache ∷ caches) some = cache
 
-module _ {f : Profile} {all : List Act} {h : Hand} (so : SoFar f all [] h) (empty : AreEmpty h.caches) where
+module _ {r : Replay} {h : Hand} (so : SoFar r [] h) (empty : AreEmpty h.caches) where
   -- an actor holds, has and owes nothing
-  bare : (k : ℕ) → k ≤ length h.caches → HasNothing (part k so.0.list)
+  bare : (k : ℕ) → k ≤ r.threads → HasNothing (part k so.0.list)
   bare zero most = (so.1.each 0 (omega arith)).rest
   bare (suc i) most =
       let count = so.1.threads in
-      let within : i < length h.caches = omega (arith, most) in
+      let many = so.1.many in
+      let within : i < length h.caches = omega (arith, most, many) in
       let d = some_cache h.caches (omega (arith, within)) in
       let rest = (so.1.each (suc i) (omega (arith, most, count))).rest in
       let none = no_slots (so.0.caches (suc i)).locals (ap (λ (c : Cached). c.locals) (so.1.caches_are i d within) ∙ empty i d within) in
       record { grains = λ g. rest.locals.grains g ∙ (none g).0; rights = λ page. rest.locals.rights page ∙ (none page).1; clear = rest.locals.clear }
 
   pub bare_at : (k : ℕ) → HasNothing (part k so.0.list)
-  bare_at k = elim (cases_lt (length h.caches) k) [ inl past ↦ subst HasNothing (sym (so.1.nobody k past)) nothing | inr within ↦ bare k (omega (arith, within)) ]
+  bare_at k = elim (cases_lt r.threads k) [ inl past ↦ subst HasNothing (sym (so.1.nobody k past)) nothing | inr within ↦ bare k (omega (arith, within)) ]
 
 pub shows : {plan : Plan} {region : PlainRegion} (actors : Actors) (table : Names) {out : Records} {state : State} (limit : ℕ) → IsValid (region_of plan) → AreFit (region_of plan) limit [] (acts_of (threads_of plan) (phases_of plan))
-    → SoFar (region_of plan) (acts_of (threads_of plan) (phases_of plan)) [] (hand_of region actors table out) → AreEmpty actors.caches.items
+    → SoFar (replay_of plan) [] (hand_of region actors table out) → AreEmpty actors.caches.items
     → the_profile_of state ≡ profile_of region
     → ((l : Whole) → RegionStands region l → (w : Word) → IsWordOf (profile_of region) w → word_in state w ≡ word_after l w)
     → Shows InOrder plan (records_in out) state
@@ -130,15 +126,3 @@ shows {plan} {region} actors table {out} {state} limit valid fit so empty profil
       profile = profile ∙ at.profile_is;
       words = λ w of. words p.list at.stands w (subst (λ (f : Profile). IsWordOf f w) (sym at.profile_is) of);
     }
-
--- ---- the plan as the replay is handed it
-pub handed : (plan : Plan) {h : Hand} (threads : ℕ) (phases : List (List Op)) → threads ≡ threads_of plan → phases ≡ phases_of plan
-    → SoFar (region_of plan) (acts_of (threads_of plan) (phases_of plan)) (acts_of (threads_of plan) (phases_of plan)) h → SoFar (region_of plan) (acts_of threads phases) (acts_of threads phases) h
-handed plan {h} threads phases many is so =
-    let same : acts_of (threads_of plan) (phases_of plan) ≡ acts_of threads phases = ap (λ (n : ℕ). acts_of n (phases_of plan)) (sym many) ∙ ap (λ (ps : List (List Op)). acts_of threads ps) (sym is) in
-    subst (λ (acts : List Act). SoFar (region_of plan) acts acts h) same so
-
-pub handed_back : (plan : Plan) {h : Hand} (threads : ℕ) (phases : List (List Op)) → threads ≡ threads_of plan → phases ≡ phases_of plan
-    → SoFar (region_of plan) (acts_of threads phases) [] h → SoFar (region_of plan) (acts_of (threads_of plan) (phases_of plan)) [] h
-handed_back plan {h} threads phases many is so =
-    subst (λ (acts : List Act). SoFar (region_of plan) acts [] h) (ap (λ (n : ℕ). acts_of n phases) many ∙ ap (λ (ps : List (List Op)). acts_of (threads_of plan) ps) is) so

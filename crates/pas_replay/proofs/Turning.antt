@@ -20,10 +20,10 @@ use Rattle.pas_report.specs.Rooms.{records_in, room_of, Records}
 use Rattle.pas_report.specs.declared.record.Record.{Record}
 use Rattle.pas_cache.specs.Caches.{Cached, cached, AtRest}
 use Rattle.pas_cache.specs.declared.cache.ThreadCache.{ThreadCache}
-use Rattle.pas_answers.specs.Acts.{Act}
+use Rattle.pas_trace.specs.Acts.{Act}
 use Rattle.pas_answers.specs.Answers.{Progress, Named, Caches}
 use Rattle.pas_answers.specs.Calls.{owed_events}
-use Rattle.pas_answers.specs.Fit.{AreFit, AreOfThreads, costs_of, own_costs_of, own_cost_of_act, unbacks_of}
+use Rattle.pas_answers.specs.Fit.{AreFit, AreOfThreads, costs_of, own_costs_of, own_cost_of_act, unbacks_of_act, unbacks_of}
 use Rattle.pas_answers.specs.Names.{names_held}
 use Rattle.pas_answers.specs.Reaching.{Reaches}
 use Rattle.pas_answers.specs.declared.names.Names.{Names}
@@ -31,8 +31,8 @@ use Rattle.pas_answers.proofs.Reached.{reach_both}
 use Rattle.pas_acts.specs.Works.{Later, Sits}
 use Rattle.pas_acts.specs.Turns.{RestsAt, Moves}
 use Rattle.pas_acts.specs.AtDesks.{here, and_for, ThreadActs, for_act, HasRoomAt, ScavengerActs}
-use Rattle.pas_acts.proofs.AtDesk.{sits_for, rests_for}
-use Rattle.pas_replay.specs.Sessions.{Slots, pass_in, risen, IsTaken, MaySit, MayTakeSeat, TakesSeat, SeatStands, rests, owes, own_events, ActorStands, owed_by, AreCaches, Hand, hand_at, HasNames, IsAt}
+use Rattle.pas_acts.proofs.AtDesk.{sits_for}
+use Rattle.pas_replay.specs.Sessions.{Slots, pass_in, risen, IsTaken, MaySit, MayTakeSeat, TakesSeat, SeatStands, rests, owes, own_events, ActorStands, owed_by, AreCaches, Replay, Hand, hand_at, HasNames, IsAt}
 use Rattle.pas_replay.specs.declared.seats.Actors.{Actors}
 use Rattle.pas_replay.proofs.Turns.{risen_length, put_there, put_elsewhere}
 use Rattle.pas_replay.proofs.Threads.{set_caches, owed_kept, owed_moves, owed_at}
@@ -46,33 +46,34 @@ may_sit {l = l} of stands st = record {
   actor_is = st.actor;
 }
 
-pub may_take : {f : Profile} {all acts : List Act} {table : Names} {out : Records} {p : Progress} (desk : PlainDesk) (actors : Actors) (k : ℕ) → k ≤ length actors.caches.items → IsTaken desk actors.passes.items → IsAt f all acts (hand_at desk actors table out) p
+pub may_take : {r : Replay} {acts : List Act} {table : Names} {out : Records} {p : Progress} (desk : PlainDesk) (actors : Actors) (k : ℕ) → k ≤ length actors.caches.items → IsTaken desk actors.passes.items → IsAt r acts (hand_at desk actors table out) p
     → MayTakeSeat desk actors.passes.items k
 may_take desk actors k within taken at =
     let sized = risen_length desk actors.passes.items in
-    let many = at.actors in
+    let places = at.actors in
+    let many = at.many in
     let threads = at.threads in
-    record { taken = taken; place = omega (arith, sized, many, within, threads); own = may_sit at.profile_is at.stands (at.each k (omega (arith, within, threads))) }
+    record { taken = taken; place = omega (arith, sized, places, many, within, threads); own = may_sit at.profile_is at.stands (at.each k (omega (arith, within, many, threads))) }
 
 -- what is in hand while an actor sits there
 abbrev pub hand : PlainDesk → Slots → List ThreadCache → ℕ → Names → Records → Hand
 hand desk passes caches places table out = record { region = region_of desk; passes = risen desk passes; caches = caches; places = places; table = table; out = out }
 
 -- .. is what was in hand before it sat down
-pub sat_down : {f : Profile} {all acts : List Act} {desk desk' : PlainDesk} {passes passes' : Slots} {k : ℕ} {caches : List ThreadCache} {places : ℕ} {table : Names} {out : Records} {p : Progress} → TakesSeat desk desk' passes passes' k
-    → IsAt f all acts (hand desk passes caches places table out) p → IsAt f all acts (hand desk' passes' caches places table out) p
-sat_down {f} {all} {acts} {desk} {desk'} {passes} {passes'} {k} {caches} {places} {table} {out} {p} seat at =
-    subst (λ (ps : Slots). IsAt f all acts (record { region = region_of desk'; passes = ps; caches = caches; places = places; table = table; out = out }) p) (sym seat.passes_are)
-    (subst (λ (r : PlainRegion). IsAt f all acts (record { region = r; passes = risen desk passes; caches = caches; places = places; table = table; out = out }) p) (sym seat.region_is) at)
+pub sat_down : {r : Replay} {acts : List Act} {desk desk' : PlainDesk} {passes passes' : Slots} {k : ℕ} {caches : List ThreadCache} {places : ℕ} {table : Names} {out : Records} {p : Progress} → TakesSeat desk desk' passes passes' k
+    → IsAt r acts (hand desk passes caches places table out) p → IsAt r acts (hand desk' passes' caches places table out) p
+sat_down {r} {acts} {desk} {desk'} {passes} {passes'} {k} {caches} {places} {table} {out} {p} seat at =
+    subst (λ (ps : Slots). IsAt r acts (record { region = region_of desk'; passes = ps; caches = caches; places = places; table = table; out = out }) p) (sym seat.passes_are)
+    (subst (λ (x : PlainRegion). IsAt r acts (record { region = x; passes = risen desk passes; caches = caches; places = places; table = table; out = out }) p) (sym seat.region_is) at)
 
 -- ---- at the desk
-module _ {f : Profile} {all acts : List Act} {desk0 desk : PlainDesk} {passes0 passes : Slots} {caches : List ThreadCache} {places : ℕ} {table : Names} {out : Records} {p : Progress} (k : ℕ) (within : k ≤ length caches) (seat : TakesSeat desk0 desk passes0 passes k)
-    (before : IsAt f all acts (hand desk0 passes0 caches places table out) p) where
-  at : IsAt f all acts (hand desk passes caches places table out) p
+module _ {r : Replay} {acts : List Act} {desk0 desk : PlainDesk} {passes0 passes : Slots} {caches : List ThreadCache} {places : ℕ} {table : Names} {out : Records} {p : Progress} (k : ℕ) (within : k ≤ length caches) (seat : TakesSeat desk0 desk passes0 passes k)
+    (before : IsAt r acts (hand desk0 passes0 caches places table out) p) where
+  at : IsAt r acts (hand desk passes caches places table out) p
   at = sat_down seat before
 
-  le : k ≤ f.threads
-  le = let threads = before.threads in omega (arith, within, threads)
+  le : k ≤ r.profile.threads
+  le = let threads = before.threads in let many = before.many in omega (arith, within, threads, many)
 
   pub has_place : k < length passes
   has_place = let sized = risen_length desk passes in let many = at.actors in omega (arith, sized, many, le)
@@ -83,18 +84,18 @@ module _ {f : Profile} {all acts : List Act} {desk0 desk : PlainDesk} {passes0 p
   pub stood_now : DeskStands desk (part k p.list) p.list
   stood_now = record {
     region = at.stands;
-    pass = subst (λ (g : Profile). PassStands g (pass_of desk) p.list) (sym at.profile_is) (subst (λ (x : PlainPass). PassStands f x p.list) its_pass (at.each k le).stands);
+    pass = subst (λ (g : Profile). PassStands g (pass_of desk) p.list) (sym at.profile_is) (subst (λ (x : PlainPass). PassStands r.profile x p.list) its_pass (at.each k le).stands);
     part_is = ap (λ (m : ℕ). part m p.list) seat.actor_is;
   }
 
-  pub sits_now : Sits f k (rests f p.caches k) (standing_of desk) (part k p.list) (owes f p.caches k (part k p.list) + own_events f k acts)
+  pub sits_now : Sits r.profile k (rests r.profile p.caches k) (standing_of desk) (part k p.list) (owes r.profile p.caches k (part k p.list) + own_events r.profile k acts)
   sits_now = record {
     actor = seat.actor_is;
     profile = at.profile_is;
     beside = p.list;
     stood = stood_now;
     rest = (at.each k le).rest;
-    room = subst (λ (x : PlainPass). length (events_of k (part k p.list)) + (owes f p.caches k (part k p.list) + own_events f k acts) ≤ room_of_pass x) its_pass (at.each k le).room;
+    room = subst (λ (x : PlainPass). length (events_of k (part k p.list)) + (owes r.profile p.caches k (part k p.list) + own_events r.profile k acts) ≤ room_of_pass x) its_pass (at.each k le).room;
   }
 
 -- ---- the others
@@ -131,23 +132,23 @@ pub record Turned (f : Profile) (k : ℕ) (acts more : List Act) (desk desk' : P
   pub kept : (j : ℕ) → j ≢ k → q.caches j ≡ p.caches j
   pub free : (j : ℕ) → j ≢ k → own_events f j acts ≡ own_events f j more
 
--- what so many threads, and the scavenger, have in hand beside desk and passes
-pub record HaveInHand (f : Profile) (more : List Act) (threads : ℕ) (caches : List ThreadCache) (places : ℕ) (table : Names) (out : Records) (q : Progress) : Type 0 where
-  pub many : length caches ≡ threads
-  pub operate : AreOfThreads threads more
-  pub room : places ≡ f.pages
-  pub names : HasNames f more table q.names
+-- what the threads of the replay, and the scavenger, have in hand beside desk and passes
+pub record HaveInHand (r : Replay) (more : List Act) (caches : List ThreadCache) (places : ℕ) (table : Names) (out : Records) (q : Progress) : Type 0 where
+  pub many : length caches ≡ r.threads
+  pub operate : AreOfThreads r.threads more
+  pub room : places ≡ r.profile.pages
+  pub names : HasNames r.profile more table q.names
   pub caches_are : AreCaches q.caches caches
   pub records_are : records_in out ≡ q.records
-  pub spare : length (records_in out) + (owed_by f q.list q.caches threads + costs_of f more) ≤ room_of out
+  pub spare : length (records_in out) + (owed_by r.profile q.list q.caches r.threads + costs_of r.profile more) ≤ room_of out
 
-module _ {f : Profile} {all acts more : List Act} {desk0 desk desk' : PlainDesk} {passes0 passes : Slots} {caches caches' : List ThreadCache} {places places' : ℕ} {table table' : Names} {out out' : Records} {p q : Progress} (k : ℕ) (within : k ≤ length caches)
-    (seat : TakesSeat desk0 desk passes0 passes k) (before : IsAt f all acts (hand desk0 passes0 caches places table out) p) (x : Turned f k acts more desk desk' p q) (have : HaveInHand f more (length caches) caches' places' table' out' q) where
+module _ {r : Replay} {acts more : List Act} {desk0 desk desk' : PlainDesk} {passes0 passes : Slots} {caches caches' : List ThreadCache} {places places' : ℕ} {table table' : Names} {out out' : Records} {p q : Progress} (k : ℕ) (within : k ≤ length caches)
+    (seat : TakesSeat desk0 desk passes0 passes k) (before : IsAt r acts (hand desk0 passes0 caches places table out) p) (x : Turned r.profile k acts more desk desk' p q) (have : HaveInHand r more caches' places' table' out' q) where
   stood_then : DeskStands desk' (x.moves.steps ++ part k p.list) q.list
   stood_then = subst (λ (l : Whole). DeskStands desk' (x.moves.steps ++ part k p.list) l) (ap (λ (m : ℕ). triples m x.moves.steps ++ p.list) seat.actor_is ∙ sym x.moves.list_is)
       (x.moves.calls.adds.added (part k p.list) p.list (stood_now k within seat before) (before.each k (le k within seat before)).rest)
 
-  this_stands : ActorStands f k q.caches (pass_in (risen desk' passes) k) q.list more
+  this_stands : ActorStands r.profile k q.caches (pass_in (risen desk' passes) k) q.list more
   this_stands = record {
     pass = pass_of desk';
     present = ap (λ (m : ℕ). pass_in (set passes m (Some (pass_of desk'))) k) x.sits.actor ∙ put_there passes k (Some (pass_of desk')) (has_place k within seat before);
@@ -161,39 +162,44 @@ module _ {f : Profile} {all acts more : List Act} {desk0 desk desk' : PlainDesk}
   same_slot j ne = put_elsewhere passes (actor_of (pass_of desk')) j (Some (pass_of desk')) (λ (e : j ≡ actor_of (pass_of desk')). ne (e ∙ x.sits.actor))
       ∙ sym (put_elsewhere passes (actor_of (pass_of desk)) j (Some (pass_of desk)) (λ (e : j ≡ actor_of (pass_of desk)). ne (e ∙ seat.actor_is))) ∙ ap (λ (ps : Slots). pass_in ps j) seat.passes_are
 
-  pub turn : IsAt f all more (hand desk' passes caches' places' table' out') q
-  turn = record {
-    profile_is = x.sits.profile;
-    actors = risen_length desk' passes ∙ sym (risen_length desk passes) ∙ ap (λ (ps : Slots). length ps) seat.passes_are ∙ before.actors;
-    threads = let many = have.many in let threads = before.threads in omega (arith, many, threads);
-    operate = subst (λ (n : ℕ). AreOfThreads n more) (sym have.many) have.operate;
-    places = have.room;
-    stands = stood_then.region;
-    each = λ j most. elim (cases_eq j k) [
-      | inl same ↦ subst (λ (m : ℕ). ActorStands f m q.caches (pass_in (risen desk' passes) m) q.list more) (sym same) this_stands
-      | inr other ↦ other_stands p.caches q.caches acts more x.moves.steps (λ (e : k ≡ j). other (sym e)) x.moves.list_is (x.kept j other) (same_slot j other) (x.free j other) (before.each j most)
-    ];
-    nobody = λ j past.
-        let many = have.many in
-        ap (λ (l : Whole). part j l) x.moves.list_is ∙ part_of_others j k x.moves.steps p.list (λ (e : k ≡ j). omega (arith, e, within, past, many)) ∙ before.nobody j (omega (arith, past, many));
-    names = have.names;
-    caches_are = have.caches_are;
-    records_are = have.records_are;
-    spare = subst (λ (n : ℕ). length (records_in out') + (owed_by f q.list q.caches n + costs_of f more) ≤ room_of out') (sym have.many) have.spare;
-    answers = λ r rest. before.answers r (x.reaches r rest);
-  }
+  pub turn : IsTaken desk' passes × IsAt r more (hand desk' passes caches' places' table' out') q
+  turn = (
+    let lt = has_place k within seat before in let actor = x.sits.actor in omega (arith, actor, lt),
+    record {
+      profile_is = x.sits.profile;
+      actors = risen_length desk' passes ∙ sym (risen_length desk passes) ∙ ap (λ (ps : Slots). length ps) seat.passes_are ∙ before.actors;
+      many = have.many;
+      threads = before.threads;
+      operate = have.operate;
+      places = have.room;
+      stands = stood_then.region;
+      each = λ j most. elim (cases_eq j k) [
+        | inl same ↦ subst (λ (m : ℕ). ActorStands r.profile m q.caches (pass_in (risen desk' passes) m) q.list more) (sym same) this_stands
+        | inr other ↦ other_stands p.caches q.caches acts more x.moves.steps (λ (e : k ≡ j). other (sym e)) x.moves.list_is (x.kept j other) (same_slot j other) (x.free j other) (before.each j most)
+      ];
+      nobody = λ j past. let many = before.many in ap (λ (l : Whole). part j l) x.moves.list_is ∙ part_of_others j k x.moves.steps p.list (λ (e : k ≡ j). omega (arith, e, within, past, many)) ∙ before.nobody j past;
+      names = have.names;
+      caches_are = have.caches_are;
+      records_are = have.records_are;
+      spare = have.spare;
+      answers = λ s rest. before.answers s (x.reaches s rest);
+    },
+  )
 
 -- ---- the turn of a thread
 -- for how much there is room besides: for the acts that are left, what the others owe, and what is said besides
-abbrev pub later_for : Profile → ℕ → ℕ → Progress → List Act → ℕ → Later
-later_for f threads k p more extra = record { events = own_costs_of k more; records = (owed_by f p.list p.caches threads - owed_events f (p.caches k) (part k p.list)) + (costs_of f more + extra) }
+abbrev pub later_for : Replay → ℕ → Progress → List Act → ℕ → Later
+later_for r k p more extra =
+    record { events = own_costs_of k more; records = (owed_by r.profile p.list p.caches r.threads - owed_events r.profile (p.caches k) (part k p.list)) + (costs_of r.profile more + extra) }
 
 -- it rests at the desk, with room for acts of this cost
-pub thread_now : {f : Profile} {all acts : List Act} {desk0 desk : PlainDesk} {passes0 passes : Slots} {caches : List ThreadCache} {places : ℕ} {table : Names} {out : Records} {p : Progress} {c : Cached} (k cost extra : ℕ) (more : List Act) → 1 ≤ k → k ≤ length caches → TakesSeat desk0 desk passes0 passes k
-    → p.caches k ≡ c → own_costs_of k acts ≡ cost + own_costs_of k more → costs_of f acts ≡ cost + (extra + costs_of f more) → IsAt f all acts (hand desk0 passes0 caches places table out) p → RestsAt f k (standing_of desk) c out (and_for cost (later_for f (length caches) k p more extra)) p
+pub thread_now : {r : Replay} {acts : List Act} {desk0 desk : PlainDesk} {passes0 passes : Slots} {caches : List ThreadCache} {places : ℕ} {table : Names} {out : Records} {p : Progress} {c : Cached} (k cost extra : ℕ) (more : List Act) → 1 ≤ k → k ≤ length caches → TakesSeat desk0 desk passes0 passes k
+    → p.caches k ≡ c → own_costs_of k acts ≡ cost + own_costs_of k more → costs_of r.profile acts ≡ cost + (extra + costs_of r.profile more) → IsAt r acts (hand desk0 passes0 caches places table out) p → RestsAt r.profile k (standing_of desk) c out (and_for cost (later_for r k p more extra)) p
 thread_now zero cost extra more some most seat cache own costs at = absurd (omega (arith, some))
-thread_now {f} {all} {acts} {desk0} {desk} {passes0} {passes} {caches} {places} {table} {out} {p} {c} (suc i) cost extra more some most seat cache own costs at =
-    let least = owed_at f p.list p.caches (suc i) (length caches) some most in
+thread_now {r} {acts} {desk0} {desk} {passes0} {passes} {caches} {places} {table} {out} {p} {c} (suc i) cost extra more some most seat cache own costs at =
+    let f = r.profile in
+    let many = at.many in
+    let least = owed_at f p.list p.caches (suc i) r.threads some (omega (arith, most, many)) in
     let owed = ap (λ (d : Cached). owed_events f d (part (suc i) p.list)) cache in
     let spare = at.spare in
     record {
@@ -202,21 +208,18 @@ thread_now {f} {all} {acts} {desk0} {desk} {passes0} {passes} {caches} {places} 
       spare = omega (arith, least, owed, spare, costs);
     }
 
-pub idle_now : {f : Profile} {all acts : List Act} {desk0 desk : PlainDesk} {passes0 passes : Slots} {caches : List ThreadCache} {places : ℕ} {table : Names} {out : Records} {p : Progress} {c : Cached} (k extra : ℕ) (more : List Act) → 1 ≤ k → k ≤ length caches → TakesSeat desk0 desk passes0 passes k
-    → p.caches k ≡ c → own_costs_of k acts ≡ own_costs_of k more → costs_of f acts ≡ extra + costs_of f more → IsAt f all acts (hand desk0 passes0 caches places table out) p → RestsAt f k (standing_of desk) c out (later_for f (length caches) k p more extra) p
-idle_now k extra more some most seat cache own costs at = rests_for (thread_now k 0 extra more some most seat cache (omega (arith, own)) (omega (arith, costs)) at) (omega arith) (omega arith)
-
 -- acts that cost others nothing
 free_of : {k : ℕ} (f : Profile) (acts more : List Act) → unbacks_of f acts ≡ unbacks_of f more → ((j : ℕ) → j ≢ k → own_costs_of j acts ≡ own_costs_of j more) → (j : ℕ) → j ≢ k → own_events f j acts ≡ own_events f j more
 free_of f acts more none others zero ne = none
 free_of f acts more none others (suc i) ne = others (suc i) ne
 
-pub thread_turn : {f : Profile} {all first more : List Act} {desk0 desk desk' : PlainDesk} {passes0 passes : Slots} {caches : List ThreadCache} {places : ℕ} {table table' : Names} {out out1 out2 : Records} {p : Progress} {c : Cached} {came : List Named} {told : List Record} {extra : ℕ}
-    (k : ℕ) (cache : ThreadCache) → 1 ≤ k → k ≤ length caches → TakesSeat desk0 desk passes0 passes k → p.caches k ≡ c → unbacks_of f (first ++ more) ≡ unbacks_of f more → ((j : ℕ) → j ≢ k → own_costs_of j (first ++ more) ≡ own_costs_of j more)
-    → IsAt f all (first ++ more) (hand desk0 passes0 caches places table out) p → (did : ThreadActs f k first came told (here (standing_of desk) c out) (here (standing_of desk') (cached cache) out1) (later_for f (length caches) k p more extra) p)
-    → HasNames f more table' did.reached.names → AreOfThreads (length caches) more → length told ≤ extra → records_in out2 ≡ records_in out1 ++ told → room_of out2 ≡ room_of out1 → IsAt f all more (hand desk' passes (set caches (k - 1) cache) places table' out2) did.reached
+pub thread_turn : {r : Replay} {first more : List Act} {desk0 desk desk' : PlainDesk} {passes0 passes : Slots} {caches : List ThreadCache} {places : ℕ} {table table' : Names} {out out1 out2 : Records} {p : Progress} {c : Cached} {came : List Named} {told : List Record} {extra : ℕ}
+    (k : ℕ) (cache : ThreadCache) → 1 ≤ k → k ≤ length caches → TakesSeat desk0 desk passes0 passes k → p.caches k ≡ c → unbacks_of r.profile (first ++ more) ≡ unbacks_of r.profile more → ((j : ℕ) → j ≢ k → own_costs_of j (first ++ more) ≡ own_costs_of j more)
+    → IsAt r (first ++ more) (hand desk0 passes0 caches places table out) p → (did : ThreadActs r.profile k first came told (here (standing_of desk) c out) (here (standing_of desk') (cached cache) out1) (later_for r k p more extra) p) → HasNames r.profile more table' did.reached.names
+    → AreOfThreads r.threads more → length told ≤ extra → records_in out2 ≡ records_in out1 ++ told → room_of out2 ≡ room_of out1 → IsTaken desk' passes × IsAt r more (hand desk' passes (set caches (k - 1) cache) places table' out2) did.reached
 thread_turn zero cache some most seat was none others at did names operate few added room = absurd (omega (arith, some))
-thread_turn {f} {all} {first} {more} {desk0} {desk} {desk'} {passes0} {passes} {caches} {places} {table} {table'} {out} {out1} {out2} {p} {c} {came} {told} {extra} (suc i) cache some most seat was none others at did names operate few added room =
+thread_turn {r} {first} {more} {desk0} {desk} {desk'} {passes0} {passes} {caches} {places} {table} {table'} {out} {out1} {out2} {p} {c} {came} {told} {extra} (suc i) cache some most seat was none others at did names operate few added room =
+    let f = r.profile in
     let k = suc i in
     let q = did.reached in
     let now = did.stands.cache in
@@ -224,14 +227,16 @@ thread_turn {f} {all} {first} {more} {desk0} {desk} {desk'} {passes0} {passes} {
     subst (λ (d : Cached). Moves k (AtRest f d) (AtRest f (q.caches k)) (standing_of desk) (standing_of desk') p q) (sym was) (subst (λ (d : Cached). Moves k (AtRest f c) (AtRest f d) (standing_of desk) (standing_of desk') p q) (sym now) did.moves) in
     let sits = subst (λ (d : Cached). Sits f k (AtRest f d) (standing_of desk') (part k q.list) (owed_events f d (part k q.list) + own_costs_of k more)) (sym now) did.stands.sits in
     let kept : (j : ℕ) → j ≢ k → part j q.list ≡ part j p.list = λ j ne. ap (λ (l : Whole). part j l) did.moves.list_is ∙ part_of_others j k did.moves.steps p.list (λ (e : k ≡ j). ne (sym e)) in
-    let change = owed_moves f p.list q.list p.caches q.caches k (length caches) some most kept did.caches in
-    let least = owed_at f p.list p.caches k (length caches) some most in
+    let many = at.many in
+    let within : k ≤ r.threads = omega (arith, most, many) in
+    let change = owed_moves f p.list q.list p.caches q.caches k r.threads some within kept did.caches in
+    let least = owed_at f p.list p.caches k r.threads some within in
     let owed = ap (λ (d : Cached). owed_events f d (part k q.list)) now in
     let longer = ap (λ (rs : List Record). length rs) added ∙ length-append (records_in out1) told in
     let spare = did.stands.spare in
-    turn k most seat at record { reaches = λ r rest. reach_both f first more p q r did.reaches rest; moves = moves; sits = sits; kept = did.caches; free = free_of f (first ++ more) more none others }
+    turn k most seat at record { reaches = λ s rest. reach_both f first more p q s did.reaches rest; moves = moves; sits = sits; kept = did.caches; free = free_of f (first ++ more) more none others }
     record {
-      many = length-set caches (k - 1) cache;
+      many = length-set caches (k - 1) cache ∙ at.many;
       operate = operate;
       room = at.places;
       names = names;
@@ -241,36 +246,38 @@ thread_turn {f} {all} {first} {more} {desk0} {desk} {desk'} {passes0} {passes} {
     }
 
 -- ---- the turn of the scavenger
-abbrev pub later_of : Profile → ℕ → Progress → List Act → Later
-later_of f threads p more = record { events = unbacks_of f more; records = owed_by f p.list p.caches threads + costs_of f more }
+abbrev pub later_of : Replay → Progress → List Act → Later
+later_of r p more = record { events = unbacks_of r.profile more; records = owed_by r.profile p.list p.caches r.threads + costs_of r.profile more }
 
-pub scavenger_now : {f : Profile} {all more : List Act} {act : Act} {desk0 desk : PlainDesk} {passes0 passes : Slots} {caches : List ThreadCache} {places : ℕ} {table : Names} {out : Records} {p : Progress} → TakesSeat desk0 desk passes0 passes 0 → IsAt f all (act ∷ more) (hand desk0 passes0 caches places table out) p
-    → HasRoomAt f (standing_of desk) out (for_act f act (later_of f (length caches) p more)) p
+pub scavenger_now : {r : Replay} {more : List Act} {act : Act} {desk0 desk : PlainDesk} {passes0 passes : Slots} {caches : List ThreadCache} {places : ℕ} {table : Names} {out : Records} {p : Progress} → TakesSeat desk0 desk passes0 passes 0 → IsAt r (act ∷ more) (hand desk0 passes0 caches places table out) p
+    → HasRoomAt r.profile (standing_of desk) out (for_act r.profile act (later_of r p more)) p
 scavenger_now seat at = let spare = at.spare in record { sits = sits_for (sits_now 0 (omega arith) seat at) (omega arith); spare = omega (arith, spare) }
 
-free_scavenged : (f : Profile) (act : Act) (more : List Act) → ((j : ℕ) → own_cost_of_act j act ≡ 0) → (j : ℕ) → j ≢ 0 → own_events f j (act ∷ more) ≡ own_events f j more
-free_scavenged f act more free zero ne = absurd (ne refl)
-free_scavenged f act more free (suc i) ne = let none = free (suc i) in omega (arith, none)
+-- an act that costs no thread anything, nor the scavenger
+pub free_act : (f : Profile) (act : Act) (more : List Act) → ((j : ℕ) → own_cost_of_act j act ≡ 0) → (j : ℕ) → (j ≡ 0 → unbacks_of_act f act ≡ 0) → own_events f j (act ∷ more) ≡ own_events f j more
+free_act f act more free zero none = let is = none refl in omega (arith, is)
+free_act f act more free (suc i) none = let is = free (suc i) in omega (arith, is)
 
-pub scavenger_turn : {f : Profile} {all more : List Act} {act : Act} {desk0 desk desk' : PlainDesk} {passes0 passes : Slots} {caches : List ThreadCache} {places places' : ℕ} {table : Names} {out out' : Records} {p : Progress} → TakesSeat desk0 desk passes0 passes 0
-    → ((j : ℕ) → own_cost_of_act j act ≡ 0) → ((limit : ℕ) (asked : List ℕ) → AreFit f limit asked (act ∷ more) → AreFit f limit asked more) → IsAt f all (act ∷ more) (hand desk0 passes0 caches places table out) p
-    → (did : ScavengerActs f act (standing_of desk) (standing_of desk') out out' (later_of f (length caches) p more) p) → places' ≡ places → IsAt f all more (hand desk' passes caches places' table out') did.reached
-scavenger_turn {f} {all} {more} {act} {desk0} {desk} {desk'} {passes0} {passes} {caches} {places} {places'} {table} {out} {out'} {p} seat free fit at did same =
+pub scavenger_turn : {r : Replay} {more : List Act} {act : Act} {desk0 desk desk' : PlainDesk} {passes0 passes : Slots} {caches : List ThreadCache} {places places' : ℕ} {table : Names} {out out' : Records} {p : Progress} → TakesSeat desk0 desk passes0 passes 0
+    → ((j : ℕ) → own_cost_of_act j act ≡ 0) → ((limit : ℕ) (asked : List ℕ) → AreFit r.profile limit asked (act ∷ more) → AreFit r.profile limit asked more) → IsAt r (act ∷ more) (hand desk0 passes0 caches places table out) p
+    → (did : ScavengerActs r.profile act (standing_of desk) (standing_of desk') out out' (later_of r p more) p) → places' ≡ places → IsTaken desk' passes × IsAt r more (hand desk' passes caches places' table out') did.reached
+scavenger_turn {r} {more} {act} {desk0} {desk} {desk'} {passes0} {passes} {caches} {places} {places'} {table} {out} {out'} {p} seat free fit at did same =
+    let f = r.profile in
     let q = did.reached in
     let names = at.names in
     let kept : (j : ℕ) → j ≢ 0 → part j q.list ≡ part j p.list = λ j ne. ap (λ (l : Whole). part j l) did.moves.list_is ∙ part_of_others j 0 did.moves.steps p.list (λ (e : 0 ≡ j). ne (sym e)) in
     let alike : (j : ℕ) → j ≢ 0 → q.caches j ≡ p.caches j = λ j ne. ap (λ (cs : Caches). cs j) did.caches in
-    let owed = owed_kept f p.list q.list p.caches q.caches 0 (length caches) (λ j low high e. omega (arith, low, e)) kept alike in
+    let owed = owed_kept f p.list q.list p.caches q.caches 0 r.threads (λ j low high e. omega (arith, low, e)) kept alike in
     let spare = did.stands.spare in
     turn 0 (omega arith) seat at record {
-      reaches = λ r rest. reach_both f (act ∷ []) more p q r did.reaches rest;
+      reaches = λ s rest. reach_both f (act ∷ []) more p q s did.reaches rest;
       moves = did.moves;
       sits = sits_for did.stands.sits (omega arith);
       kept = alike;
-      free = free_scavenged f act more free;
+      free = λ j ne. free_act f act more free j (λ is. absurd (ne is));
     }
     record {
-      many = refl;
+      many = at.many;
       operate = at.operate.1;
       room = same ∙ at.places;
       names = subst (λ (ns : List Named). HasNames f more table ns) (sym did.names) record { asked = names.asked; fit = fit (names_held table) names.asked names.fit; tells = names.tells; turns = names.turns; known = names.known };

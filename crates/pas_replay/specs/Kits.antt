@@ -1,5 +1,6 @@
 -- A kit that nobody used, made for a plan.
 use Rattle.std.specs.Prelude.{ℕ, ◌+◌, ◌<◌, ◌≡◌, [], length, Option, Some, None, slice_index}
+use Rattle.pas_trace.specs.Acts.{acts_of}
 use Rattle.pas_trace.specs.Plans.{bounds_of}
 use Rattle.pas_trace.specs.declared.plan.Plan.{Plan}
 use Rattle.pas_plain.specs.Plain.{profile_of, actor_of, room_of_pass, RegionStands, PassStands}
@@ -9,7 +10,7 @@ use Rattle.pas_answers.specs.Names.{block_named, names_held}
 use Rattle.pas_answers.specs.Replays.{phases_of, region_of, threads_of}
 use Rattle.pas_replay.specs.declared.kit.PlainKit.{PlainKit}
 use Rattle.pas_utility.specs.Outcomes.{places_of}
-use Rattle.pas_replay.specs.Sessions.{pass_in}
+use Rattle.pas_replay.specs.Sessions.{pass_in, Replay}
 use Rattle.pas_plans.specs.Parts.{AreUnused}
 
 -- an actor that did nothing yet: its pass has room for its bound
@@ -31,3 +32,7 @@ pub record IsKitOf (plan : Plan) (kit : PlainKit) : Type 0 where
   pub no_name : (name : ℕ) → block_named kit.names name ≡ None
   pub names : AllBelow (names_held kit.names) (phases_of plan)
   pub none_left : kit.passes.items ≡ []
+
+-- the replay of the plan
+abbrev pub replay_of : Plan → Replay
+replay_of plan = record { profile = region_of plan; threads = threads_of plan; acts = acts_of (threads_of plan) (phases_of plan) }

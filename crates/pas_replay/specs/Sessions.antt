@@ -15,7 +15,8 @@ use Rattle.pas_report.specs.Rooms.{records_in, room_of, Records}
 use Rattle.pas_cache.specs.Caches.{cached, AtRest}
 use Rattle.pas_cache.specs.declared.cache.ThreadCache.{ThreadCache}
 use Rattle.pas_utility.specs.Outcomes.{places_of}
-use Rattle.pas_answers.specs.Acts.{Act}
+use Rattle.pas_trace.specs.Acts.{Act, acts_of}
+use Rattle.pas_trace.specs.declared.plan.Op.{Op}
 use Rattle.pas_answers.specs.Answers.{Progress, Named, Caches}
 use Rattle.pas_answers.specs.Calls.{Tells, HasTurns, AreKnown, owed_events}
 use Rattle.pas_answers.specs.Fit.{AreFit, AreOfThreads, costs_of, own_costs_of, unbacks_of}
@@ -103,6 +104,12 @@ abbrev pub AreEmpty : List ThreadCache → Type 0
 AreEmpty list = (i : ℕ) (d : ThreadCache) → i < length list → (cached (slice_index_or list i d)).locals ≡ []
 
 -- ---- the replay goes on
+-- a replay: the profile of its region, how many threads it has, and all its acts
+pub record Replay : Type 0 where
+  pub profile : Profile
+  pub threads : ℕ
+  pub acts : List Act
+
 -- what a replay has in hand between two acts
 pub record Hand : Type 0 where
   pub region : PlainRegion
@@ -142,45 +149,61 @@ pub record HasNames (f : Profile) (acts : List Act) (table : Names) (names : Lis
   pub turns : HasTurns table
   pub known : AreKnown asked names
 
--- The acts are left of `all`, and the replay came as far as p: wherever they take it from here, all of them take it from
--- the start. Each actor of the region stands. There is a cache for each thread. The threads are actors of the region,
--- those operations are theirs, and beside them only the scavenger made steps. There is room for what the acts may make.
-pub record IsAt (f : Profile) (all acts : List Act) (h : Hand) (p : Progress) : Type 0 where
-  pub profile_is : profile_of h.region ≡ f
-  pub actors : length h.passes ≡ f.threads + 1
-  pub threads : length h.caches ≤ f.threads
-  pub operate : AreOfThreads (length h.caches) acts
-  pub places : h.places ≡ f.pages
+-- These acts of the replay are left, and it came as far as p: wherever they take it from here, all of its acts take it from the start. Each actor of the
+-- region stands. There is a cache for each thread. The threads are actors of the region, those operations are theirs, and beside them only the scavenger
+-- made steps. There is room for what the acts may make.
+pub record IsAt (r : Replay) (acts : List Act) (h : Hand) (p : Progress) : Type 0 where
+  pub profile_is : profile_of h.region ≡ r.profile
+  pub actors : length h.passes ≡ r.profile.threads + 1
+  pub many : length h.caches ≡ r.threads
+  pub threads : r.threads ≤ r.profile.threads
+  pub operate : AreOfThreads r.threads acts
+  pub places : h.places ≡ r.profile.pages
   pub stands : RegionStands h.region p.list
-  pub each : (k : ℕ) → k ≤ f.threads → ActorStands f k p.caches (pass_in h.passes k) p.list acts
-  pub nobody : (k : ℕ) → length h.caches < k → part k p.list ≡ []
-  pub names : HasNames f acts h.table p.names
+  pub each : (k : ℕ) → k ≤ r.profile.threads → ActorStands r.profile k p.caches (pass_in h.passes k) p.list acts
+  pub nobody : (k : ℕ) → r.threads < k → part k p.list ≡ []
+  pub names : HasNames r.profile acts h.table p.names
   pub caches_are : AreCaches p.caches h.caches
   pub records_are : records_in h.out ≡ p.records
-  pub spare : length (records_in h.out) + (owed_by f p.list p.caches (length h.caches) + costs_of f acts) ≤ room_of h.out
-  pub answers : (q : Progress) → Reaches f acts p q → Reaches f all at_start q
+  pub spare : length (records_in h.out) + (owed_by r.profile p.list p.caches r.threads + costs_of r.profile acts) ≤ room_of h.out
+  pub answers : (q : Progress) → Reaches r.profile acts p q → Reaches r.profile r.acts at_start q
 
-abbrev pub SoFar : Profile → List Act → List Act → Hand → Type 0
-SoFar f all acts h = (p : Progress) × IsAt f all acts h p
+abbrev pub SoFar : Replay → List Act → Hand → Type 0
+SoFar r acts h = (p : Progress) × IsAt r acts h p
 
--- in some replay these acts come next
-abbrev pub MayGoOn : List Act → Hand → Type 0
-MayGoOn acts h = (f : Profile) × (all : List Act) × (more : List Act) × SoFar f all (acts ++ more) h
+-- the whole replay of these phases
+abbrev pub Replays : List (List Op) → Hand → Hand → Type 0
+Replays phases before after = (r : Replay) → r.acts ≡ acts_of r.threads phases → SoFar r r.acts before → SoFar r [] after
+
+-- ---- at the desk
+-- what a replay has in hand while an actor sits there
+pub record Session : Type 0 where
+  pub desk : PlainDesk
+  pub actors : Actors
+  pub table : Names
+  pub out : Records
+
+abbrev pub session : PlainDesk → Actors → Names → Records → Session
+session desk actors table out = record { desk = desk; actors = actors; table = table; out = out }
+
+-- that actor has a place among the passes
+abbrev pub SoFarAt : Replay → List Act → Session → Type 0
+SoFarAt r acts s = IsTaken s.desk s.actors.passes.items × SoFar r acts (hand_at s.desk s.actors s.table s.out)
+
+-- in some replay these acts come next, which go by its number of threads
+abbrev pub MayGoOn : (ℕ → List Act) → Session → Type 0
+MayGoOn acts s = (r : Replay) × (more : List Act) × SoFarAt r (acts r.threads ++ more) s
 
 -- in each replay in which these acts come next, those after them are left afterwards
-abbrev pub GoesOn : List Act → Hand → Hand → Type 0
-GoesOn acts before after = (f : Profile) (all more : List Act) → SoFar f all (acts ++ more) before → SoFar f all more after
-
--- the whole replay
-abbrev pub Replays : List Act → Hand → Hand → Type 0
-Replays acts before after = (f : Profile) → SoFar f acts acts before → SoFar f acts [] after
+abbrev pub GoesOn : (ℕ → List Act) → Session → Session → Type 0
+GoesOn acts before after = (r : Replay) (more : List Act) → SoFarAt r (acts r.threads ++ more) before → SoFarAt r more after
 
 -- ---- the same, where the scavenger read this epoch last for an idle operation
-abbrev pub HasRead : ℕ → Profile → List Act → List Act → Hand → Type 0
-HasRead epoch f all acts h = (p : Progress) × IsAt f all acts h p × (p.epoch ≡ epoch)
+abbrev pub HasRead : ℕ → Replay → List Act → Session → Type 0
+HasRead epoch r acts s = IsTaken s.desk s.actors.passes.items × (p : Progress) × IsAt r acts (hand_at s.desk s.actors s.table s.out) p × (p.epoch ≡ epoch)
 
-abbrev pub MayGoOnAt : ℕ → List Act → Hand → Type 0
-MayGoOnAt epoch acts h = (f : Profile) × (all : List Act) × (more : List Act) × HasRead epoch f all (acts ++ more) h
+abbrev pub MayGoOnAt : ℕ → List Act → Session → Type 0
+MayGoOnAt epoch acts s = (r : Replay) × (more : List Act) × HasRead epoch r (acts ++ more) s
 
-abbrev pub GoesOnAt : ℕ → List Act → Hand → Hand → Type 0
-GoesOnAt epoch acts before after = (f : Profile) (all more : List Act) → HasRead epoch f all (acts ++ more) before → HasRead epoch f all more after
+abbrev pub GoesOnAt : ℕ → List Act → Session → Session → Type 0
+GoesOnAt epoch acts before after = (r : Replay) (more : List Act) → HasRead epoch r (acts ++ more) before → HasRead epoch r more after

@@ -1,10 +1,9 @@
 //! The phases of a plan in order, and the close.
 ghost use Rattle.std.specs.Prelude.{◌≡◌, ◌+◌, ◌<◌, ◌≤◌, ◌^◌, map, length, [], ◌∷◌};
 ghost use Rattle.pas_trace.specs.Plans.{ops_of};
-ghost use Rattle.pas_answers.specs.Acts.{Wakes, ReadsEpoch, Ends, numbers_from, idle_stops, acts_of_op, acts_of_ops, acts_of};
-ghost use Rattle.pas_replay.specs.Sessions.{SoFar, AreEmpty, MayGoOn, GoesOn, Replays, hand_at, hand_of, IsTaken};
+ghost use Rattle.pas_trace.specs.Acts.{Wakes, ReadsEpoch, Ends, numbers_from, idle_stops, acts_of_op, acts_of_ops, acts_of};
+ghost use Rattle.pas_replay.specs.Sessions.{Replay, SoFar, AreEmpty, MayGoOn, GoesOn, Replays, hand_of, session};
 ghost use Rattle.pas_plans.specs.Awake.{awake_in, idle_in};
-ghost use Rattle.pas_profile.specs.declared.profile.Profile.{Profile as TheProfile};
 ghost use Rattle.pas_report.specs.Rooms.{Records as TheRecords};
 ghost use Rattle.pas_answers.specs.declared.names.Names.{Names as TheNames};
 
@@ -23,12 +22,9 @@ const UNMARKED: u32 = 1;
 /// Each thread that has an operation in the phase reads the epoch.
 fn wake_all(desk: &mut PlainDesk, actors: &mut Actors, awake: Mask4)
     requires few { length actors.old.caches.items < 32 }
-    requires taken { IsTaken desk.old actors.old.passes.items }
-    requires so_far { (table : TheNames) × (out : TheRecords) × MayGoOn (map Wakes (awake_in awake (length actors.old.caches.items))) (hand_at desk.old actors.old table out) }
-    ensures taken { IsTaken desk.new actors.new.passes.items }
+    requires so_far { (table : TheNames) × (out : TheRecords) × MayGoOn (λ n. map Wakes (awake_in awake n)) (session desk.old actors.old table out) }
     ensures threads { length actors.new.caches.items ≡ length actors.old.caches.items }
-    ensures so_far { (table : TheNames) (out : TheRecords)
-        → GoesOn (map Wakes (awake_in awake (length actors.old.caches.items))) (hand_at desk.old actors.old table out) (hand_at desk.new actors.new table out) }
+    ensures so_far { (table : TheNames) (out : TheRecords) → GoesOn (λ n. map Wakes (awake_in awake n)) (session desk.old actors.old table out) (session desk.new actors.new table out) }
 {
     for index in 0..actors.caches.len() {
         let actor = index as u8 + 1;
@@ -47,12 +43,10 @@ fn stop_idle(
     out: &mut Records,
 )
     requires few { length actors.old.caches.items < 32 }
-    requires taken { IsTaken desk.old actors.old.passes.items }
-    requires so_far { (table : TheNames) × MayGoOn (ReadsEpoch ∷ idle_stops epochs (idle_in awake (length actors.old.caches.items))) (hand_at desk.old actors.old table out.old) }
-    ensures taken { IsTaken desk.new actors.new.passes.items }
+    requires so_far { (table : TheNames) × MayGoOn (λ n. ReadsEpoch ∷ idle_stops epochs (idle_in awake n)) (session desk.old actors.old table out.old) }
     ensures threads { length actors.new.caches.items ≡ length actors.old.caches.items }
-    ensures so_far { (table : TheNames) → GoesOn (ReadsEpoch ∷ idle_stops epochs (idle_in awake (length actors.old.caches.items)))
-        (hand_at desk.old actors.old table out.old) (hand_at desk.new actors.new table out.new) }
+    ensures so_far { (table : TheNames) → GoesOn (λ n. ReadsEpoch ∷ idle_stops epochs (idle_in awake n))
+        (session desk.old actors.old table out.old) (session desk.new actors.new table out.new) }
 {
     let threads = actors.caches.len();
     let epoch = read_epoch(desk, actors);
@@ -75,14 +69,12 @@ fn perform(
     out: &mut Records,
 )
     requires few { length actors.old.caches.items < 32 }
-    requires taken { IsTaken desk.old actors.old.passes.items }
-    requires so_far { MayGoOn (acts_of_op (idle_in awake (length actors.old.caches.items)) op) (hand_at desk.old actors.old names.old out.old) }
-    ensures taken { IsTaken desk.new actors.new.passes.items }
+    requires so_far { MayGoOn (λ n. acts_of_op (idle_in awake n) op) (session desk.old actors.old names.old out.old) }
     ensures threads { length actors.new.caches.items ≡ length actors.old.caches.items }
-    ensures so_far { GoesOn (acts_of_op (idle_in awake (length actors.old.caches.items)) op) (hand_at desk.old actors.old names.old out.old) (hand_at desk.new actors.new names.new out.new) }
+    ensures so_far { GoesOn (λ n. acts_of_op (idle_in awake n) op) (session desk.old actors.old names.old out.old) (session desk.new actors.new names.new out.new) }
 {
     match op.work() {
-        Work::Own(_) => operate(desk, actors, names, op, out),
+        Work::Own(task) => operate(desk, actors, names, op.actor, task, out),
         Work::Chore(Chore::Tick(epoch)) => tick(desk, actors, epoch, out),
         Work::Chore(Chore::Pass) => pass(desk, actors, out),
         Work::Chore(Chore::Idle(epochs)) => stop_idle(desk, actors, awake, epochs, out),
@@ -99,11 +91,9 @@ fn perform_all(
     out: &mut Records,
 )
     requires few { length actors.old.caches.items < 32 }
-    requires taken { IsTaken desk.old actors.old.passes.items }
-    requires so_far { MayGoOn (acts_of_ops (idle_in awake (length actors.old.caches.items)) ops.now) (hand_at desk.old actors.old names.old out.old) }
-    ensures taken { IsTaken desk.new actors.new.passes.items }
+    requires so_far { MayGoOn (λ n. acts_of_ops (idle_in awake n) ops.now) (session desk.old actors.old names.old out.old) }
     ensures threads { length actors.new.caches.items ≡ length actors.old.caches.items }
-    ensures so_far { GoesOn (acts_of_ops (idle_in awake (length actors.old.caches.items)) ops.now) (hand_at desk.old actors.old names.old out.old) (hand_at desk.new actors.new names.new out.new) }
+    ensures so_far { GoesOn (λ n. acts_of_ops (idle_in awake n) ops.now) (session desk.old actors.old names.old out.old) (session desk.new actors.new names.new out.new) }
 {
     for op in ops {
         perform(desk, actors, names, awake, *op, out);
@@ -113,11 +103,9 @@ fn perform_all(
 /// Stops each thread, in order.
 fn stop_all(desk: &mut PlainDesk, actors: &mut Actors, out: &mut Records)
     requires few { length actors.old.caches.items < 32 }
-    requires taken { IsTaken desk.old actors.old.passes.items }
-    requires so_far { (table : TheNames) × MayGoOn (map Ends (numbers_from 1 (length actors.old.caches.items))) (hand_at desk.old actors.old table out.old) }
-    ensures taken { IsTaken desk.new actors.new.passes.items }
+    requires so_far { (table : TheNames) × MayGoOn (λ n. map Ends (numbers_from 1 n)) (session desk.old actors.old table out.old) }
     ensures threads { length actors.new.caches.items ≡ length actors.old.caches.items }
-    ensures so_far { (table : TheNames) → GoesOn (map Ends (numbers_from 1 (length actors.old.caches.items))) (hand_at desk.old actors.old table out.old) (hand_at desk.new actors.new table out.new) }
+    ensures so_far { (table : TheNames) → GoesOn (λ n. map Ends (numbers_from 1 n)) (session desk.old actors.old table out.old) (session desk.new actors.new table out.new) }
     ensures empty { AreEmpty actors.new.caches.items }
 {
     for index in 0..actors.caches.len() {
@@ -136,8 +124,8 @@ pub(crate) fn replay(
 ) -> PlainRegion
     requires phases { length phases.now < 2 ^ 32 }
     requires few { length actors.old.caches.items < 32 }
-    requires so_far { (f : TheProfile) × SoFar f (acts_of (length actors.old.caches.items) (map ops_of phases.now)) (acts_of (length actors.old.caches.items) (map ops_of phases.now)) (hand_of region actors.old names.old out.old) }
-    ensures so_far { Replays (acts_of (length actors.old.caches.items) (map ops_of phases.now)) (hand_of region actors.old names.old out.old) (hand_of result actors.new names.new out.new) }
+    requires so_far { (r : Replay) × (r.acts ≡ acts_of r.threads (map ops_of phases.now)) × SoFar r r.acts (hand_of region actors.old names.old out.old) }
+    ensures so_far { Replays (map ops_of phases.now) (hand_of region actors.old names.old out.old) (hand_of result actors.new names.new out.new) }
     ensures empty { AreEmpty actors.new.caches.items }
 {
     let mut desk = sit(region, actors, SCAVENGER);

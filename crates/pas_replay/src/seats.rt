@@ -6,13 +6,14 @@ ghost use Rattle.pas_plain.specs.Seats.{pass_of};
 ghost use Rattle.pas_cache.specs.Caches.{cached};
 ghost use Rattle.pas_cache.specs.declared.cache.ThreadCache.{ThreadCache as TheCache};
 ghost use Rattle.pas_report.specs.Rooms.{Records as TheRecords};
-ghost use Rattle.pas_answers.specs.Acts.{Act, Operates, Settles, Ticks, MakesPass, ReadsEpoch, StopsIdle, Wakes, Ends};
+ghost use Rattle.pas_trace.specs.Acts.{Act, Operates, Settles, Ticks, MakesPass, ReadsEpoch, StopsIdle, Wakes, Ends};
 ghost use Rattle.pas_answers.specs.Answers.{Named};
-ghost use Rattle.pas_answers.specs.Calls.{Tells, HasTurn, HasTurns, freed_by, named_by};
+ghost use Rattle.pas_answers.specs.Calls.{what_of, Tells, HasTurn, HasTurns, freed_by, named_by};
+ghost use Rattle.pas_trace.specs.declared.plan.Op.{Op as TheOp};
 ghost use Rattle.pas_answers.specs.Fit.{IsFitWhat};
 ghost use Rattle.pas_answers.specs.Names.{block_named, names_held};
 ghost use Rattle.pas_answers.specs.declared.names.Names.{Names as TheNames};
-ghost use Rattle.pas_replay.specs.Sessions.{pass_in, hand_of, hand_at, IsTaken, MaySit, MayTakeSeat, TakesSeat, SoFar, MayGoOn, GoesOn, HasRead, MayGoOnAt, GoesOnAt};
+ghost use Rattle.pas_replay.specs.Sessions.{Replay, pass_in, hand_of, hand_at, session, IsTaken, MaySit, MayTakeSeat, TakesSeat, SoFarAt, MayGoOn, GoesOn, HasRead, MayGoOnAt, GoesOnAt};
 
 use pas_acts::at_desk::SCAVENGER;
 use pas_acts::{at_desk, turns};
@@ -22,7 +23,7 @@ use pas_plain::{PlainDesk, PlainPass, PlainRegion};
 use pas_profile::Name;
 use pas_report::{Record, Records, Said};
 use pas_steps::Desk;
-use pas_trace::{Op, What};
+use pas_trace::Task;
 use pas_utility::Outcomes;
 
 /// What the actors have beside the region.
@@ -88,27 +89,27 @@ fn change_seats(desk: &mut PlainDesk, passes: &mut Vec<Option<PlainPass>>, actor
     passes[place] = Some(risen);
 }
 
-/// What the name that the operation frees stands for.
+/// What the name that the task frees stands for.
 #[inline(always)]
-fn freed(names: &Names, what: What) -> Option<Name>
-    ensures { result ≡ freed_by (block_named names.now) what }
+fn freed(names: &Names, task: Task) -> Option<Name>
+    ensures { result ≡ freed_by (block_named names.now) (what_of task) }
 {
-    match what {
-        What::Free { name } => names.get(name),
+    match task {
+        Task::Free { name } => names.get(name),
         _ => None,
     }
 }
 
-/// Keeps what the name that the operation asked for came to.
+/// Keeps what the name that the task asked for came to.
 #[inline(always)]
-fn keep(names: &mut Names, what: What, came: Option<Name>)
-    requires fit { (f : TheProfile) × (asked : List ℕ) × IsFitWhat f (names_held names.old) asked what }
-    ensures tells { (known : List Named) → Tells names.old known → Tells names.new (named_by what came ++ known) }
+fn keep(names: &mut Names, task: Task, came: Option<Name>)
+    requires fit { (f : TheProfile) × (asked : List ℕ) × IsFitWhat f (names_held names.old) asked (what_of task) }
+    ensures tells { (known : List Named) → Tells names.old known → Tells names.new (named_by (what_of task) came ++ known) }
     ensures turns { HasTurns names.old → HasTurn came → HasTurns names.new }
     ensures held { names_held names.new ≡ names_held names.old }
 {
-    match what {
-        What::Alloc { name, .. } => names.set(name, came),
+    match task {
+        Task::Request { name, .. } => names.set(name, came),
         _ => {}
     }
 }
@@ -117,50 +118,47 @@ fn keep(names: &mut Names, what: What, came: Option<Name>)
 pub(crate) fn wake(desk: &mut PlainDesk, actors: &mut Actors, actor: u8)
     requires some { 1 ≤ actor }
     requires thread { actor ≤ length actors.old.caches.items }
-    requires taken { IsTaken desk.old actors.old.passes.items }
-    requires so_far { (table : TheNames) × (out : TheRecords) × MayGoOn (Wakes actor ∷ []) (hand_at desk.old actors.old table out) }
-    ensures taken { IsTaken desk.new actors.new.passes.items }
+    requires so_far { (table : TheNames) × (out : TheRecords) × MayGoOn (λ n. Wakes actor ∷ []) (session desk.old actors.old table out) }
     ensures threads { length actors.new.caches.items ≡ length actors.old.caches.items }
-    ensures so_far { (table : TheNames) (out : TheRecords) → GoesOn (Wakes actor ∷ []) (hand_at desk.old actors.old table out) (hand_at desk.new actors.new table out) }
+    ensures so_far { (table : TheNames) (out : TheRecords) → GoesOn (λ n. Wakes actor ∷ []) (session desk.old actors.old table out) (session desk.new actors.new table out) }
 {
     take_seat(desk, &mut actors.passes, actor);
     let cache = &mut actors.caches[actor as usize - 1];
     turns::begin(desk, cache);
 }
 
-/// The operation's thread performs it, and its events and what is said come to the records. The runs of large blocks that its cache noted are handed on.
+/// The thread of this number does the task, and its events and what is said come to the records. The runs of large blocks that its cache noted are handed
+/// on. This answers each operation of the thread that asks for the task.
 #[inline(always)]
 pub(crate) fn operate(
     desk: &mut PlainDesk,
     actors: &mut Actors,
     names: &mut Names,
-    op: Op,
+    actor: u8,
+    task: Task,
     out: &mut Records,
 )
-    requires some { 1 ≤ op.actor }
-    requires thread { op.actor ≤ length actors.old.caches.items }
-    requires taken { IsTaken desk.old actors.old.passes.items }
-    requires so_far { MayGoOn (Operates op ∷ (Settles op.actor ∷ [])) (hand_at desk.old actors.old names.old out.old) }
-    ensures taken { IsTaken desk.new actors.new.passes.items }
+    requires some { 1 ≤ actor }
+    requires thread { actor ≤ length actors.old.caches.items }
+    requires so_far { (op : TheOp) × (op.actor ≡ actor) × (op.what ≡ what_of task) × MayGoOn (λ n. Operates op ∷ (Settles op.actor ∷ [])) (session desk.old actors.old names.old out.old) }
     ensures threads { length actors.new.caches.items ≡ length actors.old.caches.items }
-    ensures so_far { GoesOn (Operates op ∷ (Settles op.actor ∷ [])) (hand_at desk.old actors.old names.old out.old) (hand_at desk.new actors.new names.new out.new) }
+    ensures so_far { (op : TheOp) → op.actor ≡ actor → op.what ≡ what_of task
+        → GoesOn (λ n. Operates op ∷ (Settles op.actor ∷ [])) (session desk.old actors.old names.old out.old) (session desk.new actors.new names.new out.new) }
 {
-    take_seat(desk, &mut actors.passes, op.actor);
-    let cache = &mut actors.caches[op.actor as usize - 1];
-    let meant = freed(names, op.what);
-    let came = at_desk::operate(desk, cache, op, meant, out);
-    keep(names, op.what, came);
+    take_seat(desk, &mut actors.passes, actor);
+    let cache = &mut actors.caches[actor as usize - 1];
+    let meant = freed(names, task);
+    let came = at_desk::operate(desk, cache, task, meant, out);
+    keep(names, task, came);
 }
 
 /// The thread of this number is stopped, as the replay closes. Its cache is empty then.
 pub(crate) fn end(desk: &mut PlainDesk, actors: &mut Actors, actor: u8, out: &mut Records)
     requires some { 1 ≤ actor }
     requires thread { actor ≤ length actors.old.caches.items }
-    requires taken { IsTaken desk.old actors.old.passes.items }
-    requires so_far { (table : TheNames) × MayGoOn (Ends actor ∷ []) (hand_at desk.old actors.old table out.old) }
-    ensures taken { IsTaken desk.new actors.new.passes.items }
+    requires so_far { (table : TheNames) × MayGoOn (λ n. Ends actor ∷ []) (session desk.old actors.old table out.old) }
     ensures cache { (cache : TheCache) × (actors.new.caches.items ≡ slice_set actors.old.caches.items (actor - 1) cache) × ((cached cache).locals ≡ []) }
-    ensures so_far { (table : TheNames) → GoesOn (Ends actor ∷ []) (hand_at desk.old actors.old table out.old) (hand_at desk.new actors.new table out.new) }
+    ensures so_far { (table : TheNames) → GoesOn (λ n. Ends actor ∷ []) (session desk.old actors.old table out.old) (session desk.new actors.new table out.new) }
 {
     take_seat(desk, &mut actors.passes, actor);
     let cache = &mut actors.caches[actor as usize - 1];
@@ -178,11 +176,9 @@ pub(crate) fn stop_if_idle(
 )
     requires some { 1 ≤ actor }
     requires thread { actor ≤ length actors.old.caches.items }
-    requires taken { IsTaken desk.old actors.old.passes.items }
-    requires so_far { (table : TheNames) × MayGoOnAt epoch (StopsIdle actor epochs ∷ []) (hand_at desk.old actors.old table out.old) }
-    ensures taken { IsTaken desk.new actors.new.passes.items }
+    requires so_far { (table : TheNames) × MayGoOnAt epoch (StopsIdle actor epochs ∷ []) (session desk.old actors.old table out.old) }
     ensures threads { length actors.new.caches.items ≡ length actors.old.caches.items }
-    ensures so_far { (table : TheNames) → GoesOnAt epoch (StopsIdle actor epochs ∷ []) (hand_at desk.old actors.old table out.old) (hand_at desk.new actors.new table out.new) }
+    ensures so_far { (table : TheNames) → GoesOnAt epoch (StopsIdle actor epochs ∷ []) (session desk.old actors.old table out.old) (session desk.new actors.new table out.new) }
 {
     take_seat(desk, &mut actors.passes, actor);
     let cache = &mut actors.caches[actor as usize - 1];
@@ -193,11 +189,9 @@ pub(crate) fn stop_if_idle(
 
 /// The scavenger raises the epoch to at least this.
 pub(crate) fn tick(desk: &mut PlainDesk, actors: &mut Actors, epoch: u64, out: &mut Records)
-    requires taken { IsTaken desk.old actors.old.passes.items }
-    requires so_far { (table : TheNames) × MayGoOn (Ticks epoch ∷ []) (hand_at desk.old actors.old table out.old) }
-    ensures taken { IsTaken desk.new actors.new.passes.items }
+    requires so_far { (table : TheNames) × MayGoOn (λ n. Ticks epoch ∷ []) (session desk.old actors.old table out.old) }
     ensures threads { length actors.new.caches.items ≡ length actors.old.caches.items }
-    ensures so_far { (table : TheNames) → GoesOn (Ticks epoch ∷ []) (hand_at desk.old actors.old table out.old) (hand_at desk.new actors.new table out.new) }
+    ensures so_far { (table : TheNames) → GoesOn (λ n. Ticks epoch ∷ []) (session desk.old actors.old table out.old) (session desk.new actors.new table out.new) }
 {
     take_seat(desk, &mut actors.passes, SCAVENGER);
     at_desk::tick(desk, epoch, out);
@@ -205,11 +199,9 @@ pub(crate) fn tick(desk: &mut PlainDesk, actors: &mut Actors, epoch: u64, out: &
 
 /// The scavenger makes a pass.
 pub(crate) fn pass(desk: &mut PlainDesk, actors: &mut Actors, out: &mut Records)
-    requires taken { IsTaken desk.old actors.old.passes.items }
-    requires so_far { (table : TheNames) × MayGoOn (MakesPass ∷ []) (hand_at desk.old actors.old table out.old) }
-    ensures taken { IsTaken desk.new actors.new.passes.items }
+    requires so_far { (table : TheNames) × MayGoOn (λ n. MakesPass ∷ []) (session desk.old actors.old table out.old) }
     ensures threads { length actors.new.caches.items ≡ length actors.old.caches.items }
-    ensures so_far { (table : TheNames) → GoesOn (MakesPass ∷ []) (hand_at desk.old actors.old table out.old) (hand_at desk.new actors.new table out.new) }
+    ensures so_far { (table : TheNames) → GoesOn (λ n. MakesPass ∷ []) (session desk.old actors.old table out.old) (session desk.new actors.new table out.new) }
 {
     take_seat(desk, &mut actors.passes, SCAVENGER);
     at_desk::pass(desk, &mut actors.outcomes, out);
@@ -217,11 +209,9 @@ pub(crate) fn pass(desk: &mut PlainDesk, actors: &mut Actors, out: &mut Records)
 
 /// The scavenger reads the epoch.
 pub(crate) fn read_epoch(desk: &mut PlainDesk, actors: &mut Actors) -> u64
-    requires taken { IsTaken desk.old actors.old.passes.items }
-    requires so_far { (table : TheNames) × (out : TheRecords) × MayGoOn (ReadsEpoch ∷ []) (hand_at desk.old actors.old table out) }
-    ensures taken { IsTaken desk.new actors.new.passes.items }
+    requires so_far { (table : TheNames) × (out : TheRecords) × MayGoOn (λ n. ReadsEpoch ∷ []) (session desk.old actors.old table out) }
     ensures threads { length actors.new.caches.items ≡ length actors.old.caches.items }
-    ensures so_far { (table : TheNames) (out : TheRecords) (f : TheProfile) (all more : List Act) → SoFar f all (ReadsEpoch ∷ more) (hand_at desk.old actors.old table out) → HasRead result f all more (hand_at desk.new actors.new table out) }
+    ensures so_far { (table : TheNames) (out : TheRecords) (r : Replay) (more : List Act) → SoFarAt r (ReadsEpoch ∷ more) (session desk.old actors.old table out) → HasRead result r more (session desk.new actors.new table out) }
 {
     take_seat(desk, &mut actors.passes, SCAVENGER);
     at_desk::read_epoch(desk)

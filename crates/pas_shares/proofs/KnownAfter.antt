@@ -2,7 +2,7 @@
 use Rattle.std.proofs.Common.{◌≡◌, ℕ, List, [], ◌∷◌, sym, subst}
 use Rattle.pas_profile.specs.declared.profile.Profile.{Profile}
 use Rattle.pas_steps.specs.Lists.{part}
-use Rattle.pas_answers.specs.Acts.{Act, Operates}
+use Rattle.pas_trace.specs.Acts.{Act, Operates}
 use Rattle.pas_answers.specs.Answers.{Progress}
 use Rattle.pas_answers.specs.Calls.{AreKnown}
 use Rattle.pas_answers.proofs.KnownNames.{known_after}

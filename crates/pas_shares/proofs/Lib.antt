@@ -1,7 +1,6 @@
 pub mod PhaseActs
-pub mod Naming
-pub mod Sharing
+mod Naming
+mod Sharing
 pub mod Weaving
 pub mod KnownAfter
 pub mod Arranging
-pub mod Beyond

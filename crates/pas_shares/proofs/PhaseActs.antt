@@ -1,15 +1,16 @@
 -- The acts of a phase are shared among its workers.
-use Rattle.std.proofs.Common.{◌≡◌, ℕ, ◌≤◌, ◌==◌, ◌||◌, not, Bool, true, false, if◌then◌else◌, inl, inr, List, [], ◌∷◌, ◌++◌, refl, ap, sym, ◌∙◌, arith}
+use Rattle.std.proofs.Common.{◌≡◌, ℕ, ◌≤◌, ◌==◌, ◌||◌, not, Bool, true, false, if◌then◌else◌, inl, inr, List, [], ◌∷◌, ◌++◌, map, refl, ap, sym, ◌∙◌, arith}
 use Rattle.std.specs.List.{AllByRecursion, filter}
 use Rattle.std.proofs.lemmas.Bool.{eq-eqb, ne_eqb, false≢true, cases_eq, or_left, or_right, or_parts}
 use Rattle.pas_profile.specs.declared.profile.Profile.{Profile}
+use Rattle.pas_profile.proofs.Lists.{all_both}
 use Rattle.pas_trace.specs.Asked.{work_of}
 use Rattle.pas_trace.specs.EveryPlan.{AreSound, IsActorBy, asked_after}
 use Rattle.pas_trace.specs.declared.plan.Chore.{Chore}
 use Rattle.pas_trace.specs.declared.plan.Work.{Work}
 use Rattle.pas_trace.specs.declared.plan.Op.{Op}
-use Rattle.pas_answers.specs.Acts.{Act, Operates, Settles, is_active, numbers_from, idle_threads, idle_stops, acts_of_chore, acts_of_work, acts_of_op, acts_of_ops, own_acts, scavenger_acts}
-use Rattle.pas_shares.specs.Shares.{Owners, actor_of_act, AreInHand, acts_by, owner_in, ActsAreShared}
+use Rattle.pas_trace.specs.Acts.{Act, Operates, Settles, Ticks, MakesPass, ReadsEpoch, StopsIdle, is_active, numbers_from, idle_threads, acts_of_chore, acts_of_work, acts_of_op, acts_of_ops, own_acts, scavenger_acts}
+use Rattle.pas_shares.specs.Shares.{Owners, actor_of_act, IsInHand, AreInHand, acts_by, owner_in, ActsAreShared}
 
 -- ---- who owns whom
 -- each operation's actor is its own worker
@@ -49,19 +50,36 @@ by_both : (owner : Owners) (w : ℕ) (xs ys : List Act) → acts_by owner w (xs 
 by_both owner w [] ys = refl
 by_both owner w (x ∷ xs) ys = if_both (owner (actor_of_act x) == w) x (acts_by owner w xs) (acts_by owner w ys) (acts_by owner w (xs ++ ys)) (by_both owner w xs ys)
 
+-- ---- each act of an operation
+-- the acts of these are so, where those are
+all_of : {A B : Type 0} (P : B → Type 0) (Q : A → Type 0) (to : A → B) (xs : List A) → ((x : A) → Q x → P (to x)) → AllByRecursion Q xs → AllByRecursion P (map to xs)
+all_of P Q to [] one all = tt
+all_of P Q to (x ∷ xs) one all = (one x all.0, all_of P Q to xs one all.1)
+
+all_any : {A : Type 0} (xs : List A) → AllByRecursion (λ x. Unit {0}) xs
+all_any [] = tt
+all_any (x ∷ xs) = (tt, all_any xs)
+
+-- so are those of a chore, where those of the scavenger are, and the stops of the idle threads
+pub all_of_chore : (P : Act → Type 0) (Q : ℕ → Type 0) (idle : List ℕ) (chore : Chore) → ((epoch : ℕ) → P (Ticks epoch)) → P MakesPass → P ReadsEpoch → ((k n : ℕ) → Q k → P (StopsIdle k n)) → AllByRecursion Q idle → AllByRecursion P (acts_of_chore idle chore)
+all_of_chore P Q idle (Chore.Tick epoch) ticks pass reads stops all = (ticks epoch, tt)
+all_of_chore P Q idle Chore.Pass ticks pass reads stops all = (pass, tt)
+all_of_chore P Q idle (Chore.Idle n) ticks pass reads stops all = (reads, all_of P Q (λ k. StopsIdle k n) idle (λ k is. stops k n is) all)
+
+-- .. and those of operations, where those of each are
+module _ (f : Profile) (P : Act → Type 0) (idle : List ℕ) (each : (op : Op) → IsActorBy f (work_of op.what) op.actor → AllByRecursion P (acts_of_op idle op)) where
+  pub all_of_ops : (asked : List ℕ) (ops : List Op) → AreSound f asked ops → AllByRecursion P (acts_of_ops idle ops)
+  all_of_ops asked [] sound = tt
+  all_of_ops asked (op ∷ ops) sound = all_both P (acts_of_op idle op) (acts_of_ops idle ops) (each op sound.0) (all_of_ops (asked_after op.what asked) ops sound.2)
+
 -- the maker of each of these acts is actor j
 abbrev AreOf : ℕ → List Act → Type 0
 AreOf j acts = AllByRecursion (λ act. actor_of_act act ≡ j) acts
 
-stops_are_of : (j n : ℕ) (idle : List ℕ) → 0 ≡ j → AreOf j (idle_stops n idle)
-stops_are_of j n [] is = tt
-stops_are_of j n (k ∷ idle) is = (is, stops_are_of j n idle is)
-
 work_is_of : (f : Profile) (idle : List ℕ) (op : Op) (work : Work) → IsActorBy f work op.actor → AreOf op.actor (acts_of_work idle op work)
 work_is_of f idle op (Work.Own task) of = (refl, (refl, tt))
-work_is_of f idle op (Work.Chore (Chore.Tick epoch)) of = (sym of, tt)
-work_is_of f idle op (Work.Chore Chore.Pass) of = (sym of, tt)
-work_is_of f idle op (Work.Chore (Chore.Idle n)) of = (sym of, stops_are_of op.actor n idle (sym of))
+work_is_of f idle op (Work.Chore chore) of =
+    all_of_chore (λ act. actor_of_act act ≡ op.actor) (λ k. Unit {0}) idle chore (λ epoch. sym of) (sym of) (sym of) (λ k n is. sym of) (all_any idle)
 
 none_if : (t : Bool) → ◌≡◌ {A = List Act} [] (if t then [] else [])
 none_if true = refl
@@ -108,30 +126,13 @@ none_own k (op ∷ ops) is =
     ap (λ (t : Bool). if t then Operates op ∷ (Settles op.actor ∷ own_acts k ops) else own_acts k ops) both.0 ∙ none_own k ops both.1
 
 -- ---- all is in hand
-hands_both : (owner : Owners) (xs ys : List Act) → AreInHand owner xs → AreInHand owner ys → AreInHand owner (xs ++ ys)
-hands_both owner [] ys one two = two
-hands_both owner (x ∷ xs) ys one two = (one.0, hands_both owner xs ys one.1 two)
-
 -- each of these is in the scavenger's hands
 abbrev AreIdle : Owners → List ℕ → Type 0
 AreIdle owner ks = AllByRecursion (λ k. owner k ≡ owner 0) ks
 
-hands_stops : (owner : Owners) (n : ℕ) (idle : List ℕ) → AreIdle owner idle → AreInHand owner (idle_stops n idle)
-hands_stops owner n [] all = tt
-hands_stops owner n (k ∷ idle) all = (all.0, hands_stops owner n idle all.1)
-
-hands_chore : (owner : Owners) (idle : List ℕ) (chore : Chore) → AreIdle owner idle → AreInHand owner (acts_of_chore idle chore)
-hands_chore owner idle (Chore.Tick epoch) all = (tt, tt)
-hands_chore owner idle Chore.Pass all = (tt, tt)
-hands_chore owner idle (Chore.Idle n) all = (tt, hands_stops owner n idle all)
-
 hands_one : (owner : Owners) (idle : List ℕ) (op : Op) (work : Work) → AreIdle owner idle → AreInHand owner (acts_of_work idle op work)
 hands_one owner idle op (Work.Own task) all = (tt, (tt, tt))
-hands_one owner idle op (Work.Chore chore) all = hands_chore owner idle chore all
-
-hands_all : (owner : Owners) (idle : List ℕ) (ops : List Op) → AreIdle owner idle → AreInHand owner (acts_of_ops idle ops)
-hands_all owner idle [] all = tt
-hands_all owner idle (op ∷ ops) all = hands_both owner (acts_of_op idle op) (acts_of_ops idle ops) (hands_one owner idle op (work_of op.what) all) (hands_all owner idle ops all)
+hands_one owner idle op (Work.Chore chore) all = all_of_chore (IsInHand owner) (λ k. owner k ≡ owner 0) idle chore (λ epoch. tt) tt tt (λ k n is. is) all
 
 idle_one : (ops : List Op) (k : ℕ) (t : Bool) (rest : List ℕ) → is_active ops k ≡ t → AreIdle (owner_in ops) rest → AreIdle (owner_in ops) (if not t then k ∷ rest else rest)
 idle_one ops k true rest is all = all
@@ -147,7 +148,7 @@ acts_are_shared f threads asked ops sound =
     let own = all_own ops ops (λ k is. is) in
     let of_thread : (k : ℕ) → 1 ≤ k → acts_by (owner_in ops) k (acts_of_ops idle ops) ≡ own_acts k ops = λ k some.
     of_ops f (owner_in ops) k idle (own_acts k) refl (λ op rest of. own_next f k idle op (work_of op.what) (own_acts k rest) some of) asked ops own sound in (
-      hands_all (owner_in ops) idle ops (are_idle ops (numbers_from 1 threads)),
+      all_of_ops f (IsInHand (owner_in ops)) idle (λ op of. hands_one (owner_in ops) idle op (work_of op.what) (are_idle ops (numbers_from 1 threads))) asked ops sound,
       λ k some active. of_thread k some,
       λ k some inactive. of_thread k some ∙ none_own k ops inactive,
       of_ops f (owner_in ops) 0 idle (scavenger_acts idle) refl (λ op rest of. refl) asked ops own sound,

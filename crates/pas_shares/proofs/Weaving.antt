@@ -14,7 +14,7 @@ use Rattle.pas_report.specs.declared.record.Record.{Record}
 use Rattle.pas_report.specs.declared.record.Said.{Said}
 use Rattle.pas_cache.specs.Caches.{Cached}
 use Rattle.pas_passes.specs.Records.{records_of_pass}
-use Rattle.pas_answers.specs.Acts.{Act, Operates, Settles, Ticks, MakesPass, ReadsEpoch, StopsIdle, MarksPhase, Wakes, MarksClose, Ends}
+use Rattle.pas_trace.specs.Acts.{Act, Operates, Settles, Ticks, MakesPass, ReadsEpoch, StopsIdle, MarksPhase, Wakes, MarksClose, Ends}
 use Rattle.pas_answers.specs.Answers.{Named, having, answer_of, standing_for, IsAnswered, IsStopped, Progress, with_records, with_steps, after_answer, after_settling, after_wake, after_reading, after_tick, after_pass, after_stop, stopped, epoch_look, begun, settled, IsIdleFor, records_of, said_by}
 use Rattle.pas_answers.specs.Fit.{AreFit, IsFitWhat}
 use Rattle.pas_answers.specs.Ways.{EachOf, AreSpoken}

@@ -1,5 +1,6 @@
 -- What each worker does in a phase, apart from the others, and how the shares of all workers make up the whole phase.
 use Rattle.std.specs.Prelude.{ℕ, ◌+◌, ◌≤◌, ◌≡◌, ◌==◌, true, false, if◌then◌else◌, List, [], ◌∷◌, ◌++◌, Option, Some, IsSomeAnd}
+use Rattle.std.specs.List.{AllByRecursion}
 use Rattle.pas_profile.specs.declared.profile.Profile.{Profile}
 use Rattle.pas_profile.specs.declared.name.Name.{Name}
 use Rattle.pas_steps.specs.Lists.{part}
@@ -8,8 +9,8 @@ use Rattle.pas_trace.specs.EveryPlan.{AreSound}
 use Rattle.pas_trace.specs.declared.plan.What.{What}
 use Rattle.pas_trace.specs.declared.plan.Op.{Op}
 use Rattle.pas_report.specs.declared.record.Record.{Record}
-use Rattle.pas_answers.specs.Acts.{Act, Operates, Settles, Ticks, MakesPass, ReadsEpoch, StopsIdle, MarksPhase, Wakes, MarksClose, Ends, operation_in, is_active, idle_threads, acts_of_ops, own_acts, scavenger_acts}
-pub use Rattle.pas_answers.specs.Acts.{asked_after_act, asked_after_acts}
+use Rattle.pas_trace.specs.Acts.{Act, StopsIdle, MarksPhase, MarksClose, operation_in, stepper_of, is_active, idle_threads, acts_of_ops, own_acts, scavenger_acts}
+pub use Rattle.pas_trace.specs.Acts.{asked_after_act, asked_after_acts}
 use Rattle.pas_answers.specs.Answers.{Named, standing_for, Progress}
 use Rattle.pas_answers.specs.Calls.{AreKnown, OnlyAsked}
 use Rattle.pas_answers.specs.Reaching.{Reaches}
@@ -22,18 +23,11 @@ use Rattle.pas_answers.specs.Ways.{OnThreads, AreSpoken, records_by, by_actors, 
 abbrev pub Owners : Type 0
 Owners = ℕ → ℕ
 
--- the actor whose worker makes the act; a mark is of nobody, and stands between two phases
+-- the actor whose worker makes the act: the scavenger's stops idle threads, each other act is its stepper's. A mark is of nobody, and stands between
+-- two phases.
 abbrev pub actor_of_act : Act → ℕ
-actor_of_act (Operates op) = op.actor
-actor_of_act (Settles k) = k
-actor_of_act (Ticks epoch) = 0
-actor_of_act MakesPass = 0
-actor_of_act ReadsEpoch = 0
 actor_of_act (StopsIdle k n) = 0
-actor_of_act (MarksPhase n) = 0
-actor_of_act (Wakes k) = k
-actor_of_act MarksClose = 0
-actor_of_act (Ends k) = k
+actor_of_act act = stepper_of act
 
 -- the worker that makes the act has all that it changes in its hands
 abbrev pub IsInHand : Owners → Act → Type 0
@@ -43,8 +37,7 @@ IsInHand owner MarksClose = ⊥
 IsInHand owner act = Unit {0}
 
 abbrev pub AreInHand : Owners → List Act → Type 0
-AreInHand owner [] = Unit {0}
-AreInHand owner (act ∷ acts) = IsInHand owner act × AreInHand owner acts
+AreInHand owner acts = AllByRecursion (IsInHand owner) acts
 
 -- the acts of worker w among these, in order
 abbrev pub acts_by : Owners → ℕ → List Act → List Act

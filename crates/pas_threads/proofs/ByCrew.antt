@@ -1,36 +1,88 @@
--- The acts of the scavenger's worker.
-use Rattle.std.proofs.Common.{◌≡◌, ℕ, zero, suc, ◌+◌, ◌<◌, ◌≤◌, Bool, if◌then◌else◌, drop, drop_of_length-le, List, [], ◌∷◌, ◌++◌, length, get_or, refl, ap, sym, ◌∙◌, subst, arith, length-append}
+-- The acts of the scavenger's worker, and the stops of the threads that are lent to it.
+use Rattle.std.proofs.Common.{◌≡◌, ◌≢◌, ℕ, ◌+◌, ◌<◌, ◌≤◌, Bool, true, false, List, [], ◌∷◌, ◌++◌, length, drop, set, get_or, refl, ap, sym, ◌∙◌, subst, arith, length-append, drop_of_length-le, zero, suc, if◌then◌else◌}
 use Rattle.std.proofs.lemmas.List.{drop_more}
+use Rattle.pas_profile.specs.declared.profile.Profile.{Profile}
+use Rattle.pas_report.specs.Rooms.{records_in, Records}
+use Rattle.pas_report.specs.declared.record.Record.{Record}
+use Rattle.pas_shared.specs.declared.region.SharedRegion.{SharedRegion}
+use Rattle.pas_trace.specs.Acts.{Act, StopsIdle, idle_stops, ReadsEpoch, acts_of_chore, acts_of_work, acts_of_op, scavenger_acts}
+use Rattle.pas_answers.specs.Answers.{Progress, Caches}
+use Rattle.pas_answers.specs.Ways.{EachOf, records_by}
+use Rattle.pas_answers.proofs.OwnRecords.{records_both, none_by, all_by}
+use Rattle.pas_steps.specs.Lists.{Whole, part}
+use Rattle.pas_steps.proofs.Parts.{part_of_others}
+use Rattle.pas_acts.specs.Works.{Later, Sits}
+use Rattle.pas_acts.specs.AtDesks.{told_if, for_act, HasRoomAt, ScavengerActs}
+use Rattle.pas_acts.proofs.Alone.{rests_still}
+use Rattle.pas_threads.specs.Turns.{AreDistinct, Came, Pushed, Told, TookNoPart}
+use Rattle.pas_threads.specs.Lent.{Shift, number_in, IsLent, AreLent, StopsLent, DidWithLent}
+use Rattle.pas_threads.specs.declared.workers.Worker.{Worker}
+use Rattle.pas_threads.proofs.TakingTurns.{by_scavenger, pushed_none, pushed_both, SoFar, at_first, goes_on, at_last, Stays, no_turn, takes_turn, no_part_both, came_none, came_both, told_none, told_both}
 use Rattle.std.proofs.lemmas.Bool.{eq-eqb, ne_eqb}
 use Rattle.pas_trace.specs.Asked.{work_of}
 use Rattle.pas_trace.specs.EveryPlan.{AreSound, IsActorBy, IsSoundWork, asked_after}
 use Rattle.pas_trace.specs.declared.plan.Op.{Op}
 use Rattle.pas_trace.specs.declared.plan.Chore.{Chore}
 use Rattle.pas_trace.specs.declared.plan.Work.{Work}
-use Rattle.pas_profile.specs.declared.profile.Profile.{Profile}
 use Rattle.pas_steps.specs.Clear.{HasNothing}
 use Rattle.pas_steps.specs.Desks.{Standing}
 use Rattle.pas_steps.specs.Views.{View}
-use Rattle.pas_report.specs.Rooms.{records_in, Records}
-use Rattle.pas_report.specs.declared.record.Record.{Record}
-use Rattle.pas_shared.specs.declared.region.SharedRegion.{SharedRegion}
-use Rattle.pas_answers.specs.Acts.{Act, ReadsEpoch, idle_stops, acts_of_chore, acts_of_work, acts_of_op, scavenger_acts}
-use Rattle.pas_answers.specs.Answers.{Progress, Caches}
 use Rattle.pas_answers.specs.Fit.{costs_of, cost_of_act, unbacks_of_act}
-use Rattle.pas_answers.specs.Ways.{records_by}
-use Rattle.pas_answers.proofs.OwnRecords.{none_by, all_by}
-use Rattle.pas_acts.specs.Works.{Later, Sits}
-use Rattle.pas_steps.specs.Lists.{Whole, part}
-use Rattle.pas_steps.proofs.Parts.{part_of_others}
-use Rattle.pas_acts.specs.AtDesks.{for_act, HasRoomAt, ScavengerActs}
 use Rattle.pas_acts.proofs.AtDesk.{sits_for}
 use Rattle.pas_threads.specs.Hands.{and_left, ScavengerAt}
-use Rattle.pas_threads.specs.Turns.{Came, Pushed, Told}
-use Rattle.pas_threads.specs.Lent.{Shift, number_in, AreLent, DidWithLent}
 use Rattle.pas_threads.specs.Crews.{Crew, crew, CrewAt, CrewDid}
-use Rattle.pas_threads.specs.declared.workers.Worker.{Worker}
-use Rattle.pas_threads.proofs.TakingTurns.{came_none, came_both, pushed_none, pushed_both, told_none, told_both, SoFar, at_first, goes_on, at_last}
-use Rattle.pas_threads.proofs.ByLent.{lent_stays}
+
+-- ---- what is said of one thread's stop
+-- that it was stopped says the scavenger
+told_own : (stopped : Bool) (k : ℕ) → EachOf 0 (told_if stopped k)
+told_own true k = (λ j. refl, tt)
+told_own false k = tt
+
+told_one : (stopped : Bool) (k : ℕ) → length (told_if stopped k) ≤ 1
+told_one true k = omega arith
+told_one false k = omega arith
+
+-- ---- the next of the lent threads
+pub lent_stays : (region : SharedRegion) (s : Shift) → Stays (number_in s) (IsLent region s)
+lent_stays region s i w q r parts caches names at = record { has = at.has; rests = rests_still parts caches at.rests }
+
+stops : {region : SharedRegion} {s : Shift} {acts : List Act} {old now : List Worker} {out out1 out2 : Records} {p : Progress} (n i : ℕ) (d w : Worker) → length old ≡ length s.idle → (so : DidWithLent region s acts old now out out1 i p) → i < length old → length now ≡ length old
+    → StopsLent region s.profile (number_in s i) n (get_or now i d) w out1 out2 (s.lends i) so.turns.came.reached → DidWithLent region s (acts ++ (StopsIdle (number_in s i) n ∷ [])) old (set now i w) out out2 (i + 1) p
+stops {region} {s} {acts} {old} {now} {out} {out1} {out2} {p} n i d w size so lt many t =
+    let k = number_in s i in
+    let x = t.turn.did.does in
+    let told = told_if t.stopped k in
+    let theirs = told_own t.stopped k in
+    let apart : AreDistinct (number_in s) (length old) = subst (λ (n : ℕ). AreDistinct (number_in s) n) (sym size) s.distinct in
+    let by = by_scavenger k x.own told x.each (apart.threads i lt) in
+    let both = ap (λ (rs : List Record). length rs) (records_both 0 so.turns.came.said (x.own ++ told)) ∙ length-append (records_by 0 so.turns.came.said) (records_by 0 (x.own ++ told)) in
+    let long = ap (λ (rs : List Record). length rs) (by ∙ all_by 0 told theirs) in
+    let few = so.few in
+    let one = told_one t.stopped k in
+    record {
+      turns = takes_turn (lent_stays region s) apart theirs i d w lt many so.turns t.turn (record { has = t.turn.did.after; rests = x.stands });
+      told = pushed_both so.told (record { added = t.told.added ∙ ap (λ (rs : List Record). records_in out1 ++ rs) (sym by); room = t.told.room });
+      few = omega (arith, both, long, few, one);
+    }
+
+-- ---- all of them
+-- the stops of the lent threads before this place were done
+abbrev pub StopsSoFar : SharedRegion → Shift → ℕ → List Worker → List Worker → Records → Records → ℕ → Progress → Type 0
+StopsSoFar region s n old now out out1 i p = SoFar (idle_stops n s.idle) (idle_stops n (drop i s.idle)) (λ acts. DidWithLent region s acts old now out out1 i p)
+
+pub stops_begin : {region : SharedRegion} {s : Shift} {lent : List Worker} {out : Records} {p : Progress} (n : ℕ) → AreLent region s lent p → StopsSoFar region s n lent lent out out 0 p
+stops_begin n at = at_first (record { turns = no_turn at.each; told = pushed_none refl; few = omega arith })
+
+pub stops_go_on : {region : SharedRegion} {s : Shift} {old now : List Worker} {out out1 out2 : Records} {p : Progress} (n i : ℕ) (d w : Worker) → length old ≡ length s.idle → (so : StopsSoFar region s n old now out out1 i p) → i < length old → length now ≡ length old
+    → StopsLent region s.profile (number_in s i) n (get_or now i d) w out1 out2 (s.lends i) so.done.turns.came.reached → StopsSoFar region s n old (set now i w) out out2 (i + 1) p
+stops_go_on {s = s} n i d w size so lt many t =
+    goes_on (StopsIdle (number_in s i) n ∷ []) (ap (λ (ks : List ℕ). idle_stops n ks) (drop_more s.idle i 0 (omega (arith, lt, size)))) so (stops n i d w size so.done lt many t)
+
+pub stops_end : {region : SharedRegion} {s : Shift} {old now : List Worker} {out out1 : Records} {p : Progress} (n i : ℕ) → length old ≡ length s.idle → length old ≤ i → i ≤ length old → StopsSoFar region s n old now out out1 i p
+    → DidWithLent region s (idle_stops n s.idle) old now out out1 (length old) p
+stops_end {region} {s} {old} {now} {out} {out1} {p} n i size le ge so =
+    let count : i ≡ length old = omega (arith, le, ge) in
+    subst (λ (m : ℕ). DidWithLent region s (idle_stops n s.idle) old now out out1 m p) count (at_last (ap (λ (ks : List ℕ). idle_stops n ks) (drop_of_length-le s.idle (omega (arith, le, size)))) so)
 
 -- ---- the scavenger's own act
 -- there is room for it, beside the acts that are left
@@ -59,8 +111,11 @@ module _ {region : SharedRegion} {s : Shift} {act : Act} {next : List Act} {σ �
   lent_told : (i : ℕ) (d : Worker) → i < length lent → Told (number_in s i) did.says.said (get_or lent i d) (get_or lent i d)
   lent_told i d lt = let many = at.lent.many in told_none (none_by (number_in s i) 0 did.says.said did.says.each (s.distinct.threads i (omega (arith, lt, many))))
 
+  pub leaves_alone : (k : ℕ) → 0 ≢ k → TookNoPart k did.says.said p did.reached
+  leaves_alone k some = record { part_is = ap (λ (l : Whole). part k l) did.moves.list_is ∙ part_of_others k 0 did.moves.steps p.list some; silent = none_by k 0 did.says.said did.says.each some }
+
   pub did_alone : {places' : ℕ} → places' ≡ places → CrewDid region s (act ∷ []) next (crew σ lent places out) (crew σ' lent places' out') p
-  did_alone same = record { came = came; stands = record { stands = record { stands = did.stands; has_places = same ∙ at.stands.has_places }; lent = still_lent }; told = own_told; lent = lent_told }
+  did_alone same = record { came = came; stands = record { stands = record { stands = did.stands; has_places = same ∙ at.stands.has_places }; lent = still_lent }; told = own_told; lent = lent_told; others = λ k some other. leaves_alone k some }
 
 -- ---- an idle operation
 pub costs_stops : (f : Profile) (n : ℕ) (idle : List ℕ) (next : List Act) → costs_of f (idle_stops n idle ++ next) ≡ length idle + costs_of f next
@@ -92,6 +147,7 @@ did_idle {region} {s} {next} {σ} {σ'} {places} {out} {out'} {old} {new} {p} n 
       };
       told = pushed_both (own_told at read) stops.told;
       lent = λ i d lt. told_both (lent_told at read i d lt) (stops.turns.told i d lt);
+      others = λ k some other. no_part_both (leaves_alone at read k some) (record { part_is = stops.turns.leaves.parts k (λ i lt. other i (omega (arith, lt, many))); silent = stops.turns.leaves.silent k some (λ i lt. other i (omega (arith, lt, many))) });
     }
 
 -- ---- the acts written otherwise
@@ -138,7 +194,7 @@ abbrev pub CrewSoFar : SharedRegion → Shift → List Op → ℕ → Crew → C
 CrewSoFar region s ops i h0 h p = SoFar (scavenger_acts s.idle ops) (scavenger_acts s.idle (drop i ops)) (λ acts. CrewDid region s acts (scavenger_acts s.idle (drop i ops)) h0 h p)
 
 pub crew_begins : {region : SharedRegion} {s : Shift} (ops : List Op) {has : Crew} {p : Progress} → CrewAt region s (scavenger_acts s.idle ops) has p → CrewSoFar region s ops 0 has has p
-crew_begins {s = s} ops {has} {p} at = at_first (record { came = came_none s.profile p; stands = at; told = pushed_none refl; lent = λ i d lt. told_none refl })
+crew_begins {s = s} ops {has} {p} at = at_first (record { came = came_none s.profile p; stands = at; told = pushed_none refl; lent = λ i d lt. told_none refl; others = λ k some other. record { part_is = refl; silent = refl } })
 
 -- the next one is this chore
 module _ {region : SharedRegion} {s : Shift} (ops : List Op) (i : ℕ) {h0 h : Crew} {p : Progress} (chore : Chore)
@@ -151,7 +207,13 @@ module _ {region : SharedRegion} {s : Shift} (ops : List Op) (i : ℕ) {h0 h : C
       let one = so.done in
       let many1 = one.stands.lent.many in
       goes_on (acts_of_chore s.idle chore) next so
-      (record { came = came_both one.came did.came; stands = did.stands; told = pushed_both one.told did.told; lent = λ j e less. told_both (one.lent j e less) (did.lent j e (omega (arith, less, many, many1))) })
+      (record {
+        came = came_both one.came did.came;
+        stands = did.stands;
+        told = pushed_both one.told did.told;
+        lent = λ j e less. told_both (one.lent j e less) (did.lent j e (omega (arith, less, many, many1)));
+        others = λ k some other. no_part_both (one.others k some other) (did.others k some other);
+      })
 
 pub crew_skips : {region : SharedRegion} {s : Shift} (ops : List Op) (i : ℕ) {h0 h : Crew} {p : Progress} → scavenger_acts s.idle (drop i ops) ≡ scavenger_acts s.idle (drop (i + 1) ops) → CrewSoFar region s ops i h0 h p → CrewSoFar region s ops (i + 1) h0 h p
 crew_skips {region} {s} ops i {h0} {h} {p} same so =

@@ -1,237 +1,172 @@
--- Workers that are dealt into those of a mask and the others, and taken back.
-use Rattle.std.proofs.Common.{◌≡◌, ℕ, zero, suc, ◌+◌, ◌<◌, ◌≤◌, Bool, true, false, if◌then◌else◌, ◌⊎◌, inl, inr, List, [], ◌∷◌, ◌++◌, map, length, reverse, refl, ap, sym, ◌∙◌, subst, arith, length-append, append_assoc, append-nil}
-use Rattle.std.proofs.lemmas.List.{map-append, reverse-append, reverse-reverse}
+-- Workers that are dealt into those of a mask and the others, and taken back; and the hands of a phase, before and after it.
+use Rattle.std.proofs.Common.{◌≡◌, ◌≢◌, ℕ, zero, suc, ◌+◌, ◌<◌, ◌≤◌, not, Bool, true, false, if◌then◌else◌, List, [], ◌∷◌, ◌++◌, map, length, get_or, reverse, refl, ap, sym, ◌∙◌, subst, arith, length-append, append_assoc, append-nil, All}
+use Rattle.std.specs.List.{filter}
+use Rattle.std.proofs.lemmas.Bool.{not_from_true, not_from_false}
+use Rattle.std.proofs.lemmas.List.Elements.{All-same, All-map, All-push}
+use Rattle.std.proofs.lemmas.List.{reverse-append, nil_from_length, same_from_push}
 use Rattle.pas_bits.specs.Masks.{is_set}
 use Rattle.pas_bits.specs.declared.mask.Mask4.{Mask4}
-use Rattle.pas_threads.specs.Dealing.{AreDealt, AreSized, count_in, count_out}
+use Rattle.pas_trace.specs.declared.plan.Op.{Op}
+use Rattle.pas_trace.specs.Acts.{is_active, numbers_from, idle_threads}
+use Rattle.pas_plans.proofs.ActsLeft.{threads_alike}
+use Rattle.pas_threads.specs.Dealing.{picked, count_of, is_in, is_out, AreDealt, AreSized}
+use Rattle.pas_threads.specs.Turns.{AreDistinct}
 use Rattle.pas_threads.specs.declared.workers.Worker.{Worker}
 use Rattle.pas_threads.specs.declared.hands.Hand.{Hand}
 use Rattle.pas_threads.specs.declared.hands.Hand.TheVariants.{Thread, Scavenger}
+use Rattle.pas_shared.specs.declared.region.SharedRegion.{SharedRegion}
+use Rattle.pas_threads.specs.Hands.{MayDoPhase, DidPhase}
+use Rattle.pas_threads.specs.Scavengers.{MayScavenge, DidScavenge}
+use Rattle.pas_threads.specs.Acting.{MayAct, DidAct, DidEach}
+use Rattle.pas_acts.specs.declared.names.NameBook.{NameBook}
+use Rattle.pas_threads.specs.declared.scavenger.Scavenger.{Scavenger as TheScavenger}
 
--- ---- how many there are of both
-sized_if : (b t : Bool) (n m : ℕ) → b ≡ t → (if b then n else m) ≡ (if t then n else m)
-sized_if b t n m is = ap (λ (c : Bool). if c then n else m) is
+-- ---- what is picked
+module _ {A : Type 0} (chosen : ℕ → Bool) where
+  first_in : (k : ℕ) (x : A) (xs : List A) → chosen k ≡ true → picked chosen k (x ∷ xs) ≡ x ∷ picked chosen (k + 1) xs
+  first_in k x xs on = ap (λ (b : Bool). if b then x ∷ picked chosen (k + 1) xs else picked chosen (k + 1) xs) on
 
--- no more are in the mask than there are
-most_if : (t : Bool) (m n : ℕ) → m ≤ n → (if t then 1 + m else m) ≤ n + 1
+  first_out : (k : ℕ) (x : A) (xs : List A) → chosen k ≡ false → picked chosen k (x ∷ xs) ≡ picked chosen (k + 1) xs
+  first_out k x xs off = ap (λ (b : Bool). if b then x ∷ picked chosen (k + 1) xs else picked chosen (k + 1) xs) off
+
+  many_if : (b : Bool) (x : A) (ys : List A) (n : ℕ) → length ys ≡ n → length (if b then x ∷ ys else ys) ≡ (if b then suc n else n)
+  many_if true x ys n is = omega (arith, is)
+  many_if false x ys n is = is
+
+  pub picked_many : (k : ℕ) (xs : List A) → length (picked chosen k xs) ≡ count_of chosen k (length xs)
+  picked_many k [] = refl
+  picked_many k (x ∷ xs) = many_if (chosen k) x (picked chosen (k + 1) xs) (count_of chosen (k + 1) (length xs)) (picked_many (k + 1) xs)
+
+  more_if : (b : Bool) (x : A) (ys zs all : List A) → all ≡ ys ++ zs → (if b then x ∷ all else all) ≡ (if b then x ∷ ys else ys) ++ zs
+  more_if true x ys zs all is = ap (λ (ws : List A). x ∷ ws) is
+  more_if false x ys zs all is = is
+
+  -- one more at the end
+  picked_more : (k : ℕ) (xs : List A) (y : A) → picked chosen k (xs ++ y ∷ []) ≡ picked chosen k xs ++ (if chosen (k + length xs) then y ∷ [] else [])
+  picked_more k [] y = ap (λ (n : ℕ). if chosen n then y ∷ [] else []) (let is : k ≡ k + 0 = omega arith in is)
+  picked_more k (x ∷ xs) y = more_if (chosen k) x (picked chosen (k + 1) xs) (if chosen (k + suc (length xs)) then y ∷ [] else []) (picked chosen (k + 1) (xs ++ y ∷ []))
+      (picked_more (k + 1) xs y ∙ ap (λ (n : ℕ). picked chosen (k + 1) xs ++ (if chosen n then y ∷ [] else [])) (let is : k + 1 + length xs ≡ k + suc (length xs) = omega arith in is))
+
+  at_if : (b : Bool) (x : A) (ys : List A) (r : ℕ) (d y : A) → (r < length ys) × (get_or ys r d ≡ y) → ((if b then suc r else r) < length (if b then x ∷ ys else ys)) × (get_or (if b then x ∷ ys else ys) (if b then suc r else r) d ≡ y)
+  at_if true x ys r d y at = (let lt = at.0 in omega (arith, lt), at.1)
+  at_if false x ys r d y at = at
+
+  -- what belongs to a number that is chosen stands behind all that is picked before it
+  pub picked_at : (k : ℕ) (xs : List A) (i : ℕ) (d : A) → i < length xs → chosen (k + i) ≡ true → (count_of chosen k i < length (picked chosen k xs)) × (get_or (picked chosen k xs) (count_of chosen k i) d ≡ get_or xs i d)
+  picked_at k [] i d bad on = absurd (omega (arith, bad))
+  picked_at k (x ∷ xs) zero d lt on = subst (λ (ys : List A). (0 < length ys) × (get_or ys 0 d ≡ x)) (sym (first_in k x xs (ap chosen (let is : k ≡ k + 0 = omega arith in is) ∙ on))) (omega arith, refl)
+  picked_at k (x ∷ xs) (suc i) d lt on = at_if (chosen k) x (picked chosen (k + 1) xs) (count_of chosen (k + 1) i) d (get_or xs i d)
+      (picked_at (k + 1) xs i d (omega (arith, lt)) (ap chosen (let is : k + 1 + i ≡ k + suc i = omega arith in is) ∙ on))
+
+-- what is so of each pair that belongs to a chosen number is so of what is picked of both
+module _ {A B : Type 0} (R : A → B → Type 0) (chosen : ℕ → Bool) (a : A) where
+  pairs_if : (t : Bool) (x : A) (y : B) (xs : List A) (ys : List B) → (t ≡ true → R x y) → ((r : ℕ) (d : B) → r < length ys → R (get_or xs r a) (get_or ys r d))
+      → (r : ℕ) (d : B) → r < length (if t then y ∷ ys else ys) → R (get_or (if t then x ∷ xs else xs) r a) (get_or (if t then y ∷ ys else ys) r d)
+  pairs_if true x y xs ys one rest zero d lt = one refl
+  pairs_if true x y xs ys one rest (suc r) d lt = rest r d (omega (arith, lt))
+  pairs_if false x y xs ys one rest r d lt = rest r d lt
+
+  pub picked_pairs : (k : ℕ) (xs : List A) (ys : List B) → length xs ≡ length ys → ((i : ℕ) (d : B) → i < length ys → chosen (k + i) ≡ true → R (get_or xs i a) (get_or ys i d))
+      → (r : ℕ) (d : B) → r < length (picked chosen k ys) → R (get_or (picked chosen k xs) r a) (get_or (picked chosen k ys) r d)
+  picked_pairs k xs [] same each r d bad = absurd (omega (arith, bad))
+  picked_pairs k [] (y ∷ ys) bad each r d lt = absurd (omega (arith, bad))
+  picked_pairs k (x ∷ xs) (y ∷ ys) same each r d lt =
+      pairs_if (chosen k) x y (picked chosen (k + 1) xs) (picked chosen (k + 1) ys) (λ on. each 0 y (omega arith) (ap chosen (let is : k + 0 ≡ k = omega arith in is) ∙ on))
+      (picked_pairs (k + 1) xs ys (omega (arith, same)) (λ i e less on. each (suc i) e (omega (arith, less)) (ap chosen (let is : k + suc i ≡ k + 1 + i = omega arith in is) ∙ on))) r d lt
+
+most_if : (t : Bool) (m n : ℕ) → m ≤ n → (if t then suc m else m) ≤ suc n
 most_if true m n le = omega (arith, le)
 most_if false m n le = omega (arith, le)
 
-pub count_most : (mask : Mask4) (k n : ℕ) → count_in mask k n ≤ n
-count_most mask k zero = omega arith
-count_most mask k (suc n) = let rest = most_if (is_set mask k) (count_in mask (k + 1) n) n (count_most mask (k + 1) n) in omega (arith, rest)
+pub count_most : (chosen : ℕ → Bool) (k n : ℕ) → count_of chosen k n ≤ n
+count_most chosen k zero = omega arith
+count_most chosen k (suc n) = most_if (chosen k) (count_of chosen (k + 1) n) n (count_most chosen (k + 1) n)
 
-pub dealt_sizes : (mask : Mask4) (k : ℕ) (ws own lent : List Worker) → AreDealt mask k ws own lent → AreSized mask k (length ws) own lent
-dealt_sizes mask k [] own lent dealt = record { inside = ap (λ (xs : List Worker). length xs) dealt.0; outside = ap (λ (xs : List Worker). length xs) dealt.1 }
-dealt_sizes mask k (w ∷ ws) own lent (inl dealt) =
-    let rest = dealt_sizes mask (k + 1) ws dealt.1 lent dealt.3 in
-    let one = ap (λ (xs : List Worker). length xs) dealt.2 in
-    let inside = rest.inside in
-    let in_if = sized_if (is_set mask k) true (1 + count_in mask (k + 1) (length ws)) (count_in mask (k + 1) (length ws)) dealt.0 in
-    let out_if = sized_if (is_set mask k) true (count_out mask (k + 1) (length ws)) (1 + count_out mask (k + 1) (length ws)) dealt.0 in
-    record { inside = omega (arith, one, inside, in_if); outside = rest.outside ∙ sym out_if }
-dealt_sizes mask k (w ∷ ws) own lent (inr dealt) =
-    let rest = dealt_sizes mask (k + 1) ws own dealt.1 dealt.3 in
-    let one = ap (λ (xs : List Worker). length xs) dealt.2 in
-    let outside = rest.outside in
-    let in_if = sized_if (is_set mask k) false (1 + count_in mask (k + 1) (length ws)) (count_in mask (k + 1) (length ws)) dealt.0 in
-    let out_if = sized_if (is_set mask k) false (count_out mask (k + 1) (length ws)) (1 + count_out mask (k + 1) (length ws)) dealt.0 in
-    record { inside = rest.inside ∙ sym in_if; outside = omega (arith, one, outside, out_if) }
+-- ---- numbers of threads
+pub number_at : (k n i : ℕ) → i < n → get_or (numbers_from k n) i 0 ≡ k + i
+number_at k zero i bad = absurd (omega (arith, bad))
+number_at k (suc n) zero lt = let is : k ≡ k + 0 = omega arith in is
+number_at k (suc n) (suc i) lt = number_at (k + 1) n i (omega (arith, lt)) ∙ (let is : k + 1 + i ≡ k + suc i = omega arith in is)
+
+pub numbers_many : (k n : ℕ) → length (numbers_from k n) ≡ n
+numbers_many k zero = refl
+numbers_many k (suc n) = ap suc (numbers_many (k + 1) n)
+
+filter_picked : (chosen : ℕ → Bool) (k n : ℕ) → filter chosen (numbers_from k n) ≡ picked chosen k (numbers_from k n)
+filter_picked chosen k zero = refl
+filter_picked chosen k (suc n) = ap (λ (js : List ℕ). if chosen k then k ∷ js else js) (filter_picked chosen (k + 1) n)
+
+-- those that are idle are those whose workers are lent
+pub idle_picked : (awake : Mask4) (ops : List Op) (threads : ℕ) → ((k : ℕ) → is_set awake k ≡ is_active ops k) → idle_threads threads ops ≡ picked (is_out awake) 1 (numbers_from 1 threads)
+idle_picked awake ops threads same = threads_alike (λ k. not (is_active ops k)) (is_out awake) threads (λ k. ap not (sym (same k))) ∙ filter_picked (is_out awake) 1 threads
+
+-- numbers that rise, from k on and below m
+abbrev AreRising : ℕ → ℕ → List ℕ → Type 0
+AreRising k m [] = Unit {0}
+AreRising k m (x ∷ xs) = (k ≤ x) × (x < m) × AreRising (x + 1) m xs
+
+rise_more : (k m : ℕ) (xs : List ℕ) → AreRising (k + 1) m xs → AreRising k m xs
+rise_more k m [] rise = tt
+rise_more k m (x ∷ xs) rise = (let low = rise.0 in omega (arith, low), rise.1, rise.2)
+
+rising_if : (t : Bool) (k m : ℕ) (xs : List ℕ) → k < m → AreRising (k + 1) m xs → AreRising k m (if t then k ∷ xs else xs)
+rising_if true k m xs lt rise = (omega arith, lt, rise)
+rising_if false k m xs lt rise = rise_more k m xs rise
+
+rising : (chosen : ℕ → Bool) (k n m : ℕ) → k + n ≡ m → AreRising k m (filter chosen (numbers_from k n))
+rising chosen k zero m is = tt
+rising chosen k (suc n) m is = rising_if (chosen k) k m (filter chosen (numbers_from (k + 1) n)) (omega (arith, is)) (rising chosen (k + 1) n m (omega (arith, is)))
+
+rise_within : (k m : ℕ) (xs : List ℕ) (i : ℕ) → AreRising k m xs → i < length xs → (k ≤ get_or xs i 0) × (get_or xs i 0 < m)
+rise_within k m [] i rise bad = absurd (omega (arith, bad))
+rise_within k m (x ∷ xs) zero rise lt = (rise.0, rise.1)
+rise_within k m (x ∷ xs) (suc i) rise lt =
+    let rest = rise_within (x + 1) m xs i rise.2 (omega (arith, lt)) in
+    (let one = rise.0 in let low = rest.0 in omega (arith, one, low), rest.1)
+
+rise_apart : (k m : ℕ) (xs : List ℕ) (i j : ℕ) → AreRising k m xs → i < length xs → j < length xs → i ≢ j → get_or xs i 0 ≢ get_or xs j 0
+rise_apart k m [] i j rise bad lt ne same = omega (arith, bad)
+rise_apart k m (x ∷ xs) zero zero rise lt lt' ne same = ne refl
+rise_apart k m (x ∷ xs) zero (suc j) rise lt lt' ne same = let low = (rise_within (x + 1) m xs j rise.2 (omega (arith, lt'))).0 in omega (arith, low, same)
+rise_apart k m (x ∷ xs) (suc i) zero rise lt lt' ne same = let low = (rise_within (x + 1) m xs i rise.2 (omega (arith, lt))).0 in omega (arith, low, same)
+rise_apart k m (x ∷ xs) (suc i) (suc j) rise lt lt' ne same = rise_apart (x + 1) m xs i j rise.2 (omega (arith, lt)) (omega (arith, lt')) (λ e. ne (ap suc e)) same
+
+module _ (threads : ℕ) (ops : List Op) where
+  idle_rise : AreRising 1 (threads + 1) (idle_threads threads ops)
+  idle_rise = rising (λ k. not (is_active ops k)) 1 threads (threads + 1) (omega arith)
+
+  pub idle_distinct : AreDistinct (λ i. get_or (idle_threads threads ops) i 0) (length (idle_threads threads ops))
+  idle_distinct = record {
+    threads = λ i lt same. (let low = (rise_within 1 (threads + 1) (idle_threads threads ops) i idle_rise lt).0 in omega (arith, low, same));
+    apart = λ i j lt lt' ne. rise_apart 1 (threads + 1) (idle_threads threads ops) i j idle_rise lt lt' ne;
+  }
+
+  pub idle_within : (i : ℕ) → i < length (idle_threads threads ops) → get_or (idle_threads threads ops) i 0 ≤ threads
+  idle_within i lt = let most = (rise_within 1 (threads + 1) (idle_threads threads ops) i idle_rise lt).1 in omega (arith, most)
 
 -- ---- dealing
--- The workers so far were dealt into these: however those that are left are dealt, all are dealt so.
-pub record SoDealt (mask : Mask4) (all left : List Worker) (next : ℕ) (hands : List Hand) (lent : List Worker) : Type 0 where
-  pub own : List Worker
-  pub hands_are : hands ≡ map Thread own
-  pub all_so : (more lend : List Worker) → AreDealt mask next left more lend → AreDealt mask 1 all (own ++ more) (lent ++ lend)
+-- this pile and what is picked of those that are left are all
+module _ (chosen : ℕ → Bool) (k : ℕ) (pile left : List Worker) {all : List Worker} (so : pile ++ picked chosen k left ≡ all) where
+  pub pile_grows : (w : Worker) (left' : List Worker) → chosen k ≡ true → left ≡ w ∷ left' → (pile ++ w ∷ []) ++ picked chosen (k + 1) left' ≡ all
+  pile_grows w left' on is =
+      append_assoc pile (w ∷ []) (picked chosen (k + 1) left') ∙ ap (λ (ws : List Worker). pile ++ ws) (sym (ap (λ (ws : List Worker). picked chosen k ws) is ∙ first_in chosen k w left' on)) ∙ so
 
-pub none_dealt : (mask : Mask4) (all left : List Worker) (hands : List Hand) (lent : List Worker) → left ≡ all → hands ≡ [] → lent ≡ [] → SoDealt mask all left 1 hands lent
-none_dealt mask all left hands lent is none_in none_out = record {
-  own = [];
-  hands_are = none_in;
-  all_so = λ more lend dealt. subst (λ (xs : List Worker). AreDealt mask 1 all more (xs ++ lend)) (sym none_out) (subst (λ (xs : List Worker). AreDealt mask 1 xs more lend) is dealt);
-}
+  pub pile_stays : (w : Worker) (left' : List Worker) → chosen k ≡ false → left ≡ w ∷ left' → pile ++ picked chosen (k + 1) left' ≡ all
+  pile_stays w left' off is = ap (λ (ws : List Worker). pile ++ ws) (sym (ap (λ (ws : List Worker). picked chosen k ws) is ∙ first_out chosen k w left' off)) ∙ so
 
-pub one_in : (mask : Mask4) (all left left' : List Worker) (next : ℕ) (hands hands' : List Hand) (lent : List Worker) (w : Worker) → is_set mask next ≡ true → left ≡ w ∷ left' → hands' ≡ hands ++ Thread w ∷ []
-    → SoDealt mask all left next hands lent → SoDealt mask all left' (next + 1) hands' lent
-one_in mask all left left' next hands hands' lent w on is pushed so = record {
-  own = so.own ++ w ∷ [];
-  hands_are = pushed ∙ ap (λ (hs : List Hand). hs ++ Thread w ∷ []) so.hands_are ∙ sym (map-append Thread so.own (w ∷ []));
-  all_so = λ more lend dealt. subst (λ (xs : List Worker). AreDealt mask 1 all xs (lent ++ lend)) (sym (append_assoc so.own (w ∷ []) more))
-      (so.all_so (w ∷ more) lend (subst (λ (xs : List Worker). AreDealt mask next xs (w ∷ more) lend) (sym is) (inl (on, more, refl, dealt))));
-}
-
-pub one_out : (mask : Mask4) (all left left' : List Worker) (next : ℕ) (hands : List Hand) (lent lent' : List Worker) (w : Worker) → is_set mask next ≡ false → left ≡ w ∷ left' → lent' ≡ lent ++ w ∷ []
-    → SoDealt mask all left next hands lent → SoDealt mask all left' (next + 1) hands lent'
-one_out mask all left left' next hands lent lent' w off is pushed so = record {
-  own = so.own;
-  hands_are = so.hands_are;
-  all_so = λ more lend dealt. subst (λ (xs : List Worker). AreDealt mask 1 all (so.own ++ more) xs) (sym (append_assoc lent (w ∷ []) lend) ∙ ap (λ (xs : List Worker). xs ++ lend) (sym pushed))
-      (so.all_so more (w ∷ lend) (subst (λ (xs : List Worker). AreDealt mask next xs more (w ∷ lend)) (sym is) (inr (off, lend, refl, dealt))));
-}
-
-pub all_dealt : {mask : Mask4} {all left : List Worker} {next : ℕ} {hands : List Hand} {lent : List Worker} → left ≡ [] → SoDealt mask all left next hands lent
-    → (own : List Worker) × (hands ≡ map Thread own) × AreDealt mask 1 all own lent
-all_dealt {mask} {all} {left} {next} {hands} {lent} none so = (
-  so.own,
-  so.hands_are,
-  subst (λ (xs : List Worker). AreDealt mask 1 all xs lent) (append-nil so.own) (subst (λ (xs : List Worker). AreDealt mask 1 all (so.own ++ []) xs) (append-nil lent)
-      (so.all_so [] [] (subst (λ (xs : List Worker). AreDealt mask next xs [] []) (sym none) (refl, refl)))),
-)
+  pub pile_whole : left ≡ [] → pile ≡ all
+  pile_whole none = sym (append-nil pile) ∙ ap (λ (ws : List Worker). pile ++ picked chosen k ws) (sym none) ∙ so
 
 -- the last of those that are left, which stand the last one first
 pub last_left : (xs ys : List Worker) (x : Worker) → xs ≡ ys ++ x ∷ [] → reverse xs ≡ x ∷ reverse ys
 last_left xs ys x is = ap (λ (zs : List Worker). reverse zs) is ∙ reverse-append ys (x ∷ [])
 
--- ---- the last elements of equal lists are equal, and so are the lists before them
-front_of : {A : Type 0} → A → List A → A
-front_of d [] = d
-front_of d (x ∷ xs) = x
-
-back_of : {A : Type 0} → List A → List A
-back_of [] = []
-back_of (x ∷ xs) = xs
-
-turned : {A : Type 0} (xs ys : List A) (x y : A) → xs ++ x ∷ [] ≡ ys ++ y ∷ [] → x ∷ reverse xs ≡ y ∷ reverse ys
-turned xs ys x y is = sym (reverse-append xs (x ∷ [])) ∙ ap reverse is ∙ reverse-append ys (y ∷ [])
-
-pub same_last : {A : Type 0} (xs ys : List A) (x y : A) → xs ++ x ∷ [] ≡ ys ++ y ∷ [] → x ≡ y
-unfolding front_of
-same_last xs ys x y is = ap (front_of x) (turned xs ys x y is)
-
-pub same_before : {A : Type 0} (xs ys : List A) (x y : A) → xs ++ x ∷ [] ≡ ys ++ y ∷ [] → xs ≡ ys
-unfolding back_of
-same_before xs ys x y is = sym (reverse-reverse xs) ∙ ap (λ zs. reverse (back_of zs)) (turned xs ys x y is) ∙ reverse-reverse ys
-
+-- ---- threads among the hands
 same_thread : {v w : Worker} → Thread v ≡ Thread w → v ≡ w
 same_thread {v} {w} is = ap (λ (h : Hand). elim h [ Thread x ↦ x | Scavenger s ↦ v ]) is
 
--- ---- taking back
--- The workers that were taken back, and those that are left of both: with any workers that these are dealt from, all are dealt so.
-pub record SoTaken (mask : Mask4) (next left : ℕ) (all_own all_lent : List Worker) (threads : List Worker) (hands : List Hand) (lent : List Worker) : Type 0 where
-  pub own : List Worker
-  pub rest : List Worker
-  pub hands_are : hands ≡ reverse (map Thread own)
-  pub lent_are : lent ≡ reverse rest
-  pub sized : AreSized mask next left own rest
-  pub all_so : (more : List Worker) → AreDealt mask next more own rest → AreDealt mask 1 (threads ++ more) all_own all_lent
-
-pub none_taken : (mask : Mask4) (count : ℕ) (own lent : List Worker) (threads : List Worker) (hands : List Hand) (lent' : List Worker) → threads ≡ [] → hands ≡ reverse (map Thread own) → lent' ≡ reverse lent → AreSized mask 1 count own lent
-    → SoTaken mask 1 count own lent threads hands lent'
-none_taken mask count own lent threads hands lent' none hands_are lent_are sized = record {
-  own = own;
-  rest = lent;
-  hands_are = hands_are;
-  lent_are = lent_are;
-  sized = sized;
-  all_so = λ more dealt. subst (λ (ws : List Worker). AreDealt mask 1 (ws ++ more) own lent) (sym none) dealt;
-}
-
--- the next is among those of the mask: there is one, the last of the hands
-pub record NextIn (mask : Mask4) (next left : ℕ) (own rest : List Worker) : Type 0 where
-  pub first : Worker
-  pub others : List Worker
-  pub is : own ≡ first ∷ others
-  pub sized : AreSized mask (next + 1) left others rest
-
-pub next_in : (mask : Mask4) (next left : ℕ) (own rest : List Worker) → is_set mask next ≡ true → AreSized mask next (suc left) own rest → NextIn mask next left own rest
-next_in mask next left [] rest on sized =
-    let inside = sized.inside ∙ sized_if (is_set mask next) true (1 + count_in mask (next + 1) left) (count_in mask (next + 1) left) on in
-    absurd (omega (arith, inside))
-next_in mask next left (w ∷ own) rest on sized =
-    let inside = sized.inside ∙ sized_if (is_set mask next) true (1 + count_in mask (next + 1) left) (count_in mask (next + 1) left) on in
-    let outside = sized.outside ∙ sized_if (is_set mask next) true (count_out mask (next + 1) left) (1 + count_out mask (next + 1) left) on in
-    record { first = w; others = own; is = refl; sized = record { inside = omega (arith, inside); outside = outside } }
-
-pub record NextOut (mask : Mask4) (next left : ℕ) (own rest : List Worker) : Type 0 where
-  pub first : Worker
-  pub others : List Worker
-  pub is : rest ≡ first ∷ others
-  pub sized : AreSized mask (next + 1) left own others
-
-pub next_out : (mask : Mask4) (next left : ℕ) (own rest : List Worker) → is_set mask next ≡ false → AreSized mask next (suc left) own rest → NextOut mask next left own rest
-next_out mask next left own [] off sized =
-    let outside = sized.outside ∙ sized_if (is_set mask next) false (count_out mask (next + 1) left) (1 + count_out mask (next + 1) left) off in
-    absurd (omega (arith, outside))
-next_out mask next left own (w ∷ rest) off sized =
-    let inside = sized.inside ∙ sized_if (is_set mask next) false (1 + count_in mask (next + 1) left) (count_in mask (next + 1) left) off in
-    let outside = sized.outside ∙ sized_if (is_set mask next) false (count_out mask (next + 1) left) (1 + count_out mask (next + 1) left) off in
-    record { first = w; others = rest; is = refl; sized = record { inside = inside; outside = omega (arith, outside) } }
-
--- the last of them, turned
-pub turned_hands : (own others : List Worker) (w : Worker) → own ≡ w ∷ others → reverse (map Thread own) ≡ reverse (map Thread others) ++ Thread w ∷ []
-turned_hands own others w is = ap (λ (ws : List Worker). reverse (map Thread ws)) is ∙ reverse-append (Thread w ∷ []) (map Thread others)
-
-pub turned_lent : (rest others : List Worker) (w : Worker) → rest ≡ w ∷ others → reverse rest ≡ reverse others ++ w ∷ []
-turned_lent rest others w is = ap (λ (ws : List Worker). reverse ws) is ∙ reverse-append (w ∷ []) others
-
--- one more is back, from the hands
-pub taken_in : {mask : Mask4} {next left left' : ℕ} {all_own all_lent threads threads' : List Worker} {hands hands' : List Hand} {lent lent' : List Worker} (w : Worker) → is_set mask next ≡ true → left ≡ suc left' → hands ≡ hands' ++ Thread w ∷ [] → lent' ≡ lent → threads' ≡ threads ++ w ∷ []
-    → SoTaken mask next left all_own all_lent threads hands lent → SoTaken mask (next + 1) left' all_own all_lent threads' hands' lent'
-taken_in {mask} {next} {left} {left'} {all_own} {all_lent} {threads} {threads'} {hands} {hands'} {lent} {lent'} w on one popped same pushed so =
-    let n = next_in mask next left' so.own so.rest on (subst (λ (m : ℕ). AreSized mask next m so.own so.rest) one so.sized) in
-    let turned = sym popped ∙ so.hands_are ∙ turned_hands so.own n.others n.first n.is in
-    let it : w ≡ n.first = same_thread (same_last hands' (reverse (map Thread n.others)) (Thread w) (Thread n.first) turned) in
-    record {
-      own = n.others;
-      rest = so.rest;
-      hands_are = same_before hands' (reverse (map Thread n.others)) (Thread w) (Thread n.first) turned;
-      lent_are = same ∙ so.lent_are;
-      sized = n.sized;
-      all_so = λ more dealt. subst (λ (ws : List Worker). AreDealt mask 1 ws all_own all_lent) (sym (append_assoc threads (w ∷ []) more) ∙ ap (λ (ws : List Worker). ws ++ more) (sym pushed))
-          (so.all_so (w ∷ more) (inl (on, n.others, n.is ∙ ap (λ (x : Worker). x ∷ n.others) (sym it), dealt)));
-    }
-
--- .. and from those that were lent
-pub taken_out : {mask : Mask4} {next left left' : ℕ} {all_own all_lent threads threads' : List Worker} {hands hands' : List Hand} {lent lent' : List Worker} (w : Worker) → is_set mask next ≡ false → left ≡ suc left' → lent ≡ lent' ++ w ∷ [] → hands' ≡ hands → threads' ≡ threads ++ w ∷ []
-    → SoTaken mask next left all_own all_lent threads hands lent → SoTaken mask (next + 1) left' all_own all_lent threads' hands' lent'
-taken_out {mask} {next} {left} {left'} {all_own} {all_lent} {threads} {threads'} {hands} {hands'} {lent} {lent'} w off one popped same pushed so =
-    let n = next_out mask next left' so.own so.rest off (subst (λ (m : ℕ). AreSized mask next m so.own so.rest) one so.sized) in
-    let turned = sym popped ∙ so.lent_are ∙ turned_lent so.rest n.others n.first n.is in
-    let it : w ≡ n.first = same_last lent' (reverse n.others) w n.first turned in
-    record {
-      own = so.own;
-      rest = n.others;
-      hands_are = same ∙ so.hands_are;
-      lent_are = same_before lent' (reverse n.others) w n.first turned;
-      sized = n.sized;
-      all_so = λ more dealt. subst (λ (ws : List Worker). AreDealt mask 1 ws all_own all_lent) (sym (append_assoc threads (w ∷ []) more) ∙ ap (λ (ws : List Worker). ws ++ more) (sym pushed))
-          (so.all_so (w ∷ more) (inr (off, n.others, n.is ∙ ap (λ (x : Worker). x ∷ n.others) (sym it), dealt)));
-    }
-
--- there is one to be taken
-pub some_in : {mask : Mask4} {next left left' : ℕ} {all_own all_lent threads : List Worker} {hands : List Hand} {lent : List Worker} → is_set mask next ≡ true → left ≡ suc left' → SoTaken mask next left all_own all_lent threads hands lent
-    → (front : List Hand) × (w : Worker) × (hands ≡ front ++ Thread w ∷ [])
-some_in {mask} {next} {left} {left'} {all_own} {all_lent} {threads} {hands} {lent} on one so =
-    let n = next_in mask next left' so.own so.rest on (subst (λ (m : ℕ). AreSized mask next m so.own so.rest) one so.sized) in
-    (reverse (map Thread n.others), n.first, so.hands_are ∙ turned_hands so.own n.others n.first n.is)
-
-pub some_out : {mask : Mask4} {next left left' : ℕ} {all_own all_lent threads : List Worker} {hands : List Hand} {lent : List Worker} → is_set mask next ≡ false → left ≡ suc left' → SoTaken mask next left all_own all_lent threads hands lent → 0 < length lent
-some_out {mask} {next} {left} {left'} {all_own} {all_lent} {threads} {hands} {lent} off one so =
-    let n = next_out mask next left' so.own so.rest off (subst (λ (m : ℕ). AreSized mask next m so.own so.rest) one so.sized) in
-    let long = ap (λ (ws : List Worker). length ws) (so.lent_are ∙ turned_lent so.rest n.others n.first n.is) ∙ length-append (reverse n.others) (n.first ∷ []) in
-    omega (arith, long)
-
-no_own : (own : List Worker) → length own ≡ 0 → own ≡ []
-no_own [] none = refl
-no_own (w ∷ own) bad = absurd (omega (arith, bad))
-
--- all are back
-pub all_taken : {mask : Mask4} {next : ℕ} {all_own all_lent threads : List Worker} {hands : List Hand} {lent : List Worker} → SoTaken mask next 0 all_own all_lent threads hands lent → AreDealt mask 1 threads all_own all_lent × (hands ≡ []) × (lent ≡ [])
-all_taken {mask} {next} {all_own} {all_lent} {threads} {hands} {lent} so =
-    let none = no_own so.own so.sized.inside in
-    let nobody = no_own so.rest so.sized.outside in (
-      subst (λ (ws : List Worker). AreDealt mask 1 ws all_own all_lent) (append-nil threads) (so.all_so [] (none, nobody)),
-      so.hands_are ∙ ap (λ (ws : List Worker). reverse (map Thread ws)) none,
-      so.lent_are ∙ ap (λ (ws : List Worker). reverse ws) nobody,
-    )
-
-pub true_or_false : (b : Bool) → (b ≡ true) ⊎ (b ≡ false)
-true_or_false true = inl refl
-true_or_false false = inr refl
-
 -- the hands are these threads alone, however they are told
-threads_same : (own own' : List Worker) → map Thread own ≡ map Thread own' → own ≡ own'
+pub threads_same : (own own' : List Worker) → map Thread own ≡ map Thread own' → own ≡ own'
 threads_same [] [] is = refl
 threads_same [] (w ∷ own') is = absurd (let bad = ap (λ (hs : List Hand). length hs) is in omega (arith, bad))
 threads_same (w ∷ own) [] is = absurd (let bad = ap (λ (hs : List Hand). length hs) is in omega (arith, bad))
@@ -239,5 +174,192 @@ threads_same (w ∷ own) (w' ∷ own') is =
     ap (λ (x : Worker). x ∷ own) (same_thread (ap (λ (hs : List Hand). elim hs [ [] ↦ Thread w | h ∷ rest ↦ h ]) is))
     ∙ ap (λ (ws : List Worker). w' ∷ ws) (threads_same own own' (ap (λ (hs : List Hand). elim hs [ [] ↦ [] | h ∷ rest ↦ rest ]) is))
 
-pub sized_of : (mask : Mask4) (count : ℕ) (own lent : List Worker) {hands : List Hand} → hands ≡ map Thread own → (own' : List Worker) × (hands ≡ map Thread own') × AreSized mask 1 count own' lent → AreSized mask 1 count own lent
-sized_of mask count own lent {hands} is (own', is', sized) = subst (λ (ws : List Worker). AreSized mask 1 count ws lent) (sym (threads_same own own' (sym is ∙ is'))) sized
+-- ---- taking back
+-- Of these workers, which are all that are chosen, those that are back come first, and then the rest: as many as of so many threads after those that are back.
+record IsPile (chosen : ℕ → Bool) (left : ℕ) (all back rest : List Worker) : Type 0 where
+  whole : picked chosen 1 back ++ rest ≡ all
+  many : length rest ≡ count_of chosen (1 + length back) left
+
+module _ {chosen : ℕ → Bool} {left : ℕ} {all back : List Worker} where
+  -- one more is back: the first of the rest, where it is chosen
+  rest_takes : (rest : List Worker) → chosen (1 + length back) ≡ true → IsPile chosen (suc left) all back rest → (w : Worker) × (others : List Worker) × (rest ≡ w ∷ others) × IsPile chosen left all (back ++ w ∷ []) others
+  rest_takes [] on pile =
+      let none = pile.many ∙ ap (λ (b : Bool). if b then suc (count_of chosen (1 + length back + 1) left) else count_of chosen (1 + length back + 1) left) on in
+      absurd (omega (arith, none))
+  rest_takes (w ∷ others) on pile =
+      let some = pile.many ∙ ap (λ (b : Bool). if b then suc (count_of chosen (1 + length back + 1) left) else count_of chosen (1 + length back + 1) left) on in
+      let next = ap (λ (k : ℕ). count_of chosen k left) (let long = length-append back (w ∷ []) in let is : 1 + length (back ++ w ∷ []) ≡ 1 + length back + 1 = omega (arith, long) in is) in (
+        w,
+        others,
+        refl,
+        record {
+          whole = ap (λ (ws : List Worker). ws ++ others) (picked_more chosen 1 back w ∙ ap (λ (b : Bool). picked chosen 1 back ++ (if b then w ∷ [] else [])) on) ∙ append_assoc (picked chosen 1 back) (w ∷ []) others ∙ pile.whole;
+          many = omega (arith, some, next);
+        },
+      )
+
+  -- .. and none of them, where it isn't
+  rest_stays : {rest : List Worker} (w : Worker) → chosen (1 + length back) ≡ false → IsPile chosen (suc left) all back rest → IsPile chosen left all (back ++ w ∷ []) rest
+  rest_stays {rest} w off pile =
+      let same = pile.many ∙ ap (λ (b : Bool). if b then suc (count_of chosen (1 + length back + 1) left) else count_of chosen (1 + length back + 1) left) off in
+      let next = ap (λ (k : ℕ). count_of chosen k left) (let long = length-append back (w ∷ []) in let is : 1 + length (back ++ w ∷ []) ≡ 1 + length back + 1 = omega (arith, long) in is) in
+      record {
+        whole = ap (λ (ws : List Worker). ws ++ rest) (picked_more chosen 1 back w ∙ ap (λ (b : Bool). picked chosen 1 back ++ (if b then w ∷ [] else [])) off ∙ append-nil (picked chosen 1 back)) ∙ pile.whole;
+        many = same ∙ sym next;
+      }
+
+-- these threads are back, and so many are left of both, which stand the last one first
+pub record SoTaken (mask : Mask4) (left : ℕ) (all_hands : List Hand) (all_lent threads : List Worker) (hands : List Hand) (lent : List Worker) : Type 0 where
+  all_own : List Worker
+  own : List Worker
+  rest : List Worker
+  all_are : all_hands ≡ map Thread all_own
+  hands_are : hands ≡ reverse (map Thread own)
+  lent_are : lent ≡ reverse rest
+  inside : IsPile (is_in mask) left all_own threads own
+  outside : IsPile (is_out mask) left all_lent threads rest
+
+pub none_taken : {mask : Mask4} {count : ℕ} {all_hands hands : List Hand} {all_lent threads lent : List Worker} → threads ≡ [] → hands ≡ reverse all_hands → lent ≡ reverse all_lent → AreSized mask count all_hands all_lent
+    → SoTaken mask count all_hands all_lent threads hands lent
+none_taken {mask} {count} {all_hands} {hands} {all_lent} {threads} {lent} none hands_are lent_are sized =
+    subst (λ (ws : List Worker). SoTaken mask count all_hands all_lent ws hands lent) (sym none) record {
+      all_own = sized.0;
+      own = sized.0;
+      rest = all_lent;
+      all_are = sized.1;
+      hands_are = hands_are ∙ ap (λ (hs : List Hand). reverse hs) sized.1;
+      lent_are = lent_are;
+      inside = record { whole = refl; many = sized.2 };
+      outside = record { whole = refl; many = sized.3 };
+    }
+
+module _ {mask : Mask4} {left : ℕ} {all_hands hands : List Hand} {all_lent threads lent : List Worker} (so : SoTaken mask (suc left) all_hands all_lent threads hands lent) where
+  -- the next is the last of the hands
+  pub some_in : is_set mask (1 + length threads) ≡ true → (front : List Hand) × (w : Worker) × (hands ≡ front ++ Thread w ∷ [])
+  some_in on =
+      let n = rest_takes so.own on so.inside in
+      (reverse (map Thread n.1), n.0, so.hands_are ∙ ap (λ (ws : List Worker). reverse (map Thread ws)) n.2 ∙ reverse-append (Thread n.0 ∷ []) (map Thread n.1))
+
+  pub taken_in : {hands' : List Hand} {lent' threads' : List Worker} (w : Worker) → is_set mask (1 + length threads) ≡ true → hands ≡ hands' ++ Thread w ∷ [] → lent' ≡ lent → threads' ≡ threads ++ w ∷ [] → SoTaken mask left all_hands all_lent threads' hands' lent'
+  taken_in {hands'} {lent'} {threads'} w on popped same pushed =
+      let n = rest_takes so.own on so.inside in
+      let turned = sym popped ∙ so.hands_are ∙ ap (λ (ws : List Worker). reverse (map Thread ws)) n.2 ∙ reverse-append (Thread n.0 ∷ []) (map Thread n.1) in
+      let it : w ≡ n.0 = same_thread (same_from_push hands' (reverse (map Thread n.1)) (Thread w) (Thread n.0) turned).1 in
+      let back = pushed ∙ ap (λ (x : Worker). threads ++ x ∷ []) it in
+      subst (λ (ws : List Worker). SoTaken mask left all_hands all_lent ws hands' lent') (sym back) record {
+        all_own = so.all_own;
+        own = n.1;
+        rest = so.rest;
+        all_are = so.all_are;
+        hands_are = (same_from_push hands' (reverse (map Thread n.1)) (Thread w) (Thread n.0) turned).0;
+        lent_are = same ∙ so.lent_are;
+        inside = n.3;
+        outside = rest_stays n.0 (not_from_true (is_set mask (1 + length threads)) on) so.outside;
+      }
+
+  -- .. or of those that were lent
+  pub some_out : is_set mask (1 + length threads) ≡ false → 0 < length lent
+  some_out off =
+      let n = rest_takes so.rest (not_from_false (is_set mask (1 + length threads)) off) so.outside in
+      let long = ap (λ (ws : List Worker). length ws) (so.lent_are ∙ ap (λ (ws : List Worker). reverse ws) n.2 ∙ reverse-append (n.0 ∷ []) n.1) ∙ length-append (reverse n.1) (n.0 ∷ []) in
+      omega (arith, long)
+
+  pub taken_out : {hands' : List Hand} {lent' threads' : List Worker} (w : Worker) → is_set mask (1 + length threads) ≡ false → lent ≡ lent' ++ w ∷ [] → hands' ≡ hands → threads' ≡ threads ++ w ∷ [] → SoTaken mask left all_hands all_lent threads' hands' lent'
+  taken_out {hands'} {lent'} {threads'} w off popped same pushed =
+      let n = rest_takes so.rest (not_from_false (is_set mask (1 + length threads)) off) so.outside in
+      let turned = sym popped ∙ so.lent_are ∙ ap (λ (ws : List Worker). reverse ws) n.2 ∙ reverse-append (n.0 ∷ []) n.1 in
+      let back = pushed ∙ ap (λ (x : Worker). threads ++ x ∷ []) (same_from_push lent' (reverse n.1) w n.0 turned).1 in
+      subst (λ (ws : List Worker). SoTaken mask left all_hands all_lent ws hands' lent') (sym back) record {
+        all_own = so.all_own;
+        own = so.own;
+        rest = n.1;
+        all_are = so.all_are;
+        hands_are = same ∙ so.hands_are;
+        lent_are = (same_from_push lent' (reverse n.1) w n.0 turned).0;
+        inside = rest_stays n.0 off so.inside;
+        outside = n.3;
+      }
+
+-- all are back
+pub all_taken : {mask : Mask4} {left : ℕ} {all_hands hands : List Hand} {all_lent threads lent : List Worker} → SoTaken mask left all_hands all_lent threads hands lent → left ≡ 0 → AreDealt mask threads all_hands all_lent × (hands ≡ []) × (lent ≡ [])
+all_taken {mask} {threads = threads} so none =
+    let own = nil_from_length so.own (so.inside.many ∙ ap (λ (n : ℕ). count_of (is_in mask) (1 + length threads) n) none) in
+    let rest = nil_from_length so.rest (so.outside.many ∙ ap (λ (n : ℕ). count_of (is_out mask) (1 + length threads) n) none) in (
+      (
+        so.all_are ∙ ap (λ (ws : List Worker). map Thread ws) (sym so.inside.whole ∙ ap (λ (ws : List Worker). picked (is_in mask) 1 threads ++ ws) own ∙ append-nil (picked (is_in mask) 1 threads)),
+        sym so.outside.whole ∙ ap (λ (ws : List Worker). picked (is_out mask) 1 threads ++ ws) rest ∙ append-nil (picked (is_out mask) 1 threads),
+      ),
+      so.hands_are ∙ ap (λ (ws : List Worker). reverse (map Thread ws)) own,
+      so.lent_are ∙ ap (λ (ws : List Worker). reverse ws) rest,
+    )
+
+pub some_worker : (ws : List Worker) (i : ℕ) → i < length ws → Worker
+some_worker [] i bad = absurd (omega (arith, bad))
+some_worker (w ∷ ws) i lt = w
+
+-- what the hands are afterwards, the last of which is the scavenger's
+pub record AllDid (region : SharedRegion) (book : NameBook) (ops : List Op) (own : List Worker) (s : TheScavenger) (hands : List Hand) : Type 0 where
+  pub threads : List Hand
+  pub scavenger : TheScavenger
+  pub hands_are : hands ≡ threads ++ Scavenger scavenger ∷ []
+  pub each : DidEach region book ops own threads
+  pub did : DidScavenge region ops s scavenger
+
+module _ {region : SharedRegion} {book : NameBook} {ops : List Op} where
+  -- ---- before
+  pub threads_may : (own : List Worker) {hands : List Hand} → hands ≡ map Thread own → All (MayDoPhase region book ops) own → All (MayAct region book ops) hands
+  threads_may own is may = All-same (MayAct region book ops) _ (map Thread own) is (All-map (MayAct region book ops) Thread own may)
+
+  pub all_may : (own : List Worker) (s : TheScavenger) {hands : List Hand} → hands ≡ map Thread own ++ Scavenger s ∷ [] → All (MayDoPhase region book ops) own → MayScavenge region ops s → All (MayAct region book ops) hands
+  all_may own s is may scavenges = All-same (MayAct region book ops) _ (map Thread own ++ Scavenger s ∷ []) is (All-push (MayAct region book ops) (map Thread own) (Scavenger s) (All-map (MayAct region book ops) Thread own may) scavenges)
+
+  -- ---- after
+  first_too : (w w' : Worker) (own after : List Worker) → DidPhase region book ops w w' → ((i : ℕ) (d : Worker) → i < length own → DidPhase region book ops (get_or own i d) (get_or after i d))
+      → (i : ℕ) (d : Worker) → i < length (w ∷ own) → DidPhase region book ops (get_or (w ∷ own) i d) (get_or (w' ∷ after) i d)
+  first_too w w' own after did rest zero d lt = did
+  first_too w w' own after did rest (suc i) d lt = rest i d (omega (arith, lt))
+
+  -- a thread's hand is one still
+  one_more : (w w' : Worker) (own : List Worker) (hands : List Hand) → DidPhase region book ops w w' → DidEach region book ops own hands → DidEach region book ops (w ∷ own) (Thread w' ∷ hands)
+  one_more w w' own hands did rest = record {
+    after = w' ∷ rest.after;
+    hands_are = ap (λ (hs : List Hand). Thread w' ∷ hs) rest.hands_are;
+    many = let many = rest.many in omega (arith, many);
+    each = first_too w w' own rest.after did rest.each;
+  }
+
+  no_hands : (hands : List Hand) → length hands ≡ 0 → DidEach region book ops [] hands
+  no_hands [] none = record { after = []; hands_are = refl; many = refl; each = λ i d bad. absurd (omega (arith, bad)) }
+  no_hands (h ∷ hands) bad = absurd (omega (arith, bad))
+
+  pub threads_did : (own : List Worker) (hands : List Hand) → length hands ≡ length (map Thread own) → ((i : ℕ) (d : Hand) → i < length (map Thread own) → DidAct region book ops (get_or (map Thread own) i d) (get_or hands i d)) → DidEach region book ops own hands
+  threads_did [] hands many did = no_hands hands many
+  threads_did (w ∷ own) [] many did = absurd (omega (arith, many))
+  threads_did (w ∷ own) (Thread w' ∷ hands) many did = one_more w w' own hands (did 0 (Thread w) (omega arith)) (threads_did own hands (omega (arith, many)) (λ i d lt. did (suc i) d (omega (arith, lt))))
+  threads_did (w ∷ own) (Scavenger s ∷ hands) many did = absurd (did 0 (Thread w) (omega arith))
+
+  pub all_did : (own : List Worker) (s : TheScavenger) (hands : List Hand) → length hands ≡ length (map Thread own ++ Scavenger s ∷ [])
+      → ((i : ℕ) (d : Hand) → i < length (map Thread own ++ Scavenger s ∷ []) → DidAct region book ops (get_or (map Thread own ++ Scavenger s ∷ []) i d) (get_or hands i d)) → AllDid region book ops own s hands
+  all_did [] s [] many did = absurd (omega (arith, many))
+  all_did [] s (Thread w ∷ hands) many did = absurd (did 0 (Scavenger s) (omega arith))
+  all_did [] s (Scavenger s' ∷ []) many did = record { threads = []; scavenger = s'; hands_are = refl; each = no_hands [] refl; did = did 0 (Scavenger s) (omega arith) }
+  all_did [] s (Scavenger s' ∷ (h ∷ hands)) many did = absurd (omega (arith, many))
+  all_did (w ∷ own) s [] many did = absurd (omega (arith, many))
+  all_did (w ∷ own) s (Scavenger s' ∷ hands) many did = absurd (did 0 (Thread w) (omega arith))
+  all_did (w ∷ own) s (Thread w' ∷ hands) many did =
+      let rest = all_did own s hands (omega (arith, many)) (λ i d lt. did (suc i) d (omega (arith, lt))) in
+      record {
+        threads = Thread w' ∷ rest.threads;
+        scavenger = rest.scavenger;
+        hands_are = ap (λ (hs : List Hand). Thread w' ∷ hs) rest.hands_are;
+        each = one_more w w' own rest.threads (did 0 (Thread w) (omega arith)) rest.each;
+        did = rest.did;
+      }
+
+-- what each hand did, where the hands before it are these
+pub each_from : (region : SharedRegion) (book : NameBook) (ops : List Op) {hands hands0 : List Hand} (after : List Hand) → hands ≡ hands0 → ((i : ℕ) (d : Hand) → i < length hands → DidAct region book ops (get_or hands i d) (get_or after i d))
+    → (i : ℕ) (d : Hand) → i < length hands0 → DidAct region book ops (get_or hands0 i d) (get_or after i d)
+each_from region book ops {hands} {hands0} after is did = subst (λ (hs : List Hand). (i : ℕ) (d : Hand) → i < length hs → DidAct region book ops (get_or hs i d) (get_or after i d)) is did
+
+pub same_scavenger : {s t : TheScavenger} → Scavenger s ≡ Scavenger t → s ≡ t
+same_scavenger {s} {t} is = ap (λ (h : Hand). elim h [ Thread w ↦ s | Scavenger x ↦ x ]) is

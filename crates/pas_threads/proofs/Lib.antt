@@ -1,23 +1,9 @@
-pub mod Taking
-pub mod Sitting
-pub mod ByLent
-pub mod ByCrew
-pub mod Dealt
-pub mod Acted
-pub mod TakingTurns
-pub mod ThreadTurns
-pub mod Gathering
-pub mod NamesOfPhases
-pub mod PhaseRooms
-pub mod PhaseStarts
-pub mod PhaseEnds
-pub mod PhaseTeams
-pub mod Equipping
-pub mod Starting
-pub mod Ending
-pub mod Ranks
-pub mod Performed
-pub mod Marking
-pub mod Staying
-pub mod Closing
-pub mod BetweenPhases
+mod Sitting
+mod ByCrew
+mod Dealt
+mod TakingTurns
+mod NamesOfPhases
+mod PhaseTeams
+mod StartAndEnd
+mod Performed
+mod BetweenPhases

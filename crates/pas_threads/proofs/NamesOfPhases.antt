@@ -1,41 +1,97 @@
--- What the book says of the names after a phase.
-use Rattle.std.proofs.Common.{◌≡◌, ℕ, ◌<◌, ◌≤◌, ◌==◌, ◌||◌, ◌⊎◌, Bool, true, false, if◌then◌else◌, inl, inr, List, [], ◌∷◌, ◌++◌, length, get_or, Option, Some, None, refl, ap, sym, ◌∙◌, subst}
-use Rattle.std.proofs.lemmas.Bool.{eq-eqb, false≢true, or_right}
+-- What the book says of the names after a phase, and how it takes the requests of all workers over, one after the other.
+use Rattle.std.proofs.Common.{◌≡◌, ℕ, ◌+◌, ◌<◌, ◌==◌, ◌||◌, ◌⊎◌, inl, inr, Bool, true, false, if◌then◌else◌, List, [], ◌∷◌, set, length, get_or, Option, Some, None, refl, ap, sym, ◌∙◌, subst, arith, ◌≤◌, ◌++◌}
+use Rattle.std.proofs.lemmas.List.{get_or_default}
+use Rattle.std.proofs.lemmas.Bool.{cases_eq, false≢true, eq-eqb, or_right, or_cases}
+use Rattle.pas_profile.specs.declared.name.Name.{Name}
+use Rattle.pas_trace.specs.EveryPlan.{is_asked, asked_with, asked_after, asked_by, AreSound, IsActorOf}
+use Rattle.pas_answers.specs.Answers.{Named, standing_for, Progress}
+use Rattle.pas_answers.specs.Names.{block_named, names_held}
+use Rattle.pas_acts.specs.NameBooks.{requests_in, room_for, names_of, came_to, known_in, Requests, name_asked, names_asked, AreWithin, NamesAt}
+use Rattle.pas_acts.specs.declared.names.NameBook.{NameBook}
+use Rattle.pas_threads.specs.declared.workers.Worker.{Worker}
+use Rattle.pas_threads.specs.Taken.{HasRequest, IsEmptied, HasTaken, HandsOver}
+use Rattle.pas_threads.proofs.TakingTurns.{set_each}
 use Rattle.pas_profile.specs.declared.profile.Profile.{Profile}
 use Rattle.pas_steps.specs.Desks.{Standing}
 use Rattle.pas_trace.specs.Asked.{work_of, of_task, request_of, request_in}
-use Rattle.pas_trace.specs.EveryPlan.{is_asked, asked_with, asked_after, asked_by, AreSound, IsActorOf}
 use Rattle.pas_trace.specs.declared.plan.What.{What}
 use Rattle.pas_trace.specs.declared.plan.What.TheVariants.{Alloc}
 use Rattle.pas_trace.specs.declared.item.Request.{Request}
 use Rattle.pas_trace.specs.declared.plan.Chore.{Chore}
 use Rattle.pas_trace.specs.declared.plan.Work.{Work}
 use Rattle.pas_trace.specs.declared.plan.Op.{Op}
-use Rattle.pas_answers.specs.Acts.{Act, operation_in, asked_after_operation, is_active, idle_threads, idle_stops, acts_of_chore, acts_of_work, acts_of_op, acts_of_ops, own_acts}
-use Rattle.pas_answers.specs.Answers.{Named, standing_for, Progress}
+use Rattle.pas_trace.specs.Acts.{Act, operation_in, asked_after_operation, is_active, idle_threads, idle_stops, acts_of_chore, acts_of_work, acts_of_op, acts_of_ops, own_acts}
 use Rattle.pas_answers.specs.Calls.{block_behind, HasTurn, AreKnown, OnlyAsked}
 use Rattle.pas_answers.specs.Fit.{IsBelow, AreBelow}
-use Rattle.pas_answers.specs.Names.{block_named, names_held}
 use Rattle.pas_answers.specs.declared.names.Names.{Names}
 use Rattle.pas_trace.proofs.OperationsOfItems.{kept_with}
 use Rattle.pas_plans.proofs.ActsOfPlan.{back_below}
 use Rattle.pas_shares.specs.Shares.{owner_in, IsWoven, AreAmong, IsRequestOf, NoneAsks, asked_after_act, asked_after_acts}
-use Rattle.pas_acts.specs.NameBooks.{requests_in, name_asked, names_asked, names_of, AreWithin, NamesAt}
-use Rattle.pas_threads.specs.Taken.{HasRequest, HasTaken, HandsOver}
 use Rattle.pas_acts.specs.Works.{Later, Works}
 use Rattle.pas_threads.specs.Hands.{kept_by}
-use Rattle.pas_acts.specs.declared.names.NameBook.{NameBook}
-use Rattle.pas_threads.specs.declared.workers.Worker.{Worker}
 use Rattle.pas_shares.proofs.KnownAfter.{are_known}
 use Rattle.pas_acts.proofs.Noting.{asks, asks_more}
 use Rattle.pas_acts.proofs.NamesBefore.{sound_front, sound_back}
-use Rattle.pas_threads.proofs.Ranks.{some_worker}
+use Rattle.pas_threads.proofs.Dealt.{some_worker}
+
+-- ---- all workers, one after the other
+-- a request of these has the name, and what it came to is the same whatever else is said; or none has it
+either_if : (t : Bool) (b : Option Name) (s : Bool) (o : Option (Option Name)) → ((s ≡ true) × ((x y : Option Name) → came_to o x ≡ came_to o y)) ⊎ ((s ≡ false) × (o ≡ None))
+    → ((t || s ≡ true) × ((x y : Option Name) → came_to (if t then Some b else o) x ≡ came_to (if t then Some b else o) y)) ⊎ ((t || s ≡ false) × ((if t then Some b else o) ≡ None))
+either_if true b s o rest = inl (refl, λ x y. refl)
+either_if false b s o rest = rest
+
+pub has_or_not : (rs : List Named) (n : ℕ) → ((is_asked (names_of rs) n ≡ true) × ((x y : Option Name) → came_to (standing_for rs n) x ≡ came_to (standing_for rs n) y)) ⊎ ((is_asked (names_of rs) n ≡ false) × (standing_for rs n ≡ None))
+has_or_not [] n = inr (refl, refl)
+has_or_not (r ∷ rs) n = either_if (r.name == n) r.block (is_asked (names_of rs) n) (standing_for rs n) (has_or_not rs n)
+
+-- .. as far as the workers before this place
+abbrev pub TakenUpTo : NameBook → NameBook → List Worker → ℕ → ℕ → Type 0
+TakenUpTo before after workers many n =
+    ((i : ℕ) × (i < many) × ((d : Worker) → HasRequest (get_or workers i d) n × (block_named after.names n ≡ known_in before (get_or workers i d).requests n)))
+    ⊎ (((i : ℕ) (d : Worker) → i < many → HasRequest (get_or workers i d) n → ⊥) × (block_named after.names n ≡ block_named before.names n))
+
+pub taken_more : (before now after : NameBook) (workers : List Worker) (i n : ℕ) (w : Worker) → i < length workers → ((d : Worker) → w ≡ get_or workers i d) → block_named after.names n ≡ known_in now w.requests n
+    → TakenUpTo before now workers i n → TakenUpTo before after workers (i + 1) n
+taken_more before now after workers i n w lt is takes so = elim (has_or_not (requests_in w.requests) n) [
+  | inl has ↦ inl (
+    i,
+    omega arith,
+    λ d. (subst (λ (x : Worker). HasRequest x n) (is d) has.0, takes ∙ has.1 (block_named now.names n) (block_named before.names n) ∙ ap (λ (x : Worker). known_in before x.requests n) (is d)),
+  )
+  | inr none ↦
+      let same : block_named after.names n ≡ block_named now.names n = takes ∙ ap (λ (o : Option (Option Name)). came_to o (block_named now.names n)) none.1 in
+      elim so [
+        | inl one ↦ inl (one.0, let low = one.1 in omega (arith, low), λ d. ((one.2 d).0, same ∙ (one.2 d).1))
+        | inr all ↦ inr (
+          λ j d low has. elim (cases_eq j i) [
+            | inl here ↦ false≢true (sym none.0 ∙ subst (λ (x : Worker). HasRequest x n) (sym (is d)) (subst (λ (m : ℕ). HasRequest (get_or workers m d) n) here has))
+            | inr other ↦ all.0 j d (omega (arith, low, other)) has
+          ],
+          same ∙ all.1,
+        )
+      ]
+]
+
+-- the worker with these requests
+abbrev pub with_requests : Worker → Requests → Worker
+with_requests w rs = record { pass = w.pass; cache = w.cache; requests = rs; out = w.out }
+
+pub emptied_more : (old now : List Worker) (i : ℕ) (e : Worker) (rs : Requests) → i < length now → get_or now i e ≡ get_or old i e → i < length old → requests_in rs ≡ [] → room_for rs ≡ room_for (get_or now i e).requests
+    → ((j : ℕ) (d : Worker) → j < i → IsEmptied (get_or old j d) (get_or now j d)) → (j : ℕ) (d : Worker) → j < i + 1 → IsEmptied (get_or old j d) (get_or (set now i (with_requests (get_or now i e) rs)) j d)
+emptied_more old now i e rs lt left lt' none room so j d low =
+    let was = left ∙ get_or_default old i e d lt' in
+    set_each (λ (m : ℕ) (w : Worker). IsEmptied (get_or old m d) w) now i (with_requests (get_or now i e) rs) d j lt
+    (record {
+      pass = ap (λ (w : Worker). w.pass) was;
+      cache = ap (λ (w : Worker). w.cache) was;
+      out = ap (λ (w : Worker). w.out) was;
+      empty = none;
+      room = room ∙ ap (λ (w : Worker). room_for w.requests) was;
+    })
+    (λ ne. so j d (omega (arith, low, ne)))
 
 -- ---- what acts ask for
-
-pub or_either : (s t : Bool) → s || t ≡ true → (s ≡ true) ⊎ (t ≡ true)
-or_either true t is = inl refl
-or_either false t is = inr is
 
 -- a name that was asked for stays so
 kept_after : (o : Option Op) (asked : List ℕ) (n : ℕ) → is_asked asked n ≡ true → is_asked (asked_after_operation o asked) n ≡ true
@@ -49,7 +105,7 @@ kept_acts (act ∷ acts) asked n is = kept_acts acts (asked_after_act act asked)
 -- the names that acts ask for were asked for after them
 new_with : (request : Option Request) (asked ns : List ℕ) (n : ℕ) → is_asked (asked_with request [] ++ ns) n ≡ true → (is_asked (asked_with request asked) n ≡ true) ⊎ (is_asked ns n ≡ true)
 new_with None asked ns n is = inr is
-new_with (Some r) asked ns n is = elim (or_either (r.name == n) (is_asked ns n) is) [
+new_with (Some r) asked ns n is = elim (or_cases (r.name == n) (is_asked ns n) is) [
   | inl here ↦ inl (ap (λ (t : Bool). t || is_asked asked n) here)
   | inr later ↦ inr later
 ]
@@ -113,7 +169,7 @@ asks_own f n k what actor is = absurd is
 
 front_asked : (ms ns : List ℕ) (n : ℕ) → is_asked ms n ≡ true → is_asked (ms ++ ns) n ≡ true
 front_asked [] ns n is = absurd (false≢true is)
-front_asked (m ∷ ms) ns n is = elim (or_either (m == n) (is_asked ms n) is) [
+front_asked (m ∷ ms) ns n is = elim (or_cases (m == n) (is_asked ms n) is) [
   | inl here ↦ ap (λ (t : Bool). t || is_asked (ms ++ ns) n) here
   | inr later ↦ or_right (m == n) (is_asked (ms ++ ns) n) (front_asked ms ns n later)
 ]

@@ -1,20 +1,35 @@
--- Workers in a row that take turns.
-use Rattle.std.proofs.Common.{◌≡◌, ◌≢◌, ℕ, ◌<◌, inl, inr, List, [], ◌∷◌, ◌++◌, length, set, get_or, refl, ap, sym, ◌∙◌, subst, arith, append_assoc}
-use Rattle.std.proofs.lemmas.List.{append-nil, get_or-set_other, get_or_default}
+-- Workers in a row that take turns: threads read the epoch before a phase and are stopped at the close, one after the other; and what they said is gathered.
+use Rattle.std.proofs.Common.{◌≡◌, ◌≢◌, ℕ, ◌<◌, inl, inr, List, [], ◌∷◌, ◌++◌, length, set, get_or, refl, ap, sym, ◌∙◌, subst, arith, append_assoc, suc, ◌+◌, ◌-◌, ◌≤◌, true, false, map, length-append, drop, drop_of_length-le}
+use Rattle.std.proofs.lemmas.List.{append-nil, get_or-set_other, get_or_default, drop_more}
 use Rattle.std.proofs.lemmas.Grind.{get_or-set_at}
 use Rattle.std.proofs.lemmas.Bool.{cases_eq}
 use Rattle.pas_profile.specs.declared.profile.Profile.{Profile}
 use Rattle.pas_steps.specs.Lists.{part}
-use Rattle.pas_report.specs.Rooms.{records_in, Records}
+use Rattle.pas_report.specs.Rooms.{records_in, Records, room_of}
 use Rattle.pas_report.specs.declared.record.Record.{Record}
-use Rattle.pas_answers.specs.Acts.{Act}
+use Rattle.pas_trace.specs.Acts.{Act, Wakes, Ends, numbers_from}
 use Rattle.pas_answers.specs.Answers.{Progress}
-use Rattle.pas_answers.specs.Ways.{records_by}
-use Rattle.pas_answers.proofs.OwnRecords.{records_both}
-use Rattle.pas_acts.specs.Turns.{LeavesRest}
+use Rattle.pas_answers.specs.Ways.{EachOf, records_by}
+use Rattle.pas_answers.proofs.OwnRecords.{records_both, none_by, all_by, spoken_piece, spoken_both}
+use Rattle.pas_acts.specs.Works.{Later, Sits}
+use Rattle.pas_acts.proofs.AtDesk.{leaves_rest, sits_for}
+use Rattle.pas_shared.specs.declared.region.SharedRegion.{SharedRegion}
 use Rattle.pas_answers.proofs.Reached.{reach_both}
-use Rattle.pas_threads.specs.Turns.{Came, Pushed, Told, TookTurns}
+use Rattle.pas_threads.specs.Turns.{AreDistinct, Came, Pushed, Told, TookNoPart, Turn, TookTurns, owed_at, IsDue, Woke, WokeAll, Stopped, StoppedAll, said_by_all, IsGathered}
 use Rattle.pas_threads.specs.declared.workers.Worker.{Worker}
+use Rattle.std.specs.List.{filter}
+use Rattle.pas_bits.specs.Masks.{is_set}
+use Rattle.pas_bits.specs.declared.mask.Mask4.{Mask4}
+use Rattle.pas_steps.specs.Views.{View}
+use Rattle.pas_cache.specs.Caches.{Cached, cached, AtRest}
+use Rattle.pas_answers.specs.Calls.{owed_events}
+use Rattle.pas_answers.specs.Fit.{own_cost_of_act}
+use Rattle.pas_plans.specs.Awake.{awake_in}
+use Rattle.pas_plans.proofs.ActsLeft.{acts_there, next_chosen, next_passed, none_left, number_next, number_last}
+use Rattle.pas_acts.specs.NameBooks.{requests_in, room_for}
+use Rattle.pas_acts.proofs.Alone.{rests_still}
+use Rattle.pas_threads.specs.Hands.{standing_of_pass}
+use Rattle.pas_threads.specs.Sessions.{evenly, WorkerHas, WorkerRests, AreResting}
 
 -- ---- acts one after the other
 abbrev pub came_none : (f : Profile) (p : Progress) → Came f [] p
@@ -43,6 +58,9 @@ told_none none = record { out = pushed_none none; requests = refl }
 
 pub told_both : {k : ℕ} {xs ys : List Record} {a b c : Worker} → Told k xs a b → Told k ys b c → Told k (xs ++ ys) a c
 told_both one two = record { out = pushed_both one.out two.out; requests = two.requests ∙ one.requests }
+
+pub no_part_both : {k : ℕ} {xs ys : List Record} {p q r : Progress} → TookNoPart k xs p q → TookNoPart k ys q r → TookNoPart k (xs ++ ys) p r
+no_part_both {k} {xs} {ys} one two = record { part_is = two.part_is ∙ one.part_is; silent = records_both k xs ys ∙ ap (λ (rs : List Record). rs ++ records_by k ys) one.silent ∙ two.silent }
 
 -- ---- which acts are left of all
 -- the first ones were done so, and these are left
@@ -79,27 +97,213 @@ set_each {A} Is now i w e j lt this others = elim (cases_eq j i) [
 abbrev pub Stays : (ℕ → ℕ) → (ℕ → Worker → Progress → Type 0) → Type 0
 Stays number Stands = (i : ℕ) (w : Worker) (q r : Progress) → part (number i) r.list ≡ part (number i) q.list → r.caches (number i) ≡ q.caches (number i) → r.names ≡ q.names → Stands i w q → Stands i w r
 
--- so many places are of different actors
-abbrev pub AreApart : (ℕ → ℕ) → ℕ → Type 0
-AreApart number places = (i j : ℕ) → i < places → j < places → i ≢ j → number i ≢ number j
-
 abbrev pub no_turn : {f : Profile} {number : ℕ → ℕ} {Stands : ℕ → Worker → Progress → Type 0} {old : List Worker} {p : Progress} → ((i : ℕ) (d : Worker) → i < length old → Stands i (get_or old i d) p) → TookTurns f number Stands [] old old p
-no_turn {f} {number} {Stands} {old} {p} at = record { came = came_none f p; stand = at; told = λ i d lt. told_none refl; leaves = record { parts = λ k other. refl; names = refl; epoch = refl } }
+no_turn {f} {number} {Stands} {old} {p} at = record { came = came_none f p; stand = at; told = λ i d lt. told_none refl; leaves = record { parts = λ k other. refl; silent = λ k some other. refl; names = refl; epoch = refl } }
 
-abbrev pub takes_turn : {f : Profile} {number : ℕ → ℕ} {Stands : ℕ → Worker → Progress → Type 0} {acts : List Act} {act : Act} {old now : List Worker} {p : Progress} → Stays number Stands → AreApart number (length old)
-    → (i : ℕ) (d w : Worker) → i < length old → length now ≡ length old → (so : TookTurns f number Stands acts old now p) → (one : Came f (act ∷ []) so.came.reached) → LeavesRest (number i) so.came.reached one.reached
-    → ((j : ℕ) → j < length old → j ≢ i → records_by (number j) one.said ≡ []) → Stands i w one.reached → Told (number i) one.said (get_or now i d) w → TookTurns f number Stands (acts ++ (act ∷ [])) old (set now i w) p
-takes_turn {f} {number} {Stands} {acts} {act} {old} {now} {p} stays apart i d w lt many so one leaves others stands told =
+-- those of thread k and then of the scavenger, by actor
+pub by_own : (k : ℕ) (mine told : List Record) → EachOf k mine → EachOf 0 told → 0 ≢ k → records_by k (mine ++ told) ≡ mine
+by_own k mine told one two ne = records_both k mine told ∙ ap (λ (xs : List Record). xs ++ records_by k told) (all_by k mine one) ∙ ap (λ (xs : List Record). mine ++ xs) (none_by k 0 told two ne) ∙ append-nil mine
+
+pub by_scavenger : (k : ℕ) (mine told : List Record) → EachOf k mine → 0 ≢ k → records_by 0 (mine ++ told) ≡ records_by 0 told
+by_scavenger k mine told one ne = records_both 0 mine told ∙ ap (λ (xs : List Record). xs ++ records_by 0 told) (none_by 0 k mine one (λ is. ne (sym is)))
+
+pub by_other : (j k : ℕ) (mine told : List Record) → EachOf k mine → EachOf 0 told → k ≢ j → 0 ≢ j → records_by j (mine ++ told) ≡ []
+by_other j k mine told one two ne zero = records_both j mine told ∙ ap (λ (xs : List Record). xs ++ records_by j told) (none_by j k mine one ne) ∙ none_by j 0 told two zero
+
+abbrev pub by_turn : {region : SharedRegion} {f : Profile} {k : ℕ} {act : Act} {told : List Record} {old new : Worker} {later : Later} {p : Progress} → Turn region f k act told old new later p → Came f (act ∷ []) p
+by_turn {told = told} t = record { reached = t.did.does.reached; reaches = t.did.does.reaches; said = t.did.does.own ++ told; records_are = t.did.does.records_are }
+
+abbrev pub takes_turn : {region : SharedRegion} {f : Profile} {number : ℕ → ℕ} {Stands : ℕ → Worker → Progress → Type 0} {acts : List Act} {act : Act} {told : List Record} {old now : List Worker} {later : Later} {p : Progress} → Stays number Stands → AreDistinct number (length old) → EachOf 0 told
+    → (i : ℕ) (d w : Worker) → i < length old → length now ≡ length old → (so : TookTurns f number Stands acts old now p) → (t : Turn region f (number i) act told (get_or now i d) w later so.came.reached) → Stands i w t.did.does.reached
+    → TookTurns f number Stands (acts ++ (act ∷ [])) old (set now i w) p
+takes_turn {number = number} {Stands} {told = told} {old} {now} stays apart theirs i d w lt many so t stands =
+    let x = t.did.does in
+    let k = number i in
+    let one = by_turn t in
+    let leaves = leaves_rest x in
     let here : i < length now = omega (arith, lt, many) in
+    let others : (j : ℕ) → 0 ≢ j → k ≢ j → records_by j (x.own ++ told) ≡ [] = λ j some ne. by_other j k x.own told x.each theirs ne some in
+    let mine : Told k (x.own ++ told) (get_or now i d) w = record {
+      out = record { added = x.pushed ∙ ap (λ (rs : List Record). records_in (get_or now i d).out ++ rs) (sym (by_own k x.own told x.each theirs (apart.threads i lt))); room = x.room };
+      requests = t.requests;
+    } in
     record {
       came = came_both so.came one;
-      stand = λ j e less. set_each (λ (m : ℕ) (x : Worker). Stands m x one.reached) now i w e j here stands
-          (λ ne. stays j (get_or now j e) so.came.reached one.reached (leaves.parts (number j) (apart j i less lt ne)) (leaves.caches (number j) (apart j i less lt ne)) leaves.names (so.stand j e less));
-      told = λ j e less. set_each (λ (m : ℕ) (x : Worker). Told (number m) (so.came.said ++ one.said) (get_or old m e) x) now i w e j here
-          (told_both (so.told i e lt) (subst (λ (x : Worker). Told (number i) one.said x w) (get_or_default now i d e here) told)) (λ ne. told_both (so.told j e less) (told_none (others j less ne)));
+      stand = λ j e less. set_each (λ (m : ℕ) (y : Worker). Stands m y x.reached) now i w e j here stands
+          (λ ne. stays j (get_or now j e) so.came.reached x.reached (leaves.parts (number j) (apart.apart j i less lt ne)) (leaves.caches (number j) (apart.apart j i less lt ne)) leaves.names (so.stand j e less));
+      told = λ j e less. set_each (λ (m : ℕ) (y : Worker). Told (number m) (so.came.said ++ (x.own ++ told)) (get_or old m e) y) now i w e j here
+          (told_both (so.told i e lt) (subst (λ (y : Worker). Told k (x.own ++ told) y w) (get_or_default now i d e here) mine))
+          (λ ne. told_both (so.told j e less) (told_none (others (number j) (apart.threads j less) (apart.apart i j lt less (λ is. ne (sym is))))));
       leaves = record {
-        parts = λ k other. leaves.parts k (λ (same : k ≡ number i). other i lt (sym same)) ∙ so.leaves.parts k other;
+        parts = λ j other. leaves.parts j (λ (same : j ≡ k). other i lt (sym same)) ∙ so.leaves.parts j other;
+        silent = λ j some other. records_both j so.came.said (x.own ++ told) ∙ ap (λ (rs : List Record). rs ++ records_by j (x.own ++ told)) (so.leaves.silent j some other) ∙ others j some (other i lt);
         names = leaves.names ∙ so.leaves.names;
         epoch = leaves.epoch ∙ so.leaves.epoch;
       };
     }
+
+-- ---- a worker at rest
+-- it rests at each progress at which it has the same in hand, and owes the same
+pub same_rests : {region : SharedRegion} {f : Profile} {k later : ℕ} {worker : Worker} {p q : Progress} → part k q.list ≡ part k p.list → q.caches k ≡ p.caches k → WorkerRests region f k worker later p → WorkerRests region f k worker later q
+same_rests parts caches at = record { here = record { has = at.here.has; rests = rests_still parts caches at.here.rests }; said = at.said; asked = at.asked; requests = at.requests }
+
+-- what it said is gathered, and its requests were taken over: it rests with room for less, where that and what it owes fit
+pub rests_clear : {region : SharedRegion} {f : Profile} {k n : ℕ} {later : Later} {w new : Worker} {p : Progress} → WorkerHas region f k w later p → new.pass ≡ w.pass → new.cache ≡ w.cache → records_in new.out ≡ [] → n ≤ later.events
+    → owed_at f k p + n ≤ room_of new.out → requests_in new.requests ≡ [] → n ≤ room_for new.requests → WorkerRests region f k new n p
+rests_clear {region} {f} {k} {n} {later} {w} {new} {p} at pass cache none events spare asked requests =
+    let same : cached w.cache ≡ cached new.cache = ap cached (sym cache) in
+    let size = ap (λ (rs : List Record). length rs) none in
+    let owed = ap (λ (c : Cached). owed_events f c (part k p.list)) (at.rests.cache ∙ same) in
+    record {
+      here = record {
+        has = record { pass = at.has.pass; present = pass ∙ at.has.present; of = at.has.of };
+        rests = record {
+          sits = subst (λ (c : Cached). Sits f k (AtRest f c) (standing_of_pass at.has.pass) (part k p.list) (owed_events f c (part k p.list) + n)) same (sits_for at.rests.sits (omega (arith, events)));
+          cache = at.rests.cache ∙ same;
+          spare = omega (arith, size, owed, spare);
+        };
+      };
+      said = none;
+      asked = asked;
+      requests = requests;
+    }
+
+same_owed : (f : Profile) (p q : Progress) (k : ℕ) → part k q.list ≡ part k p.list → q.caches k ≡ p.caches k → owed_at f k q ≡ owed_at f k p
+same_owed f p q k parts caches = ap (λ (v : View). owed_events f (q.caches k) v) parts ∙ ap (λ (c : Cached). owed_events f c (part k p.list)) caches
+
+due_stays : {region : SharedRegion} {f : Profile} {later : ℕ → ℕ} {p : Progress} → Stays suc (IsDue region f later p)
+due_stays {region} {f} {later} {p} i w q r parts caches names at =
+    let same = same_owed f q r (suc i) parts caches in
+    let paid = at.paid in
+    record { here = record { has = at.here.has; rests = rests_still parts caches at.here.rests }; paid = omega (arith, same, paid) }
+
+threads_distinct : (places : ℕ) → AreDistinct suc places
+threads_distinct places = record { threads = λ i lt same. omega (arith, same); apart = λ i j low high ne same. ne (omega (arith, same)) }
+
+-- before the first turn
+none_took : {region : SharedRegion} {f : Profile} (old : List Worker) {later : ℕ → ℕ} {p : Progress} → AreResting region f old later p → (i : ℕ) (d : Worker) → i < length old → IsDue region f later p i (get_or old i d) p
+none_took old at i d lt = let none = ap (λ (rs : List Record). length rs) (at i d lt).said in record { here = (at i d lt).here; paid = omega (arith, none) }
+
+-- the next worker takes its turn, by an act that costs it nothing
+abbrev turn_taken : {region : SharedRegion} {f : Profile} {acts : List Act} {act : Act} {old now : List Worker} {later : ℕ → ℕ} {p : Progress} (i : ℕ) (d w : Worker) → own_cost_of_act (suc i) act ≡ 0 → i < length old → length now ≡ length old
+    → (so : TookTurns f suc (IsDue region f later p) acts old now p) → Turn region f (suc i) act [] (get_or now i d) w (evenly (later (suc i))) so.came.reached → TookTurns f suc (IsDue region f later p) (acts ++ (act ∷ [])) old (set now i w) p
+turn_taken {f = f} {old = old} {now} i d w free lt many so t =
+    let k = suc i in
+    let x = t.did.does in
+    let was = so.stand i d lt in
+    let longer = ap (λ (rs : List Record). length rs) x.pushed ∙ length-append (records_in (get_or now i d).out) x.own in
+    let then : owed_at f k x.reached ≡ owed_events f (cached w.cache) (part k x.reached.list) = ap (λ (c : Cached). owed_events f c (part k x.reached.list)) x.stands.cache in
+    let before : owed_at f k so.came.reached ≡ owed_events f (cached (get_or now i d).cache) (part k so.came.reached.list) = ap (λ (c : Cached). owed_events f c (part k so.came.reached.list)) was.here.rests.cache in
+    let paid = x.paid in
+    let had = was.paid in
+    takes_turn due_stays (threads_distinct (length old)) tt i d w lt many so t (record { here = record { has = t.did.after; rests = x.stands }; paid = omega (arith, longer, then, before, paid, had, free) })
+
+-- ---- before a phase
+-- those of the mask before this place read the epoch
+abbrev pub WokeSoFar : SharedRegion → Profile → Mask4 → ℕ → List Worker → List Worker → (ℕ → ℕ) → Progress → Type 0
+WokeSoFar region f awake i old now later p =
+    SoFar (acts_there Wakes (is_set awake) 0 (length old) []) (acts_there Wakes (is_set awake) i (length old) []) (λ acts. Woke region f acts old now later p)
+
+pub wakes_begin : (awake : Mask4) {region : SharedRegion} {f : Profile} {old : List Worker} {later : ℕ → ℕ} {p : Progress} → AreResting region f old later p → WokeSoFar region f awake 0 old old later p
+wakes_begin awake {old = old} at = at_first (record { turns = no_turn (none_took old at); silent = refl })
+
+wakes : {region : SharedRegion} {f : Profile} {acts : List Act} {old now : List Worker} {later : ℕ → ℕ} {p : Progress} (i : ℕ) (d w : Worker) (so : Woke region f acts old now later p) → i < length old → length now ≡ length old
+    → (t : Turn region f (suc i) (Wakes (suc i)) [] (get_or now i d) w (evenly (later (suc i))) so.turns.came.reached) → t.did.does.own ≡ [] → Woke region f (acts ++ (Wakes (suc i) ∷ [])) old (set now i w) later p
+wakes i d w so lt many t none = record { turns = turn_taken i d w refl lt many so.turns t; silent = ap (λ (rs : List Record). so.turns.came.said ++ (rs ++ [])) none ∙ append-nil so.turns.came.said ∙ so.silent }
+
+pub wakes_go_on : (awake : Mask4) {region : SharedRegion} {f : Profile} {old now : List Worker} {later : ℕ → ℕ} {p : Progress} (i : ℕ) (d w : Worker) → is_set awake (i + 1) ≡ true → (so : WokeSoFar region f awake i old now later p) → i < length old → length now ≡ length old
+    → (t : Turn region f (suc i) (Wakes (suc i)) [] (get_or now i d) w (evenly (later (suc i))) so.done.turns.came.reached) → t.did.does.own ≡ [] → WokeSoFar region f awake (i + 1) old (set now i w) later p
+wakes_go_on awake {region} {f} {old} {now} {later} {p} i d w on so lt many t none =
+    goes_on (Wakes (i + 1) ∷ []) (next_chosen Wakes (is_set awake) i (length old) [] lt on) so
+    (subst (λ (m : ℕ). Woke region f (so.acts ++ (Wakes m ∷ [])) old (set now i w) later p) (let is : suc i ≡ i + 1 = omega arith in is) (wakes i d w so.done lt many t none))
+
+pub wakes_pass : (awake : Mask4) {region : SharedRegion} {f : Profile} {old now : List Worker} {later : ℕ → ℕ} {p : Progress} (i : ℕ) → is_set awake (i + 1) ≡ false → i < length old → WokeSoFar region f awake i old now later p → WokeSoFar region f awake (i + 1) old now later p
+wakes_pass awake {old = old} i off lt so = passes_on (next_passed Wakes (is_set awake) i (length old) [] lt off) so
+
+pub wakes_end : (awake : Mask4) {region : SharedRegion} {f : Profile} {old now : List Worker} {later : ℕ → ℕ} {p : Progress} (i : ℕ) → length old ≤ i → WokeSoFar region f awake i old now later p → WokeAll region f awake old now later p
+wakes_end awake {region} {f} {old} {now} {later} {p} i le so =
+    let n = length old in
+    let all : acts_there Wakes (is_set awake) 0 n [] ≡ map Wakes (awake_in awake n) =
+    append-nil (map Wakes (filter (is_set awake) (numbers_from 1 (n - 0)))) ∙ ap (λ (m : ℕ). map Wakes (filter (is_set awake) (numbers_from 1 m))) (let whole : n - 0 ≡ n = omega arith in whole)
+    in
+    subst (λ (acts : List Act). Woke region f acts old now later p) all (at_last (none_left Wakes (is_set awake) i n [] le) so)
+
+-- they rest again
+pub woke_rest : {region : SharedRegion} {f : Profile} {acts : List Act} {old now : List Worker} {later : ℕ → ℕ} {p : Progress} → length now ≡ length old → AreResting region f old later p → (woke : Woke region f acts old now later p) → AreResting region f now later woke.turns.came.reached
+woke_rest {old = old} {now} many at woke i d lt =
+    let less : i < length old = omega (arith, lt, many) in
+    let was = at i d less in
+    let told = woke.turns.told i d less in
+    let room = was.requests in
+    let size = ap room_for told.requests in
+    record {
+      here = (woke.turns.stand i d less).here;
+      said = told.out.added ∙ ap (λ (rs : List Record). records_in (get_or old i d).out ++ records_by (suc i) rs) woke.silent ∙ append-nil (records_in (get_or old i d).out) ∙ was.said;
+      asked = ap requests_in told.requests ∙ was.asked;
+      requests = omega (arith, room, size);
+    }
+
+-- ---- at the close
+-- the stops of the threads from place i of n on
+abbrev pub ends_from : ℕ → ℕ → List Act
+ends_from i n = map Ends (numbers_from (i + 1) (n - i))
+
+abbrev pub EndedSoFar : SharedRegion → Profile → ℕ → List Worker → List Worker → (ℕ → ℕ) → Progress → Type 0
+EndedSoFar region f i old now later p = SoFar (ends_from 0 (length old)) (ends_from i (length old)) (λ acts. Stopped region f acts i old now later p)
+
+pub ends_begin : {region : SharedRegion} {f : Profile} {old : List Worker} {later : ℕ → ℕ} {p : Progress} → AreResting region f old later p → EndedSoFar region f 0 old old later p
+ends_begin {old = old} at = at_first (record { turns = no_turn (none_took old at); spoken = tt; none = refl; empty = λ j d less. absurd (omega (arith, less)) })
+
+ends : {region : SharedRegion} {f : Profile} {acts : List Act} {old now : List Worker} {later : ℕ → ℕ} {p : Progress} (i : ℕ) (d w : Worker) (so : Stopped region f acts i old now later p) → i < length old → length now ≡ length old
+    → Turn region f (suc i) (Ends (suc i)) [] (get_or now i d) w (evenly (later (suc i))) so.turns.came.reached → (cached w.cache).locals ≡ [] → Stopped region f (acts ++ (Ends (suc i) ∷ [])) (suc i) old (set now i w) later p
+ends {now = now} i d w so lt many t none =
+    let x = t.did.does in
+    record {
+      turns = turn_taken i d w refl lt many so.turns t;
+      spoken = spoken_both so.turns.came.said (x.own ++ []) so.spoken (spoken_both x.own [] (spoken_piece (suc i) x.own x.each) tt);
+      none = records_both 0 so.turns.came.said (x.own ++ []) ∙ ap (λ (rs : List Record). rs ++ records_by 0 (x.own ++ [])) so.none ∙ by_scavenger (suc i) x.own [] x.each (λ (is : 0 ≡ suc i). omega (arith, is));
+      empty = λ j e less. set_each (λ (m : ℕ) (y : Worker). (cached y.cache).locals ≡ []) now i w e j (omega (arith, lt, many)) none (λ ne. so.empty j e (omega (arith, less, ne)));
+    }
+
+pub ends_go_on : {region : SharedRegion} {f : Profile} {old now : List Worker} {later : ℕ → ℕ} {p : Progress} (i : ℕ) (d w : Worker) (so : EndedSoFar region f i old now later p) → i < length old → length now ≡ length old
+    → Turn region f (suc i) (Ends (suc i)) [] (get_or now i d) w (evenly (later (suc i))) so.done.turns.came.reached → (cached w.cache).locals ≡ [] → EndedSoFar region f (i + 1) old (set now i w) later p
+ends_go_on {region} {f} {old} {now} {later} {p} i d w so lt many t none =
+    let n = length old in
+    goes_on (Ends (i + 1) ∷ []) (ap (λ (ks : List ℕ). map Ends ks) (number_next (i + 1) (n - i) (n - (i + 1)) (omega (arith, lt)))) so
+    (subst (λ (m : ℕ). Stopped region f (so.acts ++ (Ends m ∷ [])) m old (set now i w) later p) (let is : suc i ≡ i + 1 = omega arith in is) (ends i d w so.done lt many t none))
+
+pub ends_end : {region : SharedRegion} {f : Profile} {old now : List Worker} {later : ℕ → ℕ} {p : Progress} (i : ℕ) → length old ≤ i → i ≤ length old → EndedSoFar region f i old now later p → StoppedAll region f old now later p
+ends_end {region} {f} {old} {now} {later} {p} i le ge so =
+    let n = length old in
+    let all : ends_from 0 n ≡ map Ends (numbers_from 1 n) = ap (λ (m : ℕ). map Ends (numbers_from 1 m)) (let whole : n - 0 ≡ n = omega arith in whole) in
+    let at : i ≡ n = omega (arith, le, ge) in
+    subst (λ (m : ℕ). Stopped region f (map Ends (numbers_from 1 n)) m old now later p) at
+    (subst (λ (acts : List Act). Stopped region f acts i old now later p) all (at_last (ap (λ (ks : List ℕ). map Ends ks) (number_last (i + 1) (n - i) (omega (arith, le)))) so))
+
+-- Of these workers those before place i are gathered, and the others are as they were. What they say still comes after what was gathered.
+pub record AreGathered (i : ℕ) (old now : List Worker) (before said : List Record) : Type 0 where
+  pub said_are : said ++ said_by_all (drop i old) ≡ before ++ said_by_all old
+  pub done : (j : ℕ) (d : Worker) → j < i → j < length old → IsGathered (get_or old j d) (get_or now j d)
+  pub left : (j : ℕ) (d : Worker) → i ≤ j → get_or now j d ≡ get_or old j d
+
+pub gather_begins : (old : List Worker) (before : List Record) → AreGathered 0 old old before before
+gather_begins old before = record { said_are = refl; done = λ j d less within. absurd (omega (arith, less)); left = λ j d from. refl }
+
+-- what the worker at this place says comes first of what is left
+pub next_said : (i : ℕ) (old now : List Worker) (before said : List Record) (d : Worker) → i < length old → AreGathered i old now before said → said ++ (records_in (get_or now i d).out ++ said_by_all (drop (i + 1) old)) ≡ before ++ said_by_all old
+next_said i old now before said d lt so =
+    ap (λ (w : Worker). said ++ (records_in w.out ++ said_by_all (drop (i + 1) old))) (so.left i d (omega arith))
+    ∙ ap (λ (ws : List Worker). said ++ said_by_all ws) (sym (drop_more old i d lt)) ∙ so.said_are
+
+pub gather_goes_on : {i : ℕ} {old now : List Worker} {before said said' : List Record} (d w : Worker) → i < length old → length now ≡ length old → AreGathered i old now before said
+    → said' ≡ said ++ records_in (get_or now i d).out → IsGathered (get_or now i d) w → AreGathered (i + 1) old (set now i w) before said'
+gather_goes_on {i} {old} {now} {before} {said} {said'} d w lt many so added one = record {
+  said_are = ap (λ (rs : List Record). rs ++ said_by_all (drop (i + 1) old)) added ∙ append_assoc said (records_in (get_or now i d).out) (said_by_all (drop (i + 1) old)) ∙ next_said i old now before said d lt so;
+  done = λ j e less within. set_each (λ (m : ℕ) (x : Worker). IsGathered (get_or old m e) x) now i w e j (omega (arith, lt, many))
+      (subst (λ (x : Worker). IsGathered x w) (so.left i d (omega arith) ∙ get_or_default old i d e lt) one) (λ ne. so.done j e (omega (arith, less, ne)) within);
+  left = λ j e from. let ne : j ≢ i = λ (is : j ≡ i). omega (arith, is, from) in get_or-set_other now i j w e ne ∙ so.left j e (omega (arith, from));
+}
+
+pub gather_ends : {i : ℕ} {old now : List Worker} {before said : List Record} → length old ≤ i → AreGathered i old now before said → said ≡ before ++ said_by_all old
+gather_ends {i} {old} {now} {before} {said} le so =
+    sym (append-nil said) ∙ ap (λ (ws : List Worker). said ++ said_by_all ws) (sym (drop_of_length-le old le)) ∙ so.said_are

@@ -7,7 +7,7 @@ use Rattle.pas_cache.specs.Caches.{cached}
 use Rattle.pas_shared.specs.Passes.{seat_of, view_of, IsPassOf}
 use Rattle.pas_shared.specs.declared.region.SharedRegion.{SharedRegion}
 use Rattle.pas_shared.specs.declared.pass.SharedPass.{SharedPass}
-use Rattle.pas_answers.specs.Acts.{Act, own_acts}
+use Rattle.pas_trace.specs.Acts.{Act, own_acts}
 use Rattle.pas_answers.specs.Answers.{Progress}
 use Rattle.pas_answers.specs.Fit.{costs_of}
 use Rattle.pas_report.specs.Rooms.{Records}

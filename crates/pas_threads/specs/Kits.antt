@@ -11,7 +11,7 @@ use Rattle.pas_shared.specs.declared.region.SharedRegion.{SharedRegion}
 use Rattle.pas_shared.specs.declared.pass.SharedPass.{SharedPass}
 use Rattle.pas_answers.specs.Fit.{AllBelow}
 use Rattle.pas_answers.specs.Names.{block_named, names_held}
-use Rattle.pas_answers.specs.Replays.{phases_of, empty_cache}
+use Rattle.pas_answers.specs.Replays.{phases_of, region_of, threads_of, empty_cache}
 use Rattle.pas_acts.specs.NameBooks.{requests_in, room_for}
 use Rattle.pas_threads.specs.Sessions.{HasPlaces}
 use Rattle.pas_acts.specs.declared.names.NameBook.{NameBook}
@@ -65,21 +65,21 @@ pub record IsBookOf (plan : Plan) (book : NameBook) : Type 0 where
 
 -- a team that did nothing yet, whose actors have these passes
 pub record IsTeamOf (plan : Plan) (first : SharedPass) (others : List SharedPass) (team : Team) : Type 0 where
-  pub scavenger : IsSupplied plan.profile first (slice_index (bounds_of plan.bounds) 0) team.scavenger
+  pub scavenger : IsSupplied (region_of plan) first (slice_index (bounds_of plan.bounds) 0) team.scavenger
   pub workers : AreEquipped (bounds_of plan.bounds) 1 others team.threads.items
   pub book : IsBookOf plan team.book
-  pub places : HasPlaces plan.profile.threads team
+  pub places : HasPlaces (threads_of plan) team
 
 -- ---- the kit
 pub record IsKitOf (plan : Plan) (kit : SharedKit) : Type 0 where
-  pub profile : profile_of kit.region ≡ plan.profile
+  pub profile : profile_of kit.region ≡ region_of plan
   pub first : SharedPass
   pub others : List SharedPass
-  pub many : length others ≡ plan.profile.threads
+  pub many : length others ≡ threads_of plan
   pub unused : AreNew kit.region (bounds_of plan.bounds) 0 (first ∷ others)
   pub team : IsTeamOf plan first others kit.team
   pub none : kit.passes.items ≡ []
-  pub place : plan.profile.threads < vec_capacity kit.passes
+  pub place : threads_of plan < vec_capacity kit.passes
 
 -- ---- at the end
 -- the places of the actors' passes, from the scavenger on

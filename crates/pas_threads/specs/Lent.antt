@@ -1,30 +1,23 @@
 -- The threads that are lent to the scavenger's worker in a phase in which they are idle.
-use Rattle.std.specs.Prelude.{ℕ, ◌<◌, ◌≤◌, ◌≡◌, ◌≢◌, Bool, List, [], ◌∷◌, length, get_or}
+use Rattle.std.specs.Prelude.{ℕ, ◌<◌, ◌≤◌, ◌≡◌, Bool, List, length, get_or}
 use Rattle.pas_profile.specs.declared.profile.Profile.{Profile}
 use Rattle.pas_report.specs.Rooms.{Records}
 use Rattle.pas_shared.specs.declared.region.SharedRegion.{SharedRegion}
-use Rattle.pas_answers.specs.Acts.{Act, StopsIdle}
+use Rattle.pas_trace.specs.Acts.{Act, StopsIdle}
 use Rattle.pas_answers.specs.Answers.{Progress}
 use Rattle.pas_answers.specs.Ways.{records_by}
-use Rattle.pas_cache.specs.Caches.{cached}
 use Rattle.pas_acts.specs.Works.{Later}
-use Rattle.pas_acts.specs.AtDesks.{here, told_if, ThreadActs}
-use Rattle.pas_threads.specs.Hands.{Did}
+use Rattle.pas_acts.specs.AtDesks.{told_if}
 use Rattle.pas_threads.specs.Sessions.{WorkerHas}
-use Rattle.pas_threads.specs.Turns.{Pushed, TookTurns}
+use Rattle.pas_threads.specs.Turns.{AreDistinct, Pushed, Turn, TookTurns}
 use Rattle.pas_threads.specs.declared.workers.Worker.{Worker}
-
--- these are numbers of threads, and each comes once
-pub record AreDistinct (idle : List ℕ) : Type 0 where
-  pub threads : (i : ℕ) → i < length idle → 0 ≢ get_or idle i 0
-  pub apart : (i j : ℕ) → i < length idle → j < length idle → i ≢ j → get_or idle i 0 ≢ get_or idle j 0
 
 -- What the scavenger's worker goes by in a phase: the profile, which threads are idle, and for how much more there is room in the end, for the scavenger itself
 -- and for each idle thread, by its place among them.
 pub record Shift : Type 0 where
   pub profile : Profile
   pub idle : List ℕ
-  pub distinct : AreDistinct idle
+  pub distinct : AreDistinct (λ i. get_or idle i 0) (length idle)
   pub own : Later
   pub lends : ℕ → Later
 
@@ -44,9 +37,8 @@ pub record AreLent (region : SharedRegion) (s : Shift) (lent : List Worker) (p :
 -- The worker's thread was stopped, where it was idle for n epochs. The records of its flush came to its own, and that it was stopped, if it was, to `out`.
 pub record StopsLent (region : SharedRegion) (f : Profile) (k n : ℕ) (old new : Worker) (out out' : Records) (later : Later) (p : Progress) : Type 0 where
   pub stopped : Bool
-  pub did : Did region old.pass new.pass (λ σ σ'. ThreadActs f k (StopsIdle k n ∷ []) [] (told_if stopped k) (here σ (cached old.cache) old.out) (here σ' (cached new.cache) new.out) later p)
+  pub turn : Turn region f k (StopsIdle k n) (told_if stopped k) old new later p
   pub told : Pushed 0 (told_if stopped k) out out'
-  pub requests : new.requests ≡ old.requests
 
 -- These acts were done with the lent workers. Of what was said at most `most` is the scavenger's, which came to the end of `out`.
 pub record DidWithLent (region : SharedRegion) (s : Shift) (acts : List Act) (old new : List Worker) (out out' : Records) (most : ℕ) (p : Progress) : Type 0 where

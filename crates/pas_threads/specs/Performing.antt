@@ -1,61 +1,86 @@
 -- The operations of one phase, by all hands at once.
-use Rattle.std.specs.Prelude.{ℕ, suc, ◌<◌, ◌≡◌, List, [], ◌++◌, length, get_or}
+use Rattle.std.specs.Prelude.{ℕ, suc, ◌<◌, ◌≤◌, ◌≡◌, true, List, [], ◌++◌, length, get_or}
 use Rattle.pas_profile.specs.declared.profile.Profile.{Profile}
 use Rattle.pas_trace.specs.EveryPlan.{AreSound}
 use Rattle.pas_trace.specs.declared.plan.Op.{Op}
 use Rattle.pas_report.specs.declared.record.Record.{Record}
 use Rattle.pas_utility.specs.Outcomes.{places_of}
 use Rattle.pas_shared.specs.declared.region.SharedRegion.{SharedRegion}
-use Rattle.pas_answers.specs.Acts.{acts_of_ops, idle_threads, own_acts, scavenger_acts}
+use Rattle.pas_trace.specs.Acts.{is_active, acts_of_ops, idle_threads, own_acts, scavenger_acts}
 use Rattle.pas_answers.specs.Answers.{Named, Progress}
 use Rattle.pas_shares.specs.Shares.{AreAmong, owner_in, acts_by}
 use Rattle.pas_acts.specs.NameBooks.{requests_in, room_for, names_of, names_asked}
 use Rattle.pas_threads.specs.Taken.{HandsOver}
 use Rattle.pas_acts.specs.Works.{Later}
 use Rattle.pas_threads.specs.Hands.{standing_of_pass, HasPass, ScavengerAt, WorkerAt}
-use Rattle.pas_threads.specs.Sessions.{WorkerHas, HasPlaces}
-use Rattle.pas_threads.specs.Turns.{Came, Pushed}
+use Rattle.pas_threads.specs.Sessions.{Session, WorkerHas, HasPlaces}
+use Rattle.pas_threads.specs.Turns.{Came, Pushed, TookNoPart}
 use Rattle.pas_acts.specs.declared.names.NameBook.{NameBook}
 use Rattle.pas_threads.specs.declared.workers.Worker.{Worker}
 use Rattle.pas_threads.specs.declared.scavenger.Scavenger.{Scavenger}
 use Rattle.pas_threads.specs.declared.phases.Team.{Team}
 
--- the scavenger has its pass, and with it stands where the replay came as far as p
-pub record ScavengerHas (region : SharedRegion) (f : Profile) (ops : List Op) (scavenger : Scavenger) (later : Later) (p : Progress) : Type 0 where
+-- What all hands of a phase go by: the profile of the region and the number of threads, the book of names, the operations, for how much more each actor has
+-- room in the end, and how far the replay came before them.
+pub record Round : Type 0 where
+  pub profile : Profile
+  pub threads : ℕ
+  pub book : NameBook
+  pub ops : List Op
+  pub later : ℕ → Later
+  pub start : Progress
+
+abbrev pub round : Session → NameBook → List Op → (ℕ → Later) → Progress → Round
+round s book ops later p = record { profile = s.profile; threads = s.threads; book = book; ops = ops; later = later; start = p }
+
+-- the threads that are idle in it
+abbrev pub idle_in : Round → List ℕ
+idle_in r = idle_threads r.threads r.ops
+
+-- ---- before
+-- the scavenger has its pass, and with it stands where the replay came as far as that
+pub record ScavengerHas (region : SharedRegion) (r : Round) (scavenger : Scavenger) : Type 0 where
   pub has : HasPass region scavenger.pass
-  pub at : ScavengerAt f (scavenger_acts (idle_threads f.threads ops) ops) (standing_of_pass has.pass) (places_of scavenger.outcomes) scavenger.out later p
+  pub at : ScavengerAt r.profile (scavenger_acts (idle_in r) r.ops) (standing_of_pass has.pass) (places_of scavenger.outcomes) scavenger.out (r.later 0) r.start
   pub none : scavenger.lent.items ≡ []
 
--- Before the operations of a phase: each thread's worker and the scavenger stand where the replay came as far as p, and their acts of the phase come next.
-pub record IsReady (region : SharedRegion) (f : Profile) (ops : List Op) (team : Team) (later : ℕ → Later) (p : Progress) : Type 0 where
+-- The operations are of the threads, whose workers stand where the replay came as far as that, as the scavenger does. Their acts of the phase come next.
+pub record IsReady (region : SharedRegion) (r : Round) (team : Team) : Type 0 where
   pub asked : List ℕ
-  pub sound : AreSound f asked ops
-  pub many : length team.threads.items ≡ f.threads
-  pub few : f.threads < 32
-  pub workers : (i : ℕ) (d : Worker) → i < length team.threads.items → WorkerAt region team.book f (suc i) (own_acts (suc i) ops) (get_or team.threads.items i d) (later (suc i)) p
-  pub scavenger : ScavengerHas region f ops team.scavenger (later 0) p
-  pub places : HasPlaces f.threads team
+  pub sound : AreSound r.profile asked r.ops
+  pub within : (k : ℕ) → is_active r.ops k ≡ true → k ≤ r.threads
+  pub many : length team.threads.items ≡ r.threads
+  pub few : r.threads < 32
+  pub workers : (i : ℕ) (d : Worker) → i < length team.threads.items → WorkerAt region r.book r.profile (suc i) (own_acts (suc i) r.ops) (get_or team.threads.items i d) (r.later (suc i)) r.start
+  pub scavenger : ScavengerHas region r team.scavenger
+  pub places : HasPlaces r.threads team
 
+-- ---- after
 -- The acts of thread k's worker were done, or of the scavenger's, to which it was lent: the replay came as far as q by them, and this was said. What the
 -- thread said of it came to the end of its records, and its requests are told of.
-pub record ThreadDone (region : SharedRegion) (book : NameBook) (f : Profile) (ops : List Op) (k : ℕ) (old new : Worker) (later : Later) (q : Progress) (said : List Record) : Type 0 where
-  pub stands : WorkerHas region f k new later q
+pub record ThreadDone (region : SharedRegion) (r : Round) (k : ℕ) (old new : Worker) (said : List Record) (q : Progress) : Type 0 where
+  pub stands : WorkerHas region r.profile k new (r.later k) q
   pub told : Pushed k said old.out new.out
-  pub noted : names_of (requests_in new.requests) ≡ names_of (requests_in old.requests) ++ names_asked (own_acts k ops)
+  pub noted : names_of (requests_in new.requests) ≡ names_of (requests_in old.requests) ++ names_asked (own_acts k r.ops)
   pub room_noted : room_for new.requests ≡ room_for old.requests
-  pub hands_over : requests_in old.requests ≡ [] → (names : List Named) → AreAmong q.names names → HandsOver ops book k new names
+  pub hands_over : requests_in old.requests ≡ [] → (names : List Named) → AreAmong q.names names → HandsOver r.ops r.book k new names
 
-pub record ScavengerDone (region : SharedRegion) (f : Profile) (old new : Scavenger) (later : Later) (q : Progress) (said : List Record) : Type 0 where
-  pub has : HasPass region new.pass
-  pub at : ScavengerAt f [] (standing_of_pass has.pass) (places_of new.outcomes) new.out later q
-  pub told : Pushed 0 said old.out new.out
+-- The scavenger's acts were done, and it has its pass again. Nobody past the threads took part in them.
+abbrev pub ScavengerDone : SharedRegion → Round → Scavenger → Scavenger → List Record → Progress → Type 0
+ScavengerDone region r old new said q =
+    (has : HasPass region new.pass) × ScavengerAt r.profile [] (standing_of_pass has.pass) (places_of new.outcomes) new.out (r.later 0) q × Pushed 0 said old.out new.out
+    × ((k : ℕ) → r.threads < k → TookNoPart k said r.start q)
 
--- all hands did their operations, each for itself: worker w came so far by its own
-pub record IsDone (region : SharedRegion) (f : Profile) (ops : List Op) (old new : Team) (later : ℕ → Later) (p : Progress) : Type 0 where
-  pub own : (w : ℕ) → Came f (acts_by (owner_in ops) w (acts_of_ops (idle_threads f.threads ops) ops)) p
+-- what worker w did, for all actors in its hands
+pub record Piece (region : SharedRegion) (r : Round) (old new : List Worker) (before after : Scavenger) (w : ℕ) : Type 0 where
+  pub own : Came r.profile (acts_by (owner_in r.ops) w (acts_of_ops (idle_in r) r.ops)) r.start
+  pub threads : (i : ℕ) (d : Worker) → i < length old → owner_in r.ops (suc i) ≡ w → ThreadDone region r (suc i) (get_or old i d) (get_or new i d) own.said own.reached
+  pub scavenger : w ≡ 0 → ScavengerDone region r before after own.said own.reached
+
+-- all hands did their operations, each for itself
+pub record IsDone (region : SharedRegion) (r : Round) (old new : Team) : Type 0 where
+  pub pieces : (w : ℕ) → Piece region r old.threads.items new.threads.items old.scavenger new.scavenger w
   pub many : length new.threads.items ≡ length old.threads.items
-  pub each : (i : ℕ) (d : Worker) → i < length old.threads.items → ThreadDone region old.book f ops (suc i) (get_or old.threads.items i d) (get_or new.threads.items i d) (later (suc i)) (own (owner_in ops (suc i))).reached (own (owner_in ops (suc i))).said
-  pub scavenger : ScavengerDone region f old.scavenger new.scavenger (later 0) (own 0).reached (own 0).said
   pub none : new.scavenger.lent.items ≡ []
   pub book : new.book ≡ old.book
-  pub places : HasPlaces f.threads new
+  pub places : HasPlaces r.threads new

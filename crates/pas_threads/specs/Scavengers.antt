@@ -5,7 +5,7 @@ use Rattle.pas_trace.specs.EveryPlan.{AreSound}
 use Rattle.pas_trace.specs.declared.plan.Op.{Op}
 use Rattle.pas_utility.specs.Outcomes.{places_of}
 use Rattle.pas_shared.specs.declared.region.SharedRegion.{SharedRegion}
-use Rattle.pas_answers.specs.Acts.{Act, scavenger_acts}
+use Rattle.pas_trace.specs.Acts.{Act, scavenger_acts}
 use Rattle.pas_answers.specs.Answers.{Progress}
 use Rattle.pas_threads.specs.Hands.{standing_of_pass, HasPass, Did}
 use Rattle.pas_threads.specs.Lent.{Shift}

@@ -1,5 +1,5 @@
 -- What stands between two phases of a replay on threads.
-use Rattle.std.specs.Prelude.{ℕ, zero, suc, ◌+◌, ◌<◌, ◌≤◌, ◌≡◌, ◌^◌, List, [], ◌∷◌, ◌++◌, map, length, get_or, vec_capacity}
+use Rattle.std.specs.Prelude.{ℕ, zero, suc, ◌+◌, ◌<◌, ◌≤◌, ◌≡◌, ◌^◌, true, List, [], ◌∷◌, ◌++◌, map, length, get_or, vec_capacity}
 use Rattle.pas_profile.specs.declared.profile.Profile.{Profile}
 use Rattle.pas_steps.specs.Lists.{part}
 use Rattle.pas_trace.specs.EveryPlan.{all_ops, own_records, records_of_ops}
@@ -10,7 +10,7 @@ use Rattle.pas_report.specs.declared.record.Record.{Record}
 use Rattle.pas_utility.specs.Outcomes.{places_of}
 use Rattle.pas_cache.specs.Caches.{cached}
 use Rattle.pas_shared.specs.declared.region.SharedRegion.{SharedRegion}
-use Rattle.pas_answers.specs.Acts.{Ends, numbers_from, acts_of, phase_acts}
+use Rattle.pas_trace.specs.Acts.{Ends, is_active, numbers_from, acts_of, phase_acts}
 use Rattle.pas_answers.specs.Replays.{at_start}
 use Rattle.pas_answers.specs.Answers.{Progress}
 use Rattle.pas_answers.specs.Calls.{owed_events}
@@ -23,6 +23,11 @@ use Rattle.pas_acts.specs.NameBooks.{NamesAt, requests_in, room_for}
 use Rattle.pas_threads.specs.declared.workers.Worker.{Worker}
 use Rattle.pas_threads.specs.declared.scavenger.Scavenger.{Scavenger}
 use Rattle.pas_threads.specs.declared.phases.Team.{Team}
+
+-- what a replay on threads goes by: the profile of its region, and how many threads make the operations, which may be fewer than the region has
+pub record Session : Type 0 where
+  pub profile : Profile
+  pub threads : ℕ
 
 -- ---- the workers
 -- room for so many events and as many records
@@ -60,32 +65,34 @@ pub record HasPlaces (threads : ℕ) (team : Team) : Type 0 where
   pub lent : threads ≤ vec_capacity team.scavenger.lent
   pub free : team.hands.items ≡ []
 
--- The team stands where the replay came as far as p, and the phases are left.
-pub record TeamAt (region : SharedRegion) (f : Profile) (phases : List (List Op)) (team : Team) (p : Progress) : Type 0 where
-  pub many : length team.threads.items ≡ f.threads
-  pub few_threads : f.threads ≤ 16
+-- The team stands where the replay came as far as p, and the phases are left. Their operations are of its threads.
+pub record TeamAt (region : SharedRegion) (s : Session) (phases : List (List Op)) (team : Team) (p : Progress) : Type 0 where
+  pub many : length team.threads.items ≡ s.threads
+  pub fits : s.threads ≤ s.profile.threads
+  pub few_threads : s.threads ≤ 16
   pub few : length (all_ops phases) < 2 ^ 32
-  pub workers : AreResting region f team.threads.items (λ k. own_records f k (all_ops phases)) p
-  pub scavenger : ScavengerRests region f team.scavenger (own_records f 0 (all_ops phases)) p
-  pub nobody : (k : ℕ) → f.threads < k → part k p.list ≡ []
-  pub names : NamesAt f (all_ops phases) team.book p
+  pub within : (k : ℕ) → is_active (all_ops phases) k ≡ true → k ≤ s.threads
+  pub workers : AreResting region s.profile team.threads.items (λ k. own_records s.profile k (all_ops phases)) p
+  pub scavenger : ScavengerRests region s.profile team.scavenger (own_records s.profile 0 (all_ops phases)) p
+  pub nobody : (k : ℕ) → s.threads < k → part k p.list ≡ []
+  pub names : NamesAt s.profile (all_ops phases) team.book p
   pub frees : FreeTheirOwn names.asked phases
-  pub places : HasPlaces f.threads team
+  pub places : HasPlaces s.threads team
 
 -- ---- the records
 -- The records end with a mark, or there are none yet, and they are written so: what comes after them is arranged by itself.
-abbrev pub AreMarked : ℕ → List Record → List Record → Type 0
-AreMarked threads records written = (more : List Record) → arranged OnThreads threads (records ++ more) ≡ written ++ arranged OnThreads threads more
+abbrev pub AreMarked : Session → List Record → List Record → Type 0
+AreMarked s records written = (more : List Record) → arranged OnThreads s.profile.threads (records ++ more) ≡ written ++ arranged OnThreads s.profile.threads more
 
 -- The records of a phase follow such records, and are written actor by actor.
-pub record AreWritten (threads : ℕ) (records written : List Record) : Type 0 where
+pub record AreWritten (s : Session) (records written : List Record) : Type 0 where
   pub before : List Record
   pub before_written : List Record
   pub said : List Record
-  pub marked : AreMarked threads before before_written
+  pub marked : AreMarked s before before_written
   pub spoken : AreSpoken said
   pub records_are : records ≡ before ++ said
-  pub written_are : written ≡ before_written ++ by_actors 0 (threads + 1) said
+  pub written_are : written ≡ before_written ++ by_actors 0 (s.profile.threads + 1) said
 
 -- the events that the first n threads owe
 abbrev pub owed_by : Profile → Progress → ℕ → ℕ
@@ -93,40 +100,40 @@ owed_by f p zero = 0
 owed_by f p (suc n) = owed_events f (p.caches (suc n)) (part (suc n) p.list) + owed_by f p n
 
 -- There is room for the records that the operations of the phases that are left may make, for those of `marks` marks, and for what the threads owe.
-abbrev pub HasRoom : Profile → List (List Op) → ℕ → Records → Progress → Type 0
-HasRoom f phases marks out p = length (records_in out) + (owed_by f p f.threads + records_of_ops f (all_ops phases) + marks) ≤ room_of out
+abbrev pub HasRoom : Session → List (List Op) → ℕ → Records → Progress → Type 0
+HasRoom s phases marks out p = length (records_in out) + (owed_by s.profile p s.threads + records_of_ops s.profile (all_ops phases) + marks) ≤ room_of out
 
 -- ---- one phase
 -- The operations of a phase come next, and then those of the phases after it. The records so far end with a mark and are written.
-pub record PhaseAt (region : SharedRegion) (f : Profile) (ops : List Op) (rest : List (List Op)) (marks : ℕ) (team : Team) (out : Records) (p : Progress) : Type 0 where
-  pub team_at : TeamAt region f (ops ∷ rest) team p
-  pub marked : AreMarked f.threads p.records (records_in out)
-  pub room : HasRoom f (ops ∷ rest) marks out p
+pub record PhaseAt (region : SharedRegion) (s : Session) (ops : List Op) (rest : List (List Op)) (marks : ℕ) (team : Team) (out : Records) (p : Progress) : Type 0 where
+  pub team_at : TeamAt region s (ops ∷ rest) team p
+  pub marked : AreMarked s p.records (records_in out)
+  pub room : HasRoom s (ops ∷ rest) marks out p
 
 -- its acts were answered, and its records are written
-pub record PhaseDone (region : SharedRegion) (f : Profile) (ops : List Op) (rest : List (List Op)) (marks : ℕ) (team : Team) (out out' : Records) (p : Progress) : Type 0 where
+pub record PhaseDone (region : SharedRegion) (s : Session) (ops : List Op) (rest : List (List Op)) (marks : ℕ) (team : Team) (out out' : Records) (p : Progress) : Type 0 where
   pub reached : Progress
-  pub reaches : Reaches f (phase_acts f.threads ops) p reached
-  pub team_at : TeamAt region f rest team reached
-  pub written : AreWritten f.threads reached.records (records_in out')
-  pub room : HasRoom f rest marks out' reached
+  pub reaches : Reaches s.profile (phase_acts s.threads ops) p reached
+  pub team_at : TeamAt region s rest team reached
+  pub written : AreWritten s reached.records (records_in out')
+  pub room : HasRoom s rest marks out' reached
   pub size : room_of out' ≡ room_of out
 
 -- ---- the close
 -- The threads were stopped, after the mark of the close, what they said is written, and no cache has a local allocator.
-pub record CloseDone (region : SharedRegion) (f : Profile) (team : Team) (written : List Record) (p : Progress) : Type 0 where
+pub record CloseDone (region : SharedRegion) (s : Session) (team : Team) (written : List Record) (p : Progress) : Type 0 where
   pub reached : Progress
-  pub reaches : Reaches f (map Ends (numbers_from 1 f.threads)) p reached
-  pub team_at : TeamAt region f [] team reached
-  pub written_so : AreWritten f.threads reached.records written
+  pub reaches : Reaches s.profile (map Ends (numbers_from 1 s.threads)) p reached
+  pub team_at : TeamAt region s [] team reached
+  pub written_so : AreWritten s reached.records written
   pub empty : (i : ℕ) (d : Worker) → i < length team.threads.items → (cached (get_or team.threads.items i d).cache).locals ≡ []
 
 -- ---- the whole replay
 -- All phases and the close were replayed: their acts are answered, the records are written phase by phase and actor by actor, the team stands at the end, and
 -- no cache has a local allocator.
-pub record HasReplayed (region : SharedRegion) (f : Profile) (phases : List (List Op)) (team : Team) (written : List Record) : Type 0 where
+pub record HasReplayed (region : SharedRegion) (s : Session) (phases : List (List Op)) (team : Team) (written : List Record) : Type 0 where
   pub end : Progress
-  pub answers : Reaches f (acts_of f.threads phases) at_start end
-  pub stands : TeamAt region f [] team end
-  pub written_are : written ≡ arranged OnThreads f.threads end.records
+  pub answers : Reaches s.profile (acts_of s.threads phases) at_start end
+  pub stands : TeamAt region s [] team end
+  pub written_are : written ≡ arranged OnThreads s.profile.threads end.records
   pub empty : (i : ℕ) (d : Worker) → i < length team.threads.items → (cached (get_or team.threads.items i d).cache).locals ≡ []

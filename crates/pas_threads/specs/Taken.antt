@@ -6,7 +6,7 @@ use Rattle.pas_trace.specs.declared.plan.Op.{Op}
 use Rattle.pas_answers.specs.Answers.{Named, standing_for}
 use Rattle.pas_answers.specs.Calls.{HasTurn}
 use Rattle.pas_answers.specs.Names.{block_named}
-use Rattle.pas_answers.specs.Acts.{own_acts}
+use Rattle.pas_trace.specs.Acts.{own_acts}
 use Rattle.pas_acts.specs.NameBooks.{requests_in, room_for, names_of, names_asked, AreWithin, known_in}
 use Rattle.pas_acts.specs.declared.names.NameBook.{NameBook}
 use Rattle.pas_threads.specs.declared.workers.Worker.{Worker}

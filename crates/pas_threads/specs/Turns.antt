@@ -7,13 +7,13 @@ use Rattle.pas_report.specs.Rooms.{records_in, room_of, Records}
 use Rattle.pas_report.specs.declared.record.Record.{Record}
 use Rattle.pas_cache.specs.Caches.{cached}
 use Rattle.pas_shared.specs.declared.region.SharedRegion.{SharedRegion}
-use Rattle.pas_answers.specs.Acts.{Act, Wakes, Ends, numbers_from}
+use Rattle.pas_trace.specs.Acts.{Act, Wakes, Ends, numbers_from}
 use Rattle.pas_answers.specs.Answers.{Progress}
 use Rattle.pas_answers.specs.Calls.{owed_events}
 use Rattle.pas_answers.specs.Ways.{AreSpoken, records_by}
 use Rattle.pas_plans.specs.Awake.{awake_in}
 use Rattle.pas_answers.specs.Reaching.{Reaches}
-use Rattle.pas_acts.specs.Turns.{ActsAlone}
+use Rattle.pas_acts.specs.AtDesks.{here, ThreadActs}
 use Rattle.pas_acts.specs.Works.{Later}
 use Rattle.pas_threads.specs.Hands.{Did}
 use Rattle.pas_threads.specs.Sessions.{evenly, WorkerHas}
@@ -37,10 +37,27 @@ pub record Told (k : ℕ) (said : List Record) (old new : Worker) : Type 0 where
   pub out : Pushed k said old.out new.out
   pub requests : new.requests ≡ old.requests
 
+-- actor k took no part in what was done from p to q, when this was said: it made no step, and nothing of it is its own
+pub record TookNoPart (k : ℕ) (said : List Record) (p q : Progress) : Type 0 where
+  pub part_is : part k q.list ≡ part k p.list
+  pub silent : records_by k said ≡ []
+
+-- the worker did this act of its thread, with its pass, and has it again; `told` is said besides
+pub record Turn (region : SharedRegion) (f : Profile) (k : ℕ) (act : Act) (told : List Record) (old new : Worker) (later : Later) (p : Progress) : Type 0 where
+  pub did : Did region old.pass new.pass (λ σ σ'. ThreadActs f k (act ∷ []) [] told (here σ (cached old.cache) old.out) (here σ' (cached new.cache) new.out) later p)
+  pub requests : new.requests ≡ old.requests
+
 -- ---- workers in a row, one turn each or none
--- nobody but the actors of so many places made a step; what names stand for and the epoch that the scavenger read are as they were
-pub record LeavesOthers (number : ℕ → ℕ) (places : ℕ) (p q : Progress) : Type 0 where
+-- so many places are of threads, each of another one
+pub record AreDistinct (number : ℕ → ℕ) (places : ℕ) : Type 0 where
+  pub threads : (i : ℕ) → i < places → 0 ≢ number i
+  pub apart : (i j : ℕ) → i < places → j < places → i ≢ j → number i ≢ number j
+
+-- Nobody but the actors of so many places made a step, and of what was said nothing is of anybody but them and the scavenger. What names stand for and the
+-- epoch that the scavenger read are as they were.
+pub record LeavesOthers (number : ℕ → ℕ) (places : ℕ) (said : List Record) (p q : Progress) : Type 0 where
   pub parts : (k : ℕ) → ((i : ℕ) → i < places → number i ≢ k) → part k q.list ≡ part k p.list
+  pub silent : (k : ℕ) → 0 ≢ k → ((i : ℕ) → i < places → number i ≢ k) → records_by k said ≡ []
   pub names : q.names ≡ p.names
   pub epoch : q.epoch ≡ p.epoch
 
@@ -49,7 +66,7 @@ pub record TookTurns (f : Profile) (number : ℕ → ℕ) (Stands : ℕ → Work
   pub came : Came f acts p
   pub stand : (i : ℕ) (d : Worker) → i < length old → Stands i (get_or new i d) came.reached
   pub told : (i : ℕ) (d : Worker) → i < length old → Told (number i) came.said (get_or old i d) (get_or new i d)
-  pub leaves : LeavesOthers number (length old) p came.reached
+  pub leaves : LeavesOthers number (length old) came.said p came.reached
 
 -- ---- the threads, from thread 1 on
 -- what a thread owes
@@ -60,11 +77,6 @@ owed_at f k p = owed_events f (p.caches k) (part k p.list)
 pub record IsDue (region : SharedRegion) (f : Profile) (later : ℕ → ℕ) (p : Progress) (i : ℕ) (worker : Worker) (now : Progress) : Type 0 where
   pub here : WorkerHas region f (suc i) worker (evenly (later (suc i))) now
   pub paid : length (records_in worker.out) + owed_at f (suc i) now ≤ owed_at f (suc i) p
-
--- the worker did this act of its thread, with its pass, and has it again
-pub record Turn (region : SharedRegion) (f : Profile) (k : ℕ) (act : Act) (old new : Worker) (later : Later) (p : Progress) : Type 0 where
-  pub did : Did region old.pass new.pass (λ σ σ'. ActsAlone f k act σ σ' (cached old.cache) (cached new.cache) old.out new.out later p)
-  pub requests : new.requests ≡ old.requests
 
 -- these threads read the epoch, and nothing was said
 pub record Woke (region : SharedRegion) (f : Profile) (acts : List Act) (old new : List Worker) (later : ℕ → ℕ) (p : Progress) : Type 0 where

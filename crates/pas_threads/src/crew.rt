@@ -3,7 +3,7 @@ ghost use Rattle.std.specs.Prelude.{◌≡◌, ◌<◌, ◌^◌, ◌++◌, ℕ, 
 ghost use Rattle.pas_utility.specs.Outcomes.{places_of};
 ghost use Rattle.pas_trace.specs.EveryPlan.{AreSound, IsSoundWork};
 ghost use Rattle.pas_trace.specs.declared.plan.Work.TheVariants as TheWork;
-ghost use Rattle.pas_answers.specs.Acts.{Act, acts_of_chore, scavenger_acts};
+ghost use Rattle.pas_trace.specs.Acts.{Act, acts_of_chore, scavenger_acts};
 ghost use Rattle.pas_answers.specs.Answers.{Progress};
 ghost use Rattle.pas_threads.specs.Lent.{Shift};
 ghost use Rattle.pas_threads.specs.Crews.{crew, CrewAt, CrewDid};

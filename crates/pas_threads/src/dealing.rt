@@ -1,5 +1,5 @@
 //! The workers of a phase are dealt into the hands that act in it, and taken back.
-ghost use Rattle.std.specs.Prelude.{◌≡◌, ◌<◌, ◌≤◌, ◌++◌, [], ◌∷◌, true, false, List, map, length, vec_capacity};
+ghost use Rattle.std.specs.Prelude.{◌≡◌, ◌<◌, ◌≤◌, ◌++◌, [], ◌∷◌, true, false, List, length, vec_capacity};
 ghost use Rattle.pas_threads.specs.Dealing.{AreDealt, AreSized};
 ghost use Rattle.pas_threads.specs.declared.workers.Worker.{Worker as TheWorker};
 ghost use Rattle.pas_threads.specs.declared.hands.Hand.{Hand as AnyHand};
@@ -19,7 +19,7 @@ pub(crate) fn deal(
     requires few { length threads.old.items < 32 }
     requires hands { (hands.old.items ≡ []) × (length threads.old.items ≤ vec_capacity hands.old) }
     requires lent { (lent.old.items ≡ []) × (length threads.old.items ≤ vec_capacity lent.old) }
-    ensures dealt { (own : List TheWorker) × (hands.new.items ≡ map TheHand.Thread own) × AreDealt awake 1 threads.old.items own lent.new.items }
+    ensures dealt { AreDealt awake threads.old.items hands.new.items lent.new.items }
     ensures none { threads.new.items ≡ [] }
     ensures places { (vec_capacity threads.new ≡ vec_capacity threads.old) × (vec_capacity hands.new ≡ vec_capacity hands.old) × (vec_capacity lent.new ≡ vec_capacity lent.old) }
 {
@@ -75,8 +75,8 @@ pub(crate) fn take_back(
 )
     requires few { count < 32 }
     requires none { (threads.old.items ≡ []) × (count ≤ vec_capacity threads.old) }
-    requires sized { (own : List TheWorker) × (hands.old.items ≡ map TheHand.Thread own) × AreSized awake 1 count own lent.old.items }
-    ensures dealt { (own : List TheWorker) → hands.old.items ≡ map TheHand.Thread own → AreDealt awake 1 threads.new.items own lent.old.items }
+    requires sized { AreSized awake count hands.old.items lent.old.items }
+    ensures dealt { AreDealt awake threads.new.items hands.old.items lent.old.items }
     ensures many { length threads.new.items ≡ count }
     ensures none { (hands.new.items ≡ []) × (lent.new.items ≡ []) }
     ensures places { (vec_capacity threads.new ≡ vec_capacity threads.old) × (vec_capacity hands.new ≡ vec_capacity hands.old) × (vec_capacity lent.new ≡ vec_capacity lent.old) }

@@ -1,7 +1,7 @@
 //! The stops of the threads that are idle in a phase, by the scavenger's worker, to which they are lent.
 ghost use Rattle.std.specs.Prelude.{◌≡◌, ◌+◌, ◌≤◌, length};
 ghost use Rattle.pas_report.specs.Rooms.{records_in, room_of};
-ghost use Rattle.pas_answers.specs.Acts.{idle_stops};
+ghost use Rattle.pas_trace.specs.Acts.{idle_stops};
 ghost use Rattle.pas_answers.specs.Answers.{Progress};
 ghost use Rattle.pas_threads.specs.Lent.{Shift, AreLent, DidWithLent};
 

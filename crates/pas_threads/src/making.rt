@@ -7,9 +7,9 @@ ghost use Rattle.pas_utility.specs.Outcomes.{places_of};
 ghost use Rattle.pas_utility.specs.Pools.{threads_of, has_seat, outcomes_of};
 ghost use Rattle.pas_cache.specs.Caches.{cached};
 ghost use Rattle.pas_report.specs.Rooms.{records_in, room_of};
-ghost use Rattle.pas_answers.specs.Acts.{is_active};
+ghost use Rattle.pas_trace.specs.Acts.{is_active};
 ghost use Rattle.pas_answers.specs.Names.{block_named, names_held};
-ghost use Rattle.pas_answers.specs.Replays.{empty_cache};
+ghost use Rattle.pas_answers.specs.Replays.{empty_cache, threads_of as threads_in};
 ghost use Rattle.pas_plans.specs.Parts.{AreRooms};
 ghost use Rattle.pas_acts.specs.NameBooks.{requests_in, room_for};
 ghost use Rattle.pas_threads.specs.Kits.{AreEquipped, IsSupplied, IsTeamOf};
@@ -201,9 +201,9 @@ pub(crate) fn team_for(
     before: Spare,
 ) -> Result<Team, NoMemory>
     requires plan { (text : List ℕ) × IsPlanOf text plan.now }
-    requires passes { length others.items ≡ plan.now.profile.threads }
+    requires passes { length others.items ≡ threads_in plan.now }
     requires threads { plan.now.profile.threads ≤ threads_of utility.old }
-    requires seats { (k : ℕ) → 1 ≤ k → k ≤ plan.now.profile.threads → has_seat utility.old k ≡ true }
+    requires seats { (k : ℕ) → 1 ≤ k → k ≤ threads_in plan.now → has_seat utility.old k ≡ true }
     requires outcomes { outcomes_of utility.old ≡ Some plan.now.profile.pages }
     ensures { IfOk result (λ team. IsTeamOf plan.now first others.items team) }
 {

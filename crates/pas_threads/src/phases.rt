@@ -1,16 +1,15 @@
 //! The phases of a replay on threads, one after the other, and the close.
 ghost use Rattle.std.specs.Prelude.{◌≡◌, ◌+◌, ◌<◌, ◌^◌, ℕ, [], List, map, length};
 ghost use Rattle.pas_bits.specs.Masks.{is_set};
-ghost use Rattle.pas_profile.specs.declared.profile.Profile.{Profile as TheProfile};
 ghost use Rattle.pas_trace.specs.Plans.{ops_of};
 ghost use Rattle.pas_trace.specs.declared.plan.Op.{Op as TheOp};
 ghost use Rattle.pas_report.specs.Rooms.{records_in};
 ghost use Rattle.pas_answers.specs.Replays.{at_start};
-ghost use Rattle.pas_answers.specs.Acts.{is_active};
+ghost use Rattle.pas_trace.specs.Acts.{is_active};
 ghost use Rattle.pas_answers.specs.Answers.{Progress};
 ghost use Rattle.pas_acts.specs.Works.{Later};
-ghost use Rattle.pas_threads.specs.Performing.{IsReady, IsDone};
-ghost use Rattle.pas_threads.specs.Sessions.{AreMarked, CloseDone, PhaseAt, PhaseDone, TeamAt, HasRoom, HasReplayed};
+ghost use Rattle.pas_threads.specs.Performing.{round, IsReady, IsDone};
+ghost use Rattle.pas_threads.specs.Sessions.{Session, AreMarked, CloseDone, PhaseAt, PhaseDone, TeamAt, HasRoom, HasReplayed};
 
 use crate::dealing::{deal, take_back};
 use crate::hands::{Hand, act_with};
@@ -53,8 +52,8 @@ fn perform_all<R: Threads + Sync, G: Gate + Sync>(
 ) -> Team
     requires few { length ops.now < 2 ^ 32 }
     requires awake { (k : ℕ) → is_set awake k ≡ is_active ops.now k }
-    requires ready { (f : TheProfile) × (later : ℕ → Later) × (p : Progress) × IsReady region.now f ops.now team later p }
-    ensures done { (f : TheProfile) (later : ℕ → Later) (p : Progress) → IsReady region.now f ops.now team later p → IsDone region.now f ops.now team result later p }
+    requires ready { (s : Session) × (later : ℕ → Later) × (p : Progress) × IsReady region.now (round s team.book ops.now later p) team }
+    ensures done { (s : Session) (later : ℕ → Later) (p : Progress) → IsReady region.now (round s team.book ops.now later p) team → IsDone region.now (round s team.book ops.now later p) team result }
 {
     let Team {
         mut threads,
@@ -84,8 +83,8 @@ fn perform_phase<R: Threads + Sync, G: Gate + Sync>(
     gate: &G,
     out: &mut Records,
 ) -> Team
-    requires may { (f : TheProfile) × (rest : List (List TheOp)) × (marks : ℕ) × (p : Progress) × PhaseAt region.now f ops.now rest marks team out.old p }
-    ensures done { (f : TheProfile) (rest : List (List TheOp)) (marks : ℕ) (p : Progress) → PhaseAt region.now f ops.now rest marks team out.old p → PhaseDone region.now f ops.now rest marks result out.old out.new p }
+    requires may { (s : Session) × (rest : List (List TheOp)) × (marks : ℕ) × (p : Progress) × PhaseAt region.now s ops.now rest marks team out.old p }
+    ensures done { (s : Session) (rest : List (List TheOp)) (marks : ℕ) (p : Progress) → PhaseAt region.now s ops.now rest marks team out.old p → PhaseDone region.now s ops.now rest marks result out.old out.new p }
 {
     let awake = active(ops);
     let mut team = team;
@@ -100,9 +99,9 @@ fn perform_phase<R: Threads + Sync, G: Gate + Sync>(
 
 /// The close: each thread is stopped, and what the stops said is gathered.
 fn finish(region: &SharedRegion, team: Team, out: &mut Records) -> Team
-    requires may { (f : TheProfile) × (p : Progress) × TeamAt region.now f [] team p × AreMarked f.threads p.records (records_in out.old) × HasRoom f [] 0 out.old p }
-    ensures done { (f : TheProfile) (p : Progress) → TeamAt region.now f [] team p → AreMarked f.threads p.records (records_in out.old) → HasRoom f [] 0 out.old p
-        → CloseDone region.now f result (records_in out.new) p }
+    requires may { (s : Session) × (p : Progress) × TeamAt region.now s [] team p × AreMarked s p.records (records_in out.old) × HasRoom s [] 0 out.old p }
+    ensures done { (s : Session) (p : Progress) → TeamAt region.now s [] team p → AreMarked s p.records (records_in out.old) → HasRoom s [] 0 out.old p
+        → CloseDone region.now s result (records_in out.new) p }
 {
     let mut team = team;
     stop_all(region, &mut team.threads);
@@ -122,9 +121,9 @@ pub(crate) fn replay<R: Threads + Sync, G: Gate + Sync>(
 ) -> Team
     requires phases { length phases.now < 2 ^ 32 }
     requires empty { records_in out.old ≡ [] }
-    requires stands { (f : TheProfile) × TeamAt region.now f (map ops_of phases.now) team at_start × HasRoom f (map ops_of phases.now) (length phases.now + 1) out.old at_start }
-    ensures replayed { (f : TheProfile) → TeamAt region.now f (map ops_of phases.now) team at_start → HasRoom f (map ops_of phases.now) (length phases.now + 1) out.old at_start
-        → HasReplayed region.now f (map ops_of phases.now) result (records_in out.new) }
+    requires stands { (s : Session) × TeamAt region.now s (map ops_of phases.now) team at_start × HasRoom s (map ops_of phases.now) (length phases.now + 1) out.old at_start }
+    ensures replayed { (s : Session) → TeamAt region.now s (map ops_of phases.now) team at_start → HasRoom s (map ops_of phases.now) (length phases.now + 1) out.old at_start
+        → HasReplayed region.now s (map ops_of phases.now) result (records_in out.new) }
 {
     let mut team = team;
     let mut number = 0;

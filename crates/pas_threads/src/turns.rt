@@ -5,7 +5,7 @@ ghost use Rattle.pas_profile.specs.declared.profile.Profile.{Profile as TheProfi
 ghost use Rattle.pas_report.specs.Rooms.{records_in, room_of};
 ghost use Rattle.pas_answers.specs.Answers.{Progress};
 ghost use Rattle.pas_cache.specs.Caches.{cached};
-ghost use Rattle.pas_answers.specs.Acts.{Wakes, Ends};
+ghost use Rattle.pas_trace.specs.Acts.{Wakes, Ends};
 ghost use Rattle.pas_acts.specs.Works.{Later};
 ghost use Rattle.pas_threads.specs.Sessions.{WorkerHas, AreResting};
 ghost use Rattle.pas_threads.specs.Turns.{Turn, WokeAll, StoppedAll, said_by_all, IsGathered};
@@ -21,7 +21,7 @@ use pas_shared::SharedRegion;
 fn wake(region: &SharedRegion, worker: &mut Worker)
     requires rests { (f : TheProfile) × (k : ℕ) × (later : Later) × (p : Progress) × WorkerHas region.now f k worker.old later p }
     ensures woke { (f : TheProfile) (k : ℕ) (later : Later) (p : Progress) → WorkerHas region.now f k worker.old later p
-        → (turn : Turn region.now f k (Wakes k) worker.old worker.new later p) × (turn.did.does.says.said ≡ []) }
+        → (turn : Turn region.now f k (Wakes k) [] worker.old worker.new later p) × (turn.did.does.own ≡ []) }
 {
     let Some(pass) = worker.pass.take() else {
         unreachable!();
@@ -48,7 +48,7 @@ pub(crate) fn wake_all(region: &SharedRegion, threads: &mut [Worker], awake: Mas
 /// The thread sits down, is stopped, and rises. What its flush says comes to its records.
 fn stop(region: &SharedRegion, worker: &mut Worker)
     requires rests { (f : TheProfile) × (k : ℕ) × (later : Later) × (p : Progress) × WorkerHas region.now f k worker.old later p }
-    ensures stopped { (f : TheProfile) (k : ℕ) (later : Later) (p : Progress) → WorkerHas region.now f k worker.old later p → Turn region.now f k (Ends k) worker.old worker.new later p }
+    ensures stopped { (f : TheProfile) (k : ℕ) (later : Later) (p : Progress) → WorkerHas region.now f k worker.old later p → Turn region.now f k (Ends k) [] worker.old worker.new later p }
     ensures empty { (cached worker.new.cache).locals ≡ [] }
 {
     let Some(pass) = worker.pass.take() else {

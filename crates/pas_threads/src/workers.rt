@@ -4,7 +4,7 @@ ghost use Rattle.pas_answers.specs.Answers.{Progress};
 ghost use Rattle.pas_report.specs.Rooms.{records_in, room_of};
 ghost use Rattle.pas_profile.specs.declared.profile.Profile.{Profile as TheProfile};
 ghost use Rattle.pas_cache.specs.Caches.{cached};
-ghost use Rattle.pas_answers.specs.Acts.{StopsIdle};
+ghost use Rattle.pas_trace.specs.Acts.{StopsIdle};
 ghost use Rattle.pas_acts.specs.Works.{Later};
 ghost use Rattle.pas_acts.specs.Turns.{RestsAt};
 ghost use Rattle.pas_acts.specs.AtDesks.{here, told_if, ThreadActs};

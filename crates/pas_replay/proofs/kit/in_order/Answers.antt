@@ -4,13 +4,15 @@ use Rattle.std.proofs.lemmas.List.{length-map}
 use Rattle.std.proofs.lemmas.List.Elements.{All-nil}
 use Rattle.pas_plain.specs.Plain.{profile_of, PassStands}
 use Rattle.pas_plain.specs.declared.pass.PlainPass.{PlainPass}
+use Rattle.pas_trace.specs.Acts.{acts_of}
 use Rattle.pas_trace.specs.Plans.{ops_of}
 use Rattle.pas_trace.specs.declared.plan.Phase.{Phase}
 use Rattle.pas_plans.proofs.PlanFacts.{plan_phases, plan_valid, plan_fit}
 use Rattle.pas_answers.specs.Names.{names_held}
-use Rattle.pas_replay.proofs.StartAndEnd.{start, shows, handed, handed_back}
+use Rattle.pas_answers.specs.Replays.{threads_of}
+use Rattle.pas_replay.specs.Kits.{replay_of}
+use Rattle.pas_replay.proofs.StartAndEnd.{start, shows}
 use Rattle.pas_replay.proofs.kit.in_order.Goals as goal
-use Rattle.pas_answers.specs.Replays.{region_of}
 
 pub replay-region-requires-clause-phases : goal.replay-region-requires-clause-phases
 replay-region-requires-clause-phases c =
@@ -21,25 +23,21 @@ replay-region-requires-clause-phases c =
     omega (arith, m, k, few)
 
 pub replay-region-requires-clause-so_far : goal.replay-region-requires-clause-so_far
-replay-region-requires-clause-so_far c = (
-  region_of c.args.plan.now,
-  handed c.args.plan.now (length c.args.kit.actors.caches.items) (map ops_of c.as_slice.result.now) c.requires.kit.unused.many (ap (λ (ps : List Phase). map ops_of ps) c.as_slice.ensures)
-      (start c.requires.plan.2 c.requires.kit c.requires.empty c.requires.room),
-)
+replay-region-requires-clause-so_far c =
+    let plan = c.args.plan.now in
+    (replay_of plan, ap (λ (ps : List Phase). acts_of (threads_of plan) (map ops_of ps)) (sym c.as_slice.ensures), start c.requires.plan.2 c.requires.kit c.requires.empty c.requires.room)
 
 pub close-requires : goal.close-requires
 close-requires c =
     let plan = c.args.plan.now in
-    let so = c.replay-region.ensures.so_far (region_of plan) (handed plan (length c.args.kit.actors.caches.items) (map ops_of c.as_slice.result.now) c.requires.kit.unused.many (ap (λ (ps : List Phase). map ops_of ps) c.as_slice.ensures)
-    (start c.requires.plan.2 c.requires.kit c.requires.empty c.requires.room)) in
+    let acts = ap (λ (ps : List Phase). acts_of (threads_of plan) (map ops_of ps)) (sym c.as_slice.ensures) in
+    let so = c.replay-region.ensures.so_far (replay_of plan) acts (start c.requires.plan.2 c.requires.kit c.requires.empty c.requires.room) in
     let part = λ (pass : PlainPass). PassStands (profile_of c.replay-region.result) pass so.0.list in
     record { whole = so.0.list; stands = so.1.stands; parts = subst (λ (ps : List PlainPass). All part ps) (sym c.requires.kit.none_left) (All-nil part) }
 
 pub returns : goal.returns
 returns c =
     let plan = c.args.plan.now in
-    let threads = length c.args.kit.actors.caches.items in
-    let phases = map ops_of c.as_slice.result.now in
-    let same = ap (λ (ps : List Phase). map ops_of ps) c.as_slice.ensures in
-    let so = c.replay-region.ensures.so_far (region_of plan) (handed plan threads phases c.requires.kit.unused.many same (start c.requires.plan.2 c.requires.kit c.requires.empty c.requires.room)) in
-    shows {plan = plan} c.replay-region.new.actors c.replay-region.new.names (names_held c.args.kit.names) (plan_valid c.requires.plan.2) (plan_fit c.requires.plan.2 (names_held c.args.kit.names) c.requires.kit.names) (handed_back plan threads phases c.requires.kit.unused.many same so) c.replay-region.ensures.empty c.close.ensures.profile c.close.ensures.words
+    let acts = ap (λ (ps : List Phase). acts_of (threads_of plan) (map ops_of ps)) (sym c.as_slice.ensures) in
+    let so = c.replay-region.ensures.so_far (replay_of plan) acts (start c.requires.plan.2 c.requires.kit c.requires.empty c.requires.room) in
+    shows {plan = plan} c.replay-region.new.actors c.replay-region.new.names (names_held c.args.kit.names) (plan_valid c.requires.plan.2) (plan_fit c.requires.plan.2 (names_held c.args.kit.names) c.requires.kit.names) so c.replay-region.ensures.empty c.close.ensures.profile c.close.ensures.words

@@ -1,103 +1,86 @@
 use Rattle.std.proofs.Common.{◌≡◌, ◌+◌, ◌++◌, ◌∙◌, ℕ, List, [], ◌∷◌, length, refl, sym, ap, arith, drop, append-nil}
 use Rattle.std.specs.Prelude.{map}
-use Rattle.pas_profile.specs.declared.profile.Profile.{Profile}
 use Rattle.pas_trace.specs.Plans.{ops_of}
 use Rattle.pas_trace.specs.declared.plan.Op.{Op}
 use Rattle.pas_report.specs.Rooms.{records_in}
 use Rattle.pas_report.specs.declared.record.Record.{Record}
-use Rattle.pas_answers.specs.Acts.{Act, Wakes, Ends, acts_of, acts_of_ops, numbers_from}
-use Rattle.pas_replay.specs.Sessions.{SoFar, hand_of, hand_at}
+use Rattle.pas_trace.specs.Acts.{Act, Wakes, Ends, acts_of, acts_of_ops, numbers_from}
+use Rattle.pas_replay.specs.Sessions.{Replay, SoFar, SoFarAt, hand_of, session}
 use Rattle.pas_plans.specs.Awake.{awake_in, idle_in}
 use Rattle.pas_replay.proofs.Turning.{may_sit}
 use Rattle.pas_plans.proofs.ActsLeft.{acts_left, next_phase, first_phase, other_phase, last_phase}
-use Rattle.pas_replay.proofs.ActsInOrder.{as_acts, as_hand, as_first, as_idle, after_mark, mark_free, close_free, wakes_first}
+use Rattle.pas_replay.proofs.ActsInOrder.{as_acts, as_hand, as_first, after_mark, wakes_first}
 use Rattle.pas_replay.proofs.order.replay.Goals as goal
 use Rattle.pas_replay.proofs.order.replay.Goals.{then-number-gt-UNMARKED, else-number-gt-UNMARKED, After-active-awake, After-push-2}
 
 pub sit-desk-requires-clause-may : goal.sit-desk-requires-clause-may
-sit-desk-requires-clause-may c = let at = c.requires.so_far.1.1 in may_sit at.profile_is at.stands (at.each 0 (omega arith))
+sit-desk-requires-clause-may c = let at = c.requires.so_far.2.1 in may_sit at.profile_is at.stands (at.each 0 (omega arith))
 
 pub loop-phase-init : goal.loop-phase-init
 loop-phase-init c = record {
-  far = λ f so. as_hand (c.sit-desk.ensures.hand c.args.names.now c.args.out.now) so;
+  far = λ r is so. as_acts is (c.sit-desk.ensures.taken, as_hand (c.sit-desk.ensures.hand c.args.names.now c.args.out.now) so);
   count = refl;
-  taken = c.sit-desk.ensures.taken;
   threads = ap (λ v. length v.items) c.sit-desk.ensures.caches;
 }
 
 pub push-requires : goal.push-requires
 push-requires c =
-    let threads = length c.args.actors.now.caches.items in
+    let so0 = c.requires.so_far in
     let i = c.loop-phase.phase-index in
     let count = c.loop-phase.invariant.count in
     let more = c.if-number-gt-UNMARKED.true in
     let item = c.phase-item.result in
-    let far = as_acts (next_phase threads c.args.phases.now i item (ops_of item) c.loop-phase-test.true (ap ops_of (sym c.phase-item.is))) (c.loop-phase.invariant.far c.requires.so_far.0 c.requires.so_far.1) in
-    let spare = (as_acts (other_phase threads i (ops_of item) (map ops_of (drop (i + 1) c.args.phases.now)) (omega (arith, count, more))) far).1.spare in
+    let far = as_acts (next_phase so0.0.threads c.args.phases.now i item (ops_of item) c.loop-phase-test.true (ap ops_of (sym c.phase-item.is))) (c.loop-phase.invariant.far so0.0 so0.1 so0.2) in
+    let spare = (as_acts (other_phase so0.0.threads i (ops_of item) (map ops_of (drop (i + 1) c.args.phases.now)) (omega (arith, count, more))) far).1.1.spare in
     omega (arith, spare)
 
 -- what is there before a phase: its acts begin with its mark from the second one on, and then its threads wake
-module _ (c : After-active-awake) (f : Profile)
-    (so0 : SoFar f (acts_of (length c.args.actors.now.caches.items) (map ops_of c.args.phases.now)) (acts_of (length c.args.actors.now.caches.items) (map ops_of c.args.phases.now)) (hand_of c.args.region c.args.actors.now c.args.names.now c.args.out.now)) where
-  abbrev all : List Act
-  all = acts_of (length c.args.actors.now.caches.items) (map ops_of c.args.phases.now)
-
+module _ (c : After-active-awake) (r : Replay) (is : r.acts ≡ acts_of r.threads (map ops_of c.args.phases.now)) (so0 : SoFar r r.acts (hand_of c.args.region c.args.actors.now c.args.names.now c.args.out.now)) where
   -- the acts of the phases after this one
   abbrev later : List Act
-  later = acts_left (length c.args.actors.now.caches.items) (c.loop-phase.phase-index + 1) (map ops_of (drop (c.loop-phase.phase-index + 1) c.args.phases.now))
+  later = acts_left r.threads (c.loop-phase.phase-index + 1) (map ops_of (drop (c.loop-phase.phase-index + 1) c.args.phases.now))
 
-  begins : SoFar f all (map Wakes (awake_in c.active-awake.result (length c.loop-phase.actors.caches.items)) ++ (acts_of_ops (idle_in c.active-awake.result (length c.loop-phase.actors.caches.items)) c.as_slice.result.now ++ later))
-      (hand_at c.loop-phase.desk c.loop-phase.actors c.loop-phase.names c.if-number-gt-UNMARKED.out)
+  begins : SoFarAt r (map Wakes (awake_in c.active-awake.result r.threads) ++ (acts_of_ops (idle_in c.active-awake.result r.threads) c.as_slice.result.now ++ later)) (session c.loop-phase.desk c.loop-phase.actors c.loop-phase.names c.if-number-gt-UNMARKED.out)
   begins =
       let ops = c.as_slice.result.now in
-      let threads = length c.args.actors.now.caches.items in
       let i = c.loop-phase.phase-index in
       let rest = map ops_of (drop (i + 1) c.args.phases.now) in
-      let far = as_acts (next_phase threads c.args.phases.now i c.phase-item.result ops c.loop-phase-test.true (ap ops_of (sym c.phase-item.is) ∙ sym c.as_slice.ensures)) (c.loop-phase.invariant.far f so0) in
+      let far = as_acts (next_phase r.threads c.args.phases.now i c.phase-item.result ops c.loop-phase-test.true (ap ops_of (sym c.phase-item.is) ∙ sym c.as_slice.ensures)) (c.loop-phase.invariant.far r is so0) in
       let count = c.loop-phase.invariant.count in
-      wakes_first threads (length c.loop-phase.actors.caches.items) c.active-awake.result ops later c.active-awake.ensures c.loop-phase.invariant.threads (elim c.if-number-gt-UNMARKED.branch [
+      wakes_first c.active-awake.result ops later c.active-awake.ensures (elim c.if-number-gt-UNMARKED.branch [
         | then-number-gt-UNMARKED w ↦
             let more = w.if-number-gt-UNMARKED.true in
             let number : c.loop-phase.number + 1 ≡ i + 1 = omega (arith, count) in
             let pushed = w.push.ensures.added ∙ ap (λ (n : ℕ). records_in c.loop-phase.out ++ Record.Phase n ∷ []) number in
-            rw (w.out-is) (after_mark w.push.new.self (Record.Phase (i + 1)) (as_acts (other_phase threads i ops rest (omega (arith, count, more))) far) (λ p. refl) (mark_free f _ _) refl (λ limit asked fit. fit) pushed w.push.ensures.size)
-        | else-number-gt-UNMARKED w ↦ let less = w.if-number-gt-UNMARKED.false in rw (w.out-is) (as_acts (first_phase threads i ops rest (omega (arith, count, less))) far)
+            rw (w.out-is) (after_mark w.push.new.self (Record.Phase (i + 1)) (as_acts (other_phase r.threads i ops rest (omega (arith, count, more))) far) (λ p. refl) (λ j. refl) refl refl (λ limit asked fit. fit) pushed w.push.ensures.size)
+        | else-number-gt-UNMARKED w ↦ let less = w.if-number-gt-UNMARKED.false in rw (w.out-is) (as_acts (first_phase r.threads i ops rest (omega (arith, count, less))) far)
       ])
 
 pub wake_all-requires-clause-so_far : goal.wake_all-requires-clause-so_far
 wake_all-requires-clause-so_far c =
     let d = (goal.at.wake_all-requires-clause-so_far c).After-active-awake in
     let so0 = c.requires.so_far in
-    (c.loop-phase.names, c.if-number-gt-UNMARKED.out, (so0.0, all d so0.0 so0.1, _, begins d so0.0 so0.1))
+    (c.loop-phase.names, c.if-number-gt-UNMARKED.out, (so0.0, _, begins d so0.0 so0.1 so0.2))
 
 pub perform_all-requires-clause-so_far : goal.perform_all-requires-clause-so_far
 perform_all-requires-clause-so_far c =
     let d = (goal.at.perform_all-requires-clause-so_far c).After-active-awake in
     let so0 = c.requires.so_far in
-    let awake = c.active-awake.result in
-    let more = later d so0.0 so0.1 in
-    let woke = c.wake_all.ensures.so_far c.loop-phase.names c.if-number-gt-UNMARKED.out so0.0 (all d so0.0 so0.1) _ (begins d so0.0 so0.1) in
-    let ops = c.as_slice.ensures ∙ sym c.as_slice-in-loop-phase.ensures in (
-      so0.0,
-      all d so0.0 so0.1,
-      more,
-      as_first more (ap (λ (os : List Op). acts_of_ops (idle_in awake (length c.wake_all.new.actors.caches.items)) os) ops)
-          (as_idle awake (λ ks. acts_of_ops ks c.as_slice.result.now) more (sym c.wake_all.ensures.threads) woke),
-    )
+    let more = later d so0.0 so0.1 so0.2 in
+    let woke = c.wake_all.ensures.so_far c.loop-phase.names c.if-number-gt-UNMARKED.out so0.0 _ (begins d so0.0 so0.1 so0.2) in
+    let ops = c.as_slice.ensures ∙ sym c.as_slice-in-loop-phase.ensures in
+    (so0.0, more, as_first more (ap (λ (os : List Op). acts_of_ops (idle_in c.active-awake.result so0.0.threads) os) ops) woke)
 
 pub loop-phase-preserved : goal.loop-phase-preserved
 loop-phase-preserved c =
     let d = (goal.at.loop-phase-preserved c).After-active-awake in
-    let awake = c.active-awake.result in
     let ops = c.as_slice.ensures ∙ sym c.as_slice-in-loop-phase.ensures in
     record {
-      far = λ f so0.
-          let more = later d f so0 in
-          let woke = c.wake_all.ensures.so_far c.loop-phase.names c.if-number-gt-UNMARKED.out f (all d f so0) _ (begins d f so0) in
-          c.perform_all.ensures.so_far f (all d f so0) more (as_first more (ap (λ (os : List Op). acts_of_ops (idle_in awake (length c.wake_all.new.actors.caches.items)) os) ops)
-          (as_idle awake (λ ks. acts_of_ops ks c.as_slice.result.now) more (sym c.wake_all.ensures.threads) woke));
+      far = λ r is so0.
+          let more = later d r is so0 in
+          let woke = c.wake_all.ensures.so_far c.loop-phase.names c.if-number-gt-UNMARKED.out r _ (begins d r is so0) in
+          c.perform_all.ensures.so_far r more (as_first more (ap (λ (os : List Op). acts_of_ops (idle_in c.active-awake.result r.threads) os) ops) woke);
       count = ap (λ n. n + 1) c.loop-phase.invariant.count;
-      taken = c.perform_all.ensures.taken;
       threads = c.perform_all.ensures.threads ∙ c.wake_all.ensures.threads ∙ c.loop-phase.invariant.threads;
     }
 
@@ -105,21 +88,21 @@ loop-phase-preserved c =
 pub push-requires-2 : goal.push-requires-2
 push-requires-2 c =
     let so0 = c.requires.so_far in
-    let spare = (as_acts (last_phase (length c.args.actors.now.caches.items) c.args.phases.now c.loop-phase.phase-index c.loop-phase-test.false) (c.loop-phase.invariant.far so0.0 so0.1)).1.spare in
+    let spare = (as_acts (last_phase so0.0.threads c.args.phases.now c.loop-phase.phase-index c.loop-phase-test.false) (c.loop-phase.invariant.far so0.0 so0.1 so0.2)).1.1.spare in
     omega (arith, spare)
 
-module _ (c : After-push-2) (f : Profile)
-    (so0 : SoFar f (acts_of (length c.args.actors.now.caches.items) (map ops_of c.args.phases.now)) (acts_of (length c.args.actors.now.caches.items) (map ops_of c.args.phases.now)) (hand_of c.args.region c.args.actors.now c.args.names.now c.args.out.now)) where
-  closes : SoFar f (acts_of (length c.args.actors.now.caches.items) (map ops_of c.args.phases.now)) (map Ends (numbers_from 1 (length c.loop-phase.actors.caches.items)) ++ []) (hand_at c.loop-phase.desk c.loop-phase.actors c.loop-phase.names c.push-2.new.self)
+module _ (c : After-push-2) (r : Replay) (is : r.acts ≡ acts_of r.threads (map ops_of c.args.phases.now)) (so0 : SoFar r r.acts (hand_of c.args.region c.args.actors.now c.args.names.now c.args.out.now)) where
+  closes : SoFarAt r (map Ends (numbers_from 1 r.threads) ++ []) (session c.loop-phase.desk c.loop-phase.actors c.loop-phase.names c.push-2.new.self)
   closes =
-      let threads = length c.args.actors.now.caches.items in
-      let far = as_acts (last_phase threads c.args.phases.now c.loop-phase.phase-index c.loop-phase-test.false) (c.loop-phase.invariant.far f so0) in
-      as_acts (ap (λ (n : ℕ). map Ends (numbers_from 1 n)) (sym c.loop-phase.invariant.threads) ∙ sym (append-nil (map Ends (numbers_from 1 (length c.loop-phase.actors.caches.items)))))
-      (after_mark c.push-2.new.self Record.Close far (λ p. refl) (close_free f _) refl (λ limit asked fit. fit) c.push-2.ensures.added c.push-2.ensures.size)
+      let far = as_acts (last_phase r.threads c.args.phases.now c.loop-phase.phase-index c.loop-phase-test.false) (c.loop-phase.invariant.far r is so0) in
+      as_acts (sym (append-nil (map Ends (numbers_from 1 r.threads)))) (after_mark c.push-2.new.self Record.Close far (λ p. refl) (λ j. refl) refl refl (λ limit asked fit. fit) c.push-2.ensures.added c.push-2.ensures.size)
 
 pub stop_all-requires-clause-so_far : goal.stop_all-requires-clause-so_far
-stop_all-requires-clause-so_far c = let so0 = c.requires.so_far in (c.loop-phase.names, (so0.0, _, [], closes (goal.at.stop_all-requires-clause-so_far c).After-push-2 so0.0 so0.1))
+stop_all-requires-clause-so_far c = let so0 = c.requires.so_far in (c.loop-phase.names, (so0.0, [], closes (goal.at.stop_all-requires-clause-so_far c).After-push-2 so0.0 so0.1 so0.2))
+
+pub rise-requires : goal.rise-requires
+rise-requires c = let so0 = c.requires.so_far in (c.stop_all.ensures.so_far c.loop-phase.names so0.0 [] (closes (goal.at.rise-requires c).After-push-2 so0.0 so0.1 so0.2)).0
 
 pub returns-clause-so_far : goal.returns-clause-so_far
-returns-clause-so_far c f so0 =
-    as_hand (c.rise.ensures.hand c.loop-phase.names c.stop_all.new.out) (c.stop_all.ensures.so_far c.loop-phase.names f _ [] (closes (goal.at.returns-clause-so_far c).After-push-2 f so0))
+returns-clause-so_far c r is so0 =
+    as_hand (c.rise.ensures.hand c.loop-phase.names c.stop_all.new.out) (c.stop_all.ensures.so_far c.loop-phase.names r [] (closes (goal.at.returns-clause-so_far c).After-push-2 r is so0)).1

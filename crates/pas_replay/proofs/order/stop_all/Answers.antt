@@ -1,7 +1,7 @@
 use Rattle.std.proofs.Common.{◌≡◌, ◌∙◌, ◌+◌, ◌-◌, ℕ, List, length, set, ap, arith}
 use Rattle.std.proofs.lemmas.List.{length-set}
 use Rattle.pas_cache.specs.declared.cache.ThreadCache.{ThreadCache}
-use Rattle.pas_answers.specs.Acts.{Ends}
+use Rattle.pas_trace.specs.Acts.{Ends}
 use Rattle.pas_replay.proofs.ActsInOrder.{next_number, no_number}
 use Rattle.pas_replay.proofs.Threads.{empty_next}
 use Rattle.pas_replay.proofs.order.stop_all.Goals as goal
@@ -12,8 +12,9 @@ end-requires-clause-thread c = let test = c.loop-index-test.true in let same = c
 pub end-requires-clause-so_far : goal.end-requires-clause-so_far
 end-requires-clause-so_far c =
     let test = c.loop-index-test.true in
-    let so0 = c.requires.so_far in
-    (so0.0, (so0.1.0, so0.1.1, _, next_number Ends c.loop-index.index (length c.args.actors.now.caches.items) so0.1.2 (omega (arith, test)) (c.loop-index.invariant.far so0.0 so0.1.0 so0.1.1 so0.1.2 so0.1.3)))
+    let so0 = c.requires.so_far.1 in
+    let many = so0.2.1.1.many in
+    (c.requires.so_far.0, (so0.0, _, next_number Ends c.loop-index.index so0.0.threads so0.1 (omega (arith, test, many)) (c.loop-index.invariant.far c.requires.so_far.0 so0.0 so0.1 so0.2)))
 
 pub loop-index-preserved : goal.loop-index-preserved
 loop-index-preserved c =
@@ -23,13 +24,13 @@ loop-index-preserved c =
     let now = c.loop-index.actors.caches.items in
     let ended = c.end.ensures.cache in
     record {
-      far = λ table f all more so. c.end.ensures.so_far table f all _ (next_number Ends i (length c.args.actors.now.caches.items) more (omega (arith, test)) (c.loop-index.invariant.far table f all more so));
-      taken = c.end.ensures.taken;
+      far = λ table r more so. let many = so.1.1.many in c.end.ensures.so_far table r _ (next_number Ends i r.threads more (omega (arith, test, many)) (c.loop-index.invariant.far table r more so));
       threads = ap (λ (cs : List ThreadCache). length cs) ended.1 ∙ length-set now (i + 1 - 1) ended.0 ∙ same;
       empty = empty_next now c.end.new.actors.caches.items i ended.0 (ended.1 ∙ ap (λ (j : ℕ). set now j ended.0) (let at : i + 1 - 1 ≡ i = omega arith in at)) (omega (arith, test, same)) c.loop-index.invariant.empty ended.2;
     }
 
 pub returns-clause-so_far : goal.returns-clause-so_far
-returns-clause-so_far c table f all more so =
+returns-clause-so_far c table r more so =
     let test = c.loop-index-test.false in
-    no_number Ends c.loop-index.index (length c.args.actors.now.caches.items) more (omega (arith, test)) (c.loop-index.invariant.far table f all more so)
+    let many = so.1.1.many in
+    no_number Ends c.loop-index.index r.threads more (omega (arith, test, many)) (c.loop-index.invariant.far table r more so)

@@ -1,20 +1,18 @@
 -- the threads so far were stopped
 use Rattle.std.proofs.Common.{◌≡◌, ◌+◌, ◌-◌, ◌<◌, ◌++◌, ℕ, List, [], length, get_or}
 use Rattle.std.specs.Prelude.{map}
-use Rattle.pas_profile.specs.declared.profile.Profile.{Profile}
 use Rattle.pas_cache.specs.Caches.{cached}
 use Rattle.pas_cache.specs.declared.cache.ThreadCache.{ThreadCache}
-use Rattle.pas_answers.specs.Acts.{Act, Ends, numbers_from}
+use Rattle.pas_trace.specs.Acts.{Act, Ends, numbers_from}
 use Rattle.pas_answers.specs.declared.names.Names.{Names}
-use Rattle.pas_replay.specs.Sessions.{SoFar, IsTaken, hand_at}
+use Rattle.pas_replay.specs.Sessions.{Replay, SoFarAt, session}
 use Rattle.pas_replay.proofs.order.stop_all.Given as goal
 
 abbrev pub invariant-loop-index : goal.invariant-loop-index
 invariant-loop-index l = record {
-  far : (table : Names) (f : Profile) (all more : List Act)
-      → SoFar f all (map Ends (numbers_from 1 (length l.fn.actors.caches.items)) ++ more) (hand_at l.fn.desk l.fn.actors table l.fn.out)
-      → SoFar f all (map Ends (numbers_from (l.index + 1) (length l.fn.actors.caches.items - l.index)) ++ more) (hand_at l.desk l.actors table l.out);
-  taken : IsTaken l.desk l.actors.passes.items;
+  far : (table : Names) (r : Replay) (more : List Act)
+      → SoFarAt r (map Ends (numbers_from 1 r.threads) ++ more) (session l.fn.desk l.fn.actors table l.fn.out)
+      → SoFarAt r (map Ends (numbers_from (l.index + 1) (r.threads - l.index)) ++ more) (session l.desk l.actors table l.out);
   threads : length l.actors.caches.items ≡ length l.fn.actors.caches.items;
   empty : (j : ℕ) (d : ThreadCache) → j < l.index → (cached (get_or l.actors.caches.items j d)).locals ≡ [];
 }

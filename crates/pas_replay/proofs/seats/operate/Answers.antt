@@ -1,30 +1,31 @@
-use Rattle.std.proofs.Common.{◌-◌}
+use Rattle.std.proofs.Common.{◌-◌, subst}
 use Rattle.std.proofs.lemmas.List.{length-set}
+use Rattle.pas_trace.specs.declared.plan.What.{What}
+use Rattle.pas_answers.specs.Fit.{IsFitWhat}
+use Rattle.pas_answers.specs.Names.{names_held}
 use Rattle.pas_replay.proofs.Turning.{may_take}
-use Rattle.pas_replay.proofs.ByActors.{still_taken, may_operate, operate_turn}
+use Rattle.pas_replay.proofs.ByActors.{may_operate, operate_turn}
 use Rattle.pas_replay.proofs.seats.operate.Goals as goal
 
 pub take_seat-requires : goal.take_seat-requires
-take_seat-requires c = may_take c.args.desk.now c.args.actors.now c.args.op.actor c.requires.thread c.requires.taken c.requires.so_far.3.1
+take_seat-requires c = let so = c.requires.so_far.3.2 in may_take c.args.desk.now c.args.actors.now c.args.actor c.requires.thread so.0 so.1.1
 
 pub operate-came-requires : goal.operate-came-requires
 operate-came-requires c =
     let so0 = c.requires.so_far in
-    record { stands = (so0.0, _, so0.3.0, may_operate c.index_mut-cache.result.now c.requires.some c.requires.thread c.take_seat.ensures c.index_mut-cache.ensures.value c.freed-meant.ensures so0.3.1) }
+    let so = so0.3.2.1 in
+    record { stands = (so0.3.0.profile, so0.0, _, so.0, so0.2, may_operate c.args.actor c.index_mut-cache.result.now so0.1 so0.2 c.requires.some c.requires.thread c.take_seat.ensures c.index_mut-cache.ensures.value c.freed-meant.ensures so.1) }
 
 pub keep-requires : goal.keep-requires
-keep-requires c = let so0 = c.requires.so_far in record { fit = (so0.0, so0.3.1.names.asked, so0.3.1.names.fit.1) }
-
-pub returns-clause-taken : goal.returns-clause-taken
-returns-clause-taken c =
+keep-requires c =
     let so0 = c.requires.so_far in
-    let did = c.operate-came.ensures.operates so0.0 _ so0.3.0 (may_operate c.index_mut-cache.result.now c.requires.some c.requires.thread c.take_seat.ensures c.index_mut-cache.ensures.value c.freed-meant.ensures so0.3.1) in
-    still_taken c.args.op.actor c.operate-came.new.desk c.requires.thread c.take_seat.ensures so0.3.1 did.moves.calls.adds.seat_is
+    let names = so0.3.2.1.1.names in
+    record { fit = (so0.3.0.profile, names.asked, subst (λ (w : What). IsFitWhat so0.3.0.profile (names_held c.args.names.now) names.asked w) so0.2 names.fit.1) }
 
 pub returns-clause-threads : goal.returns-clause-threads
-returns-clause-threads c = length-set c.args.actors.now.caches.items (c.args.op.actor - 1) c.operate-came.new.cache
+returns-clause-threads c = length-set c.args.actors.now.caches.items (c.args.actor - 1) c.operate-came.new.cache
 
 pub returns-clause-so_far : goal.returns-clause-so_far
-returns-clause-so_far c f all more (p, at) =
-    let did = c.operate-came.ensures.operates f _ p (may_operate c.index_mut-cache.result.now c.requires.some c.requires.thread c.take_seat.ensures c.index_mut-cache.ensures.value c.freed-meant.ensures at) in
-    (did.reached, operate_turn c.operate-came.result c.index_mut-cache.result.now c.operate-came.new.cache c.requires.some c.requires.thread c.take_seat.ensures c.index_mut-cache.ensures.value at did c.keep.ensures.held (c.keep.ensures.tells p.names at.names.tells) (c.keep.ensures.turns at.names.turns c.operate-came.ensures.turn))
+returns-clause-so_far c op mine asks r more (taken, (p, at)) =
+    let did = c.operate-came.ensures.operates r.profile op _ p asks (may_operate c.args.actor c.index_mut-cache.result.now mine asks c.requires.some c.requires.thread c.take_seat.ensures c.index_mut-cache.ensures.value c.freed-meant.ensures at) in
+    operate_turn c.args.actor c.operate-came.result c.index_mut-cache.result.now c.operate-came.new.cache mine asks c.requires.some c.requires.thread c.take_seat.ensures c.index_mut-cache.ensures.value at did c.keep.ensures.held (c.keep.ensures.tells p.names at.names.tells) (c.keep.ensures.turns at.names.turns c.operate-came.ensures.turn)

@@ -2,7 +2,7 @@
 use Rattle.std.proofs.Common.{◌≡◌, ◌≤◌, ℕ, List, length}
 use Rattle.pas_trace.specs.EveryPlan.{AreSound}
 use Rattle.pas_utility.specs.Outcomes.{places_of}
-use Rattle.pas_answers.specs.Acts.{scavenger_acts}
+use Rattle.pas_trace.specs.Acts.{scavenger_acts}
 use Rattle.pas_answers.specs.Answers.{Progress}
 use Rattle.pas_threads.specs.Lent.{Shift}
 use Rattle.pas_threads.specs.Crews.{crew, CrewAt}

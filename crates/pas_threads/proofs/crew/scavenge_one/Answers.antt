@@ -3,7 +3,7 @@ use Rattle.pas_profile.specs.declared.profile.Profile.{Profile}
 use Rattle.pas_trace.specs.EveryPlan.{IsSoundWork}
 use Rattle.pas_trace.specs.declared.plan.Chore.{Chore}
 use Rattle.pas_trace.specs.declared.plan.Work.{Work}
-use Rattle.pas_answers.specs.Acts.{acts_of_chore}
+use Rattle.pas_trace.specs.Acts.{acts_of_chore}
 use Rattle.pas_threads.proofs.ByCrew.{costs_stops, room_for_act, still_lent, as_acts, to_acts, did_alone, did_idle}
 use Rattle.pas_threads.proofs.crew.scavenge_one.Goals as goal
 

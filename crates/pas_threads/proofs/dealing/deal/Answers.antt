@@ -1,17 +1,22 @@
-use Rattle.std.proofs.Common.{◌≡◌, ◌∙◌, ◌+◌, ap, sym, refl, arith, reverse, List, [], length, length-append, drop_of_length-le}
-use Rattle.std.proofs.lemmas.List.{reverse-reverse}
+use Rattle.std.proofs.Common.{◌≡◌, ◌∙◌, ◌+◌, ◌++◌, [], ◌∷◌, ap, sym, refl, arith, map, reverse, List, length, length-append, drop_of_length-le}
+use Rattle.std.proofs.lemmas.Bool.{not_from_true, not_from_false}
+use Rattle.std.proofs.lemmas.List.{map_push, reverse-reverse}
+use Rattle.pas_threads.specs.Dealing.{picked, is_in, is_out}
 use Rattle.pas_threads.specs.declared.workers.Worker.{Worker}
-use Rattle.pas_threads.proofs.Dealt.{none_dealt, one_in, one_out, all_dealt, last_left}
+use Rattle.pas_threads.specs.declared.hands.Hand.{Hand}
+use Rattle.pas_threads.specs.declared.hands.Hand.TheVariants.{Thread}
+use Rattle.pas_threads.proofs.Dealt.{pile_grows, pile_stays, pile_whole, last_left}
 use Rattle.pas_threads.proofs.dealing.deal.Goals as goal
 
 pub loop-worker-init : goal.loop-worker-init
 loop-worker-init c =
-    let none = ap (λ hs. length hs) c.requires.hands.0 in
+    let none = ap (λ (hs : List Hand). length hs) c.requires.hands.0 in
     let nobody = ap (λ (ws : List Worker). length ws) c.requires.lent.0 in
     let len = c.reverse.ensures.len in
+    let all = ap (λ (ws : List Worker). reverse ws) c.reverse.ensures.items ∙ reverse-reverse c.args.threads.now.items in
     record {
-      so = none_dealt c.args.awake c.args.threads.now.items _ c.args.hands.now.items c.args.lent.now.items
-          (ap (λ (ws : List Worker). reverse ws) c.reverse.ensures.items ∙ reverse-reverse c.args.threads.now.items) c.requires.hands.0 c.requires.lent.0;
+      inside = ([], c.requires.hands.0, ap (λ (ws : List Worker). picked (is_in c.args.awake) 1 ws) all);
+      outside = ap (λ (ws : List Worker). ws ++ picked (is_out c.args.awake) 1 (reverse c.reverse.new.self.items)) c.requires.lent.0 ∙ ap (λ (ws : List Worker). picked (is_out c.args.awake) 1 ws) all;
       count = omega (arith, len);
       in_hands = omega (arith, none);
       in_lent = omega (arith, nobody);
@@ -27,11 +32,17 @@ loop-worker-preserved-then-get c =
     let len = c.in-Some.ensures.len in
     let in_hands = i.in_hands in
     let in_lent = i.in_lent in
-    let one = ap (λ hs. length hs) c.push_reserved.ensures.items ∙ length-append c.loop-worker.hands.items _ in
-    let popped = c.in-Some.ensures.items in
+    let one = ap (λ (hs : List Hand). length hs) c.push_reserved.ensures.items ∙ length-append c.loop-worker.hands.items _ in
+    let w = c.in-Some.worker in
+    let on = sym c.get.ensures ∙ c.if-get.true in
+    let last = last_left c.loop-worker.threads.items c.pop.new.self.items w c.in-Some.ensures.items in
     record {
-      so = one_in c.args.awake c.args.threads.now.items _ _ (c.loop-worker.actor + 1) c.loop-worker.hands.items c.push_reserved.new.self.items c.loop-worker.lent.items c.in-Some.worker
-          (sym c.get.ensures ∙ c.if-get.true) (last_left c.loop-worker.threads.items c.pop.new.self.items c.in-Some.worker popped) c.push_reserved.ensures.items i.so;
+      inside = (
+        i.inside.0 ++ w ∷ [],
+        c.push_reserved.ensures.items ∙ ap (λ (hs : List Hand). hs ++ Thread w ∷ []) i.inside.1 ∙ sym (map_push Thread i.inside.0 w),
+        pile_grows (is_in c.args.awake) (c.loop-worker.actor + 1) i.inside.0 (reverse c.loop-worker.threads.items) i.inside.2 w (reverse c.pop.new.self.items) on last,
+      );
+      outside = pile_stays (is_out c.args.awake) (c.loop-worker.actor + 1) c.loop-worker.lent.items (reverse c.loop-worker.threads.items) i.outside w (reverse c.pop.new.self.items) (not_from_true _ on) last;
       count = omega (arith, count, len);
       in_hands = omega (arith, in_hands, one);
       in_lent = omega (arith, in_lent);
@@ -48,9 +59,13 @@ loop-worker-preserved c =
     let in_hands = i.in_hands in
     let in_lent = i.in_lent in
     let one = ap (λ (ws : List Worker). length ws) c.push_reserved-else-get.ensures.items ∙ length-append c.loop-worker.lent.items _ in
+    let w = c.in-Some.worker in
+    let off = sym c.get.ensures ∙ c.if-get.false in
+    let last = last_left c.loop-worker.threads.items c.pop.new.self.items w c.in-Some.ensures.items in
     record {
-      so = one_out c.args.awake c.args.threads.now.items _ _ (c.loop-worker.actor + 1) c.loop-worker.hands.items c.loop-worker.lent.items c.push_reserved-else-get.new.self.items c.in-Some.worker
-          (sym c.get.ensures ∙ c.if-get.false) (last_left c.loop-worker.threads.items c.pop.new.self.items c.in-Some.worker c.in-Some.ensures.items) c.push_reserved-else-get.ensures.items i.so;
+      inside = (i.inside.0, i.inside.1, pile_stays (is_in c.args.awake) (c.loop-worker.actor + 1) i.inside.0 (reverse c.loop-worker.threads.items) i.inside.2 w (reverse c.pop.new.self.items) off last);
+      outside = ap (λ (ws : List Worker). ws ++ picked (is_out c.args.awake) (c.loop-worker.actor + 1 + 1) (reverse c.pop.new.self.items)) c.push_reserved-else-get.ensures.items
+          ∙ pile_grows (is_out c.args.awake) (c.loop-worker.actor + 1) c.loop-worker.lent.items (reverse c.loop-worker.threads.items) i.outside w (reverse c.pop.new.self.items) (not_from_false _ off) last;
       count = omega (arith, count, len);
       in_hands = omega (arith, in_hands);
       in_lent = omega (arith, in_lent, one);
@@ -61,5 +76,8 @@ loop-worker-preserved c =
 
 pub returns-clause-dealt : goal.returns-clause-dealt
 returns-clause-dealt c =
-    let none = c.in_default.ensures.cases in
-    all_dealt (ap (λ (ws : List Worker). reverse ws) (let is : c.loop-worker.threads.items ≡ [] = drop_of_length-le c.loop-worker.threads.items {i = 0} (omega (arith, none)) in is)) c.loop-worker.invariant.so
+    let i = c.loop-worker.invariant in
+    let len = c.in_default.ensures.cases in
+    let none : c.loop-worker.threads.items ≡ [] = drop_of_length-le c.loop-worker.threads.items {i = 0} (omega (arith, len)) in
+    let left = ap (λ (ws : List Worker). reverse ws) none in
+    (i.inside.1 ∙ ap (λ (ws : List Worker). map Thread ws) (pile_whole (is_in c.args.awake) (c.loop-worker.actor + 1) i.inside.0 (reverse c.loop-worker.threads.items) i.inside.2 left), pile_whole (is_out c.args.awake) (c.loop-worker.actor + 1) c.loop-worker.lent.items (reverse c.loop-worker.threads.items) i.outside left)

@@ -1,12 +1,15 @@
 -- the workers so far are dealt, and there are places for the others
-use Rattle.std.proofs.Common.{◌≡◌, ◌+◌, ◌≤◌, length, reverse}
+use Rattle.std.proofs.Common.{◌≡◌, ◌+◌, ◌++◌, ◌≤◌, List, map, length, reverse}
 use Rattle.std.specs.Prelude.{vec_capacity}
-use Rattle.pas_threads.proofs.Dealt.{SoDealt}
+use Rattle.pas_threads.specs.Dealing.{picked, is_in, is_out}
+use Rattle.pas_threads.specs.declared.workers.Worker.{Worker}
+use Rattle.pas_threads.specs.declared.hands.Hand.TheVariants.{Thread}
 use Rattle.pas_threads.proofs.dealing.deal.Given as goal
 
 abbrev pub invariant-loop-worker : goal.invariant-loop-worker
 invariant-loop-worker l = record {
-  so : SoDealt l.awake l.fn.threads.items (reverse l.threads.items) (l.actor + 1) l.hands.items l.lent.items;
+  inside : (own : List Worker) × (l.hands.items ≡ map Thread own) × (own ++ picked (is_in l.awake) (l.actor + 1) (reverse l.threads.items) ≡ picked (is_in l.awake) 1 l.fn.threads.items);
+  outside : l.lent.items ++ picked (is_out l.awake) (l.actor + 1) (reverse l.threads.items) ≡ picked (is_out l.awake) 1 l.fn.threads.items;
   count : l.actor + length l.threads.items ≡ length l.fn.threads.items;
   in_hands : length l.hands.items ≤ l.actor;
   in_lent : length l.lent.items ≤ l.actor;

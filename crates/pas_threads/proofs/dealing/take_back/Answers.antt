@@ -1,47 +1,51 @@
-use Rattle.std.proofs.Common.{◌≡◌, ◌∙◌, ◌+◌, ◌-◌, suc, inl, inr, ap, sym, refl, subst, arith, reverse, List, length, length-append}
+use Rattle.std.proofs.Common.{◌≡◌, ◌∙◌, ◌+◌, ◌-◌, ℕ, suc, inl, inr, ap, sym, refl, subst, arith, List, length, length-append}
+use Rattle.std.proofs.lemmas.Bool.{cases_Bool}
+use Rattle.pas_bits.specs.Masks.{is_set}
 use Rattle.pas_threads.specs.declared.workers.Worker.{Worker}
-use Rattle.pas_threads.specs.declared.hands.Hand.{Hand}
-use Rattle.pas_threads.proofs.Dealt.{SoTaken, none_taken, some_in, some_out, taken_in, taken_out, all_taken, true_or_false, sized_of}
+use Rattle.pas_threads.proofs.Dealt.{SoTaken, none_taken, some_in, some_out, taken_in, taken_out, all_taken}
 use Rattle.pas_threads.proofs.dealing.take_back.Goals as goal
+use Rattle.pas_threads.proofs.dealing.take_back.Goals.{After-get}
+
+-- the next of the threads that are left
+module _ (c : After-get) where
+  abbrev left : ℕ
+  left = c.args.count - (c.loop-below.below + 1)
+
+  so : SoTaken c.args.awake (suc left) c.args.hands.now.items c.args.lent.now.items c.loop-below.threads.items c.loop-below.hands.items c.loop-below.lent.items
+  so =
+      let lt = c.loop-below-test.true in
+      subst (λ (n : ℕ). SoTaken c.args.awake n c.args.hands.now.items c.args.lent.now.items c.loop-below.threads.items c.loop-below.hands.items c.loop-below.lent.items)
+      (let one : c.args.count - c.loop-below.below ≡ suc left = omega (arith, lt) in one) c.loop-below.invariant.so
+
+  its_bit : is_set c.args.awake (1 + length c.loop-below.threads.items) ≡ c.get.result
+  its_bit = let many = c.loop-below.invariant.many in ap (λ (n : ℕ). is_set c.args.awake n) (let at : 1 + length c.loop-below.threads.items ≡ c.loop-below.below + 1 = omega (arith, many) in at) ∙ sym c.get.ensures
 
 pub loop-below-init : goal.loop-below-init
-loop-below-init c =
-    let none = ap (λ (ws : List Worker). length ws) c.requires.none.0 in
-    record {
-      so = λ own is. subst (λ n. SoTaken c.args.awake 1 n own c.args.lent.now.items c.args.threads.now.items c.reverse.new.self.items c.reverse-2.new.self.items) (let same : c.args.count ≡ c.args.count - 0 = omega arith in same) (none_taken c.args.awake c.args.count own c.args.lent.now.items c.args.threads.now.items _ _ c.requires.none.0 (c.reverse.ensures.items ∙ ap (λ (hs : List Hand). reverse hs) is) c.reverse-2.ensures.items (sized_of c.args.awake c.args.count own c.args.lent.now.items is c.requires.sized));
-      many = none;
-      threads = refl;
-      hands = c.reverse.ensures.capacity;
-      lent = c.reverse-2.ensures.capacity;
-    }
+loop-below-init c = record {
+  so = subst (λ (n : ℕ). SoTaken c.args.awake n c.args.hands.now.items c.args.lent.now.items c.args.threads.now.items c.reverse.new.self.items c.reverse-2.new.self.items) (let same : c.args.count ≡ c.args.count - 0 = omega arith in same)
+      (none_taken c.requires.none.0 c.reverse.ensures.items c.reverse-2.ensures.items c.requires.sized);
+  many = ap (λ (ws : List Worker). length ws) c.requires.none.0;
+  threads = refl;
+  hands = c.reverse.ensures.capacity;
+  lent = c.reverse-2.ensures.capacity;
+}
 
 pub next_back-worker-requires-clause-awake : goal.next_back-worker-requires-clause-awake
-next_back-worker-requires-clause-awake c = λ on.
-    let lt = c.loop-below-test.true in
-    let own = c.requires.sized in
-    some_in (sym c.get.ensures ∙ on) (let one : c.args.count - c.loop-below.below ≡ suc (c.args.count - (c.loop-below.below + 1)) = omega (arith, lt) in one) (c.loop-below.invariant.so own.0 own.1)
+next_back-worker-requires-clause-awake c = let d = (goal.at.next_back-worker-requires-clause-awake c).After-get in λ on. some_in (so d) (its_bit d ∙ on)
 
 pub next_back-worker-requires-clause-idle : goal.next_back-worker-requires-clause-idle
-next_back-worker-requires-clause-idle c = λ off.
-    let lt = c.loop-below-test.true in
-    let own = c.requires.sized in
-    some_out (sym c.get.ensures ∙ off) (let one : c.args.count - c.loop-below.below ≡ suc (c.args.count - (c.loop-below.below + 1)) = omega (arith, lt) in one) (c.loop-below.invariant.so own.0 own.1)
+next_back-worker-requires-clause-idle c = let d = (goal.at.next_back-worker-requires-clause-idle c).After-get in λ off. some_out (so d) (its_bit d ∙ off)
 
 pub loop-below-preserved : goal.loop-below-preserved
 loop-below-preserved c =
+    let d = (goal.at.loop-below-preserved c).After-get in
     let i = c.loop-below.invariant in
-    let lt = c.loop-below-test.true in
     let many = i.many in
-    let one : c.args.count - c.loop-below.below ≡ suc (c.args.count - (c.loop-below.below + 1)) = omega (arith, lt) in
     let more = ap (λ (ws : List Worker). length ws) c.push_reserved.ensures.items ∙ length-append c.loop-below.threads.items _ in
     record {
-      so = λ own is. elim (true_or_false c.get.result) [
-        | inl on ↦
-            let back = c.next_back-worker.ensures.awake on in
-            taken_in c.next_back-worker.result (sym c.get.ensures ∙ on) one back.0 back.1 c.push_reserved.ensures.items (i.so own is)
-        | inr off ↦
-            let back = c.next_back-worker.ensures.idle off in
-            taken_out c.next_back-worker.result (sym c.get.ensures ∙ off) one back.0 back.1 c.push_reserved.ensures.items (i.so own is)
+      so = elim (cases_Bool c.get.result) [
+        | inl on ↦ let back = c.next_back-worker.ensures.awake on in taken_in (so d) c.next_back-worker.result (its_bit d ∙ on) back.0 back.1 c.push_reserved.ensures.items
+        | inr off ↦ let back = c.next_back-worker.ensures.idle off in taken_out (so d) c.next_back-worker.result (its_bit d ∙ off) back.0 back.1 c.push_reserved.ensures.items
       ];
       many = omega (arith, many, more);
       threads = c.push_reserved.ensures.capacity ∙ i.threads;
@@ -50,7 +54,7 @@ loop-below-preserved c =
     }
 
 pub returns-clause-dealt : goal.returns-clause-dealt
-returns-clause-dealt c = λ own is.
-    let past = c.loop-below-test.false in
-    let end = c.loop-below.auto.below-end in
-    (all_taken (subst (λ n. SoTaken c.args.awake (c.loop-below.below + 1) n own c.args.lent.now.items c.loop-below.threads.items c.loop-below.hands.items c.loop-below.lent.items) (let none : c.args.count - c.loop-below.below ≡ 0 = omega (arith, past) in none) (c.loop-below.invariant.so own is))).0
+returns-clause-dealt c = let past = c.loop-below-test.false in (all_taken c.loop-below.invariant.so (omega (arith, past))).0
+
+pub returns-clause-none : goal.returns-clause-none
+returns-clause-none c = let past = c.loop-below-test.false in let all = all_taken c.loop-below.invariant.so (omega (arith, past)) in (all.1, all.2)

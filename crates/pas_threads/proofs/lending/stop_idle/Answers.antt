@@ -3,7 +3,7 @@ use Rattle.pas_report.specs.Rooms.{records_in}
 use Rattle.pas_report.specs.declared.record.Record.{Record}
 use Rattle.pas_answers.specs.Ways.{records_by}
 use Rattle.pas_threads.specs.Lent.{number_in}
-use Rattle.pas_threads.proofs.ByLent.{stops_begin, stops_go_on, stops_end}
+use Rattle.pas_threads.proofs.ByCrew.{stops_begin, stops_go_on, stops_end}
 use Rattle.pas_threads.proofs.lending.stop_idle.Goals as goal
 
 pub loop-index-init : goal.loop-index-init

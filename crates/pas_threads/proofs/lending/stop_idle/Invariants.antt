@@ -2,7 +2,7 @@
 use Rattle.std.proofs.Common.{◌≡◌}
 use Rattle.pas_answers.specs.Answers.{Progress}
 use Rattle.pas_threads.specs.Lent.{Shift, AreLent}
-use Rattle.pas_threads.proofs.ByLent.{StopsSoFar}
+use Rattle.pas_threads.proofs.ByCrew.{StopsSoFar}
 use Rattle.pas_threads.proofs.lending.stop_idle.Given as goal
 
 abbrev pub invariant-loop-index : goal.invariant-loop-index

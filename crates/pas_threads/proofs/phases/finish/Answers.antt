@@ -1,26 +1,25 @@
 use Rattle.std.proofs.Common.{◌≡◌, ℕ, ◌+◌, ◌<◌, ◌≤◌, List, [], ◌++◌, length, get_or, sym, ◌∙◌, subst}
 use Rattle.std.proofs.lemmas.List.{with_items_is}
-use Rattle.pas_profile.specs.declared.profile.Profile.{Profile}
 use Rattle.pas_trace.specs.EveryPlan.{all_ops, own_records}
 use Rattle.pas_report.specs.Rooms.{records_in, room_of}
 use Rattle.pas_shared.specs.declared.region.SharedRegion.{SharedRegion}
 use Rattle.pas_answers.specs.Answers.{Progress}
-use Rattle.pas_threads.specs.Sessions.{AreResting, TeamAt}
+use Rattle.pas_threads.specs.Sessions.{Session, AreResting, TeamAt}
 use Rattle.pas_threads.specs.Turns.{StoppedAll, said_by_all, IsGathered}
 use Rattle.pas_threads.specs.declared.workers.Worker.{Worker}
 use Rattle.pas_threads.specs.declared.phases.Team.{Team}
-use Rattle.pas_threads.proofs.Closing.{room_at_close, has_closed}
+use Rattle.pas_threads.proofs.BetweenPhases.{room_at_close, has_closed}
 use Rattle.pas_threads.proofs.phases.finish.Goals as goal
 use Rattle.pas_threads.proofs.phases.finish.Goals.{After-deref_mut-2}
 
 -- the threads rest, where they are lent to be stopped
-rest : {region : SharedRegion} {f : Profile} {team : Team} {p : Progress} (ws : List Worker) → ws ≡ team.threads.items → TeamAt region f [] team p → AreResting region f ws (λ k. own_records f k (all_ops [])) p
-rest {region} {f} {team} {p} ws value at = subst (λ (us : List Worker). AreResting region f us (λ k. own_records f k (all_ops [])) p) (sym value) at.workers
+rest : {region : SharedRegion} {s : Session} {team : Team} {p : Progress} (ws : List Worker) → ws ≡ team.threads.items → TeamAt region s [] team p → AreResting region s.profile ws (λ k. own_records s.profile k (all_ops [])) p
+rest {region} {s} {team} {p} ws value at = subst (λ (us : List Worker). AreResting region s.profile us (λ k. own_records s.profile k (all_ops [])) p) (sym value) at.workers
 
 module _ (c : After-deref_mut-2) where
-  stopped : (f : Profile) (p : Progress) → TeamAt c.args.region.now f [] c.args.team p → StoppedAll c.args.region.now f c.args.team.threads.items c.stop_all.new.threads (λ k. own_records f k (all_ops [])) p
-  stopped f p at = subst (λ (ws : List Worker). StoppedAll c.args.region.now f ws c.stop_all.new.threads (λ k. own_records f k (all_ops [])) p) c.deref_mut.ensures.value
-      (c.stop_all.ensures.stopped f (λ k. own_records f k (all_ops [])) p (rest c.deref_mut.result.now c.deref_mut.ensures.value at))
+  stopped : (s : Session) (p : Progress) → TeamAt c.args.region.now s [] c.args.team p → StoppedAll c.args.region.now s.profile c.args.team.threads.items c.stop_all.new.threads (λ k. own_records s.profile k (all_ops [])) p
+  stopped s p at = subst (λ (ws : List Worker). StoppedAll c.args.region.now s.profile ws c.stop_all.new.threads (λ k. own_records s.profile k (all_ops [])) p) c.deref_mut.ensures.value
+      (c.stop_all.ensures.stopped s.profile (λ k. own_records s.profile k (all_ops [])) p (rest c.deref_mut.result.now c.deref_mut.ensures.value at))
 
   many : length c.stop_all.new.threads ≡ length c.args.team.threads.items
   many = subst (λ (ws : List Worker). length c.stop_all.new.threads ≡ length ws) c.deref_mut.ensures.value c.stop_all.ensures.many
@@ -32,7 +31,7 @@ module _ (c : After-deref_mut-2) where
 pub stop_all-requires : goal.stop_all-requires
 stop_all-requires c =
     let may = c.requires.may in
-    record { rest = (may.0, (λ k. own_records may.0 k (all_ops [])), may.1, rest c.deref_mut.result.now c.deref_mut.ensures.value may.2) }
+    record { rest = (may.0.profile, (λ k. own_records may.0.profile k (all_ops [])), may.1, rest c.deref_mut.result.now c.deref_mut.ensures.value may.2) }
 
 pub gather-requires : goal.gather-requires
 gather-requires c =
@@ -48,8 +47,8 @@ returns c =
     let now = c.stop_all.new.threads in
     let new = c.gather.new.threads in
     record {
-      done = λ f p at marked room.
-          has_closed (records_in c.args.out.now) now new at (stopped d f p at) (many d) (subst (λ (ws : List Worker). length new ≡ length ws) (again d) c.gather.ensures.many)
+      done = λ s p at marked room.
+          has_closed (records_in c.args.out.now) now new at (stopped d s p at) (many d) (subst (λ (ws : List Worker). length new ≡ length ws) (again d) c.gather.ensures.many)
           (subst (λ (ws : List Worker). (i : ℕ) (e : Worker) → i < length ws → IsGathered (get_or ws i e) (get_or new i e)) (again d) c.gather.ensures.gathered)
           (c.gather.ensures.many ∙ c.deref_mut-2.ensures.len) marked
           (subst (λ (ws : List Worker). records_in c.gather.new.out ≡ records_in c.args.out.now ++ said_by_all ws) (again d) c.gather.ensures.added);

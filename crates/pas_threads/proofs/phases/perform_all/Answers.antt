@@ -1,77 +1,72 @@
-use Rattle.std.proofs.Common.{◌≡◌, ◌∙◌, suc, true, false, ap, sym, refl, arith, List, length}
+use Rattle.std.proofs.Common.{◌≡◌, ◌∙◌, ℕ, true, false, ap, sym, refl, arith, List, length}
 use Rattle.std.proofs.lemmas.List.{length-map}
-use Rattle.pas_answers.specs.Acts.{is_active}
-use Rattle.pas_shares.specs.Shares.{owner_in}
-use Rattle.pas_threads.specs.Dealing.{count_in, count_out}
+use Rattle.pas_trace.specs.Acts.{is_active}
+use Rattle.pas_threads.specs.Dealing.{picked, count_of, is_in, is_out}
+use Rattle.pas_threads.specs.Performing.{round}
 use Rattle.pas_threads.specs.declared.hands.Hand.{Hand}
-use Rattle.pas_threads.proofs.Dealt.{dealt_sizes, count_most}
+use Rattle.pas_threads.specs.declared.scavenger.Scavenger.{Scavenger}
+use Rattle.pas_threads.proofs.Dealt.{picked_many, count_most, threads_same}
 use Rattle.pas_threads.proofs.Performed.{shift_of, own_may, may_scavenge, piece, lent_same, lent_places}
 use Rattle.pas_threads.proofs.phases.perform_all.Goals as goal
 
 pub act_with-scavenger-requires-clause-threads : goal.act_with-scavenger-requires-clause-threads
 act_with-scavenger-requires-clause-threads g c =
-    let dealt = c.deal.ensures.dealt in
-    let ready = c.requires.ready.3 in
-    let may = own_may ready c.args.awake c.requires.awake dealt.0 c.deal.new.lent.items dealt.2 in
-    λ here lives. (dealt.0, dealt.1, λ k d lt. may k d lt)
+    let may = own_may c.requires.ready.3 c.args.awake c.requires.awake in
+    λ here lives. (picked (is_in c.args.awake) 1 c.args.team.threads.items, c.deal.ensures.dealt.0, λ k d lt. may k d lt)
 
 pub act_with-scavenger-requires-clause-scavenger : goal.act_with-scavenger-requires-clause-scavenger
 act_with-scavenger-requires-clause-scavenger g c = λ here lives busy.
-    let dealt = c.deal.ensures.dealt in
     let ready = c.requires.ready.3 in
-    let f = c.requires.ready.0 in
-    let later = c.requires.ready.1 in
     record {
-      shift = shift_of f c.args.ops.now later;
+      shift = shift_of (round c.requires.ready.0 c.args.team.book c.args.ops.now c.requires.ready.1 c.requires.ready.2);
       asked = ready.asked;
       progress = c.requires.ready.2;
       sound = ready.sound;
-      stands = may_scavenge ready c.args.awake c.requires.awake dealt.0 c.deal.new.lent.items dealt.2 _ refl refl refl refl;
+      stands = may_scavenge ready c.args.awake c.requires.awake _ refl refl refl c.deal.ensures.dealt.1;
     }
 
 pub act_with-scavenger-requires-clause-place : goal.act_with-scavenger-requires-clause-place
 act_with-scavenger-requires-clause-place g c =
-    let dealt = c.deal.ensures.dealt in
     let ready = c.requires.ready.3 in
-    let sizes = dealt_sizes c.args.awake 1 c.args.team.threads.items dealt.0 c.deal.new.lent.items dealt.2 in
-    let most = count_most c.args.awake 1 (length c.args.team.threads.items) in
-    let inside = sizes.inside in
+    let inside = picked_many (is_in c.args.awake) 1 c.args.team.threads.items in
+    let most = count_most (is_in c.args.awake) 1 (length c.args.team.threads.items) in
     let many = ready.many in
     let hands = ready.places.hands in
     let same = c.deal.ensures.places.1 in
-    let long = ap (λ (hs : List Hand). length hs) dealt.1 ∙ length-map dealt.0 _ in
+    let long = ap (λ (hs : List Hand). length hs) c.deal.ensures.dealt.0 ∙ length-map (picked (is_in c.args.awake) 1 c.args.team.threads.items) _ in
     omega (arith, most, inside, many, hands, same, long)
 
 pub take_back-requires-clause-sized : goal.take_back-requires-clause-sized
 take_back-requires-clause-sized g c =
-    let dealt = c.deal.ensures.dealt in
     let ready = c.requires.ready.3 in
-    let later = c.requires.ready.1 in
-    let each = c.act_with-scavenger.ensures.threads dealt.0 dealt.1 in
-    let sizes = dealt_sizes c.args.awake 1 c.args.team.threads.items dealt.0 c.deal.new.lent.items dealt.2 in
-    let count : c.len-count.result ≡ length c.args.team.threads.items = (let ok = c.args.team.threads.ok.0 in let is = c.len-count.ensures in omega (arith, ok, is)) in
-    let lent = lent_same ready c.args.awake c.requires.awake dealt.0 c.deal.new.lent.items dealt.2 _ c.act_with-scavenger.result (may_scavenge ready c.args.awake c.requires.awake dealt.0 c.deal.new.lent.items dealt.2 _ refl refl refl refl) refl
-    (λ on. c.act_with-scavenger.ensures.did (c.get-busy.ensures ∙ c.requires.awake 0 ∙ on)) (λ off. c.act_with-scavenger.ensures.stayed (c.get-busy.ensures ∙ c.requires.awake 0 ∙ off)) in
-    (each.after, each.hands_are, record { inside = each.many ∙ sizes.inside ∙ ap (λ n. count_in c.args.awake 1 n) (sym count); outside = lent ∙ sizes.outside ∙ ap (λ n. count_out c.args.awake 1 n) (sym count) })
+    let dealt = c.deal.ensures.dealt in
+    let ws = c.args.team.threads.items in
+    let each = c.act_with-scavenger.ensures.threads (picked (is_in c.args.awake) 1 ws) dealt.0 in
+    let count : c.len-count.result ≡ length ws = (let ok = c.args.team.threads.ok.0 in let is = c.len-count.ensures in omega (arith, ok, is)) in
+    let lent = lent_same ready c.args.awake c.requires.awake _ c.act_with-scavenger.result (may_scavenge ready c.args.awake c.requires.awake _ refl refl refl dealt.1) dealt.1
+    (λ on. c.act_with-scavenger.ensures.did (c.get-busy.ensures ∙ c.requires.awake 0 ∙ on)) (λ off. c.act_with-scavenger.ensures.stayed (c.get-busy.ensures ∙ c.requires.awake 0 ∙ off)) in (
+      each.after,
+      each.hands_are,
+      each.many ∙ picked_many (is_in c.args.awake) 1 ws ∙ ap (λ (n : ℕ). count_of (is_in c.args.awake) 1 n) (sym count),
+      lent ∙ picked_many (is_out c.args.awake) 1 ws ∙ ap (λ (n : ℕ). count_of (is_out c.args.awake) 1 n) (sym count),
+    )
 
 pub returns : goal.returns
 returns g c = record {
-  done = λ f later p ready.
+  done = λ s later p ready.
       let dealt = c.deal.ensures.dealt in
-      let each = c.act_with-scavenger.ensures.threads dealt.0 dealt.1 in
-      let stands = may_scavenge ready c.args.awake c.requires.awake dealt.0 c.deal.new.lent.items dealt.2 (record { pass = c.args.team.scavenger.pass; outcomes = c.args.team.scavenger.outcomes; out = c.args.team.scavenger.out; lent = c.deal.new.lent }) refl refl refl refl in
+      let each = c.act_with-scavenger.ensures.threads (picked (is_in c.args.awake) 1 c.args.team.threads.items) dealt.0 in
+      let scavenger : Scavenger = record { pass = c.args.team.scavenger.pass; outcomes = c.args.team.scavenger.outcomes; out = c.args.team.scavenger.out; lent = c.deal.new.lent } in
+      let stands = may_scavenge ready c.args.awake c.requires.awake scavenger refl refl refl dealt.1 in
       let did = λ (on : is_active c.args.ops.now 0 ≡ true). c.act_with-scavenger.ensures.did (c.get-busy.ensures ∙ c.requires.awake 0 ∙ on) in
       let stayed = λ (off : is_active c.args.ops.now 0 ≡ false). c.act_with-scavenger.ensures.stayed (c.get-busy.ensures ∙ c.requires.awake 0 ∙ off) in
-      let dealt1 = c.take_back.ensures.dealt each.after each.hands_are in
+      let back = c.take_back.ensures.dealt in
       let size : length c.take_back.new.threads.items ≡ length c.args.team.threads.items = (let ok = c.args.team.threads.ok.0 in let is = c.len-count.ensures in let many = c.take_back.ensures.many in omega (arith, ok, is, many)) in
-      let pieces = piece ready c.args.awake c.requires.awake dealt.0 c.deal.new.lent.items dealt.2 (record { pass = c.args.team.scavenger.pass; outcomes = c.args.team.scavenger.outcomes; out = c.args.team.scavenger.out; lent = c.deal.new.lent }) c.act_with-scavenger.result stands refl each.after c.take_back.new.threads.items each.each did stayed dealt1 size in
-      let scavenged = (pieces 0).scavenger refl in
-      let places = lent_places ready c.args.awake c.requires.awake dealt.0 c.deal.new.lent.items dealt.2 (record { pass = c.args.team.scavenger.pass; outcomes = c.args.team.scavenger.outcomes; out = c.args.team.scavenger.out; lent = c.deal.new.lent }) c.act_with-scavenger.result stands refl each.after c.take_back.new.threads.items each.each did stayed dealt1 size in
+      let pieces = piece ready c.args.awake c.requires.awake scavenger c.act_with-scavenger.result stands dealt.1 did stayed each.after c.take_back.new.threads.items each.each (threads_same each.after _ (sym each.hands_are ∙ back.0)) back.1 size in
+      let places = lent_places ready c.args.awake c.requires.awake scavenger c.act_with-scavenger.result stands dealt.1 did stayed in
       record {
-        own = λ w. (pieces w).own;
+        pieces = λ w. record { own = (pieces w).own; threads = (pieces w).threads; scavenger = (pieces w).scavenger };
         many = size;
-        each = λ i d lt. (pieces (owner_in c.args.ops.now (suc i))).threads i d lt refl;
-        scavenger = record { has = scavenged.has; at = scavenged.at; told = scavenged.told };
         none = c.take_back.ensures.none.1;
         book = refl;
         places = record {

@@ -9,21 +9,20 @@ use Rattle.pas_threads.specs.Taken.{IsWithin}
 use Rattle.pas_threads.specs.Turns.{said_by_all}
 use Rattle.pas_threads.specs.declared.workers.Worker.{Worker}
 use Rattle.pas_acts.proofs.NamesBefore.{sound_front, below_front}
-use Rattle.pas_threads.proofs.PhaseStarts.{has_begun}
-use Rattle.pas_threads.proofs.PhaseTeams.{WereGathered, WereTaken, may_append, may_gather, may_take, phase_done}
+use Rattle.pas_threads.proofs.PhaseTeams.{WereGathered, WereTaken, has_begun, may_append, may_gather, may_take, phase_done}
 use Rattle.pas_threads.proofs.phases.perform_phase.Goals as goal
 
 pub wake_all-requires-clause-rest : goal.wake_all-requires-clause-rest
 wake_all-requires-clause-rest g c =
     let m = c.requires.may in
-    let later : ℕ → ℕ = λ k. own_records m.0 k (all_ops (c.args.ops.now ∷ m.1)) in
-    (m.0, later, m.3, subst (λ (ws : List Worker). AreResting c.args.region.now m.0 ws later m.3) (sym c.deref_mut.ensures.value) m.4.team_at.workers)
+    let later : ℕ → ℕ = λ k. own_records m.0.profile k (all_ops (c.args.ops.now ∷ m.1)) in
+    (m.0.profile, later, m.3, subst (λ (ws : List Worker). AreResting c.args.region.now m.0.profile ws later m.3) (sym c.deref_mut.ensures.value) m.4.team_at.workers)
 
 pub note-requires-clause-below : goal.note-requires-clause-below
 note-requires-clause-below g c = let m = c.requires.may in below_front _ c.args.ops.now (all_ops m.1) m.4.team_at.names.below
 
 pub note-requires-clause-sound : goal.note-requires-clause-sound
-note-requires-clause-sound g c = let m = c.requires.may in (m.0, m.4.team_at.names.asked, sound_front m.0 m.4.team_at.names.asked c.args.ops.now (all_ops m.1) m.4.team_at.names.sound)
+note-requires-clause-sound g c = let m = c.requires.may in (m.0.profile, m.4.team_at.names.asked, sound_front m.0.profile m.4.team_at.names.asked c.args.ops.now (all_ops m.1) m.4.team_at.names.sound)
 
 pub perform_all-team-requires-clause-ready : goal.perform_all-team-requires-clause-ready
 perform_all-team-requires-clause-ready g c κs within =
@@ -77,10 +76,10 @@ returns g c =
     (record { taken = c.take_all.ensures.taken; held = c.take_all.ensures.room; each = c.take_all.ensures.emptied; many = c.take_all.ensures.many })
     in
     record {
-      done = λ f rest marks p whole.
+      done = λ s rest marks p whole.
           let at = whole.team_at in
           let begun = has_begun c.args.ops.now rest at c.deref_mut.ensures.value c.deref_mut.ensures.len c.wake_all.ensures.woke c.wake_all.ensures.many c.note.ensures.names c.note.ensures.placed in
-          let done = c.perform_all-team.ensures.done f _ begun.woke.turns.came.reached begun.ready in
+          let done = c.perform_all-team.ensures.done s _ begun.woke.turns.came.reached begun.ready in
           phase_done c.args.ops.now rest whole begun done c.active-awake.ensures c.append.ensures.added c.append.ensures.size gathered _ taken left refl refl done.none c.append.ensures.none c.append.ensures.other_size
           (record { workers = done.places.workers; hands = done.places.hands; lent = done.places.lent; free = done.places.free });
     }

@@ -1,13 +1,12 @@
 use Rattle.std.proofs.Common.{◌≡◌, ◌+◌, ◌++◌, ◌∙◌, ℕ, List, [], ◌∷◌, length, drop, refl, sym, ap, arith}
 use Rattle.std.specs.Prelude.{map}
 use Rattle.std.proofs.lemmas.List.{length-map}
-use Rattle.pas_profile.specs.declared.profile.Profile.{Profile}
 use Rattle.pas_trace.specs.Plans.{ops_of}
 use Rattle.pas_trace.specs.declared.plan.Op.{Op}
 use Rattle.pas_report.specs.Rooms.{records_in}
 use Rattle.pas_report.specs.declared.record.Record.{Record}
 use Rattle.pas_answers.specs.Replays.{at_start}
-use Rattle.pas_threads.specs.Sessions.{TeamAt, HasRoom}
+use Rattle.pas_threads.specs.Sessions.{Session, TeamAt, HasRoom}
 use Rattle.pas_threads.proofs.BetweenPhases.{AfterPhases, BeforePhase, BeforeClose, no_phase, as_next, as_last, spare_for_mark, first_begins, other_begins, phase_ends, spare_for_close, close_begins, close_ends}
 use Rattle.pas_threads.proofs.phases.replay.Goals as goal
 use Rattle.pas_threads.proofs.phases.replay.Given.{Over}
@@ -15,7 +14,7 @@ use Rattle.pas_threads.proofs.phases.replay.Goals.{then-number-gt-UNMARKED, else
 
 pub loop-phase-init : goal.loop-phase-init
 loop-phase-init g c = record {
-  far = λ f at room. no_phase c.requires.empty (ap (λ (n : ℕ). n + 1) (sym (length-map c.args.phases.now ops_of))) at room;
+  far = λ s at room. no_phase c.requires.empty (ap (λ (n : ℕ). n + 1) (sym (length-map c.args.phases.now ops_of))) at room;
   count = refl;
 }
 
@@ -26,14 +25,14 @@ push-requires g c =
     spare_for_mark (as_next c.args.phases.now c.loop-phase.phase-index item (ops_of item) c.loop-phase-test.true c.phase-item.is refl (c.loop-phase.invariant.far st.0 st.1 st.2))
 
 -- before the operations of a phase: its mark was written from the second one on
-module _ (g : Over) (c : After-as_slice g) (f : Profile) (at : TeamAt c.args.region.now f (map ops_of c.args.phases.now) c.args.team at_start) (room : HasRoom f (map ops_of c.args.phases.now) (length c.args.phases.now + 1) c.args.out.now at_start) where
+module _ (g : Over) (c : After-as_slice g) (s : Session) (at : TeamAt c.args.region.now s (map ops_of c.args.phases.now) c.args.team at_start) (room : HasRoom s (map ops_of c.args.phases.now) (length c.args.phases.now + 1) c.args.out.now at_start) where
   abbrev rest : List (List Op)
   rest = map ops_of (drop (c.loop-phase.phase-index + 1) c.args.phases.now)
 
-  next : AfterPhases c.args.region.now f (map ops_of c.args.phases.now) c.loop-phase.phase-index (c.as_slice.result.now ∷ rest) c.loop-phase.team c.loop-phase.out
-  next = as_next c.args.phases.now c.loop-phase.phase-index c.phase-item.result c.as_slice.result.now c.loop-phase-test.true c.phase-item.is c.as_slice.ensures (c.loop-phase.invariant.far f at room)
+  next : AfterPhases c.args.region.now s (map ops_of c.args.phases.now) c.loop-phase.phase-index (c.as_slice.result.now ∷ rest) c.loop-phase.team c.loop-phase.out
+  next = as_next c.args.phases.now c.loop-phase.phase-index c.phase-item.result c.as_slice.result.now c.loop-phase-test.true c.phase-item.is c.as_slice.ensures (c.loop-phase.invariant.far s at room)
 
-  begun : BeforePhase c.args.region.now f (map ops_of c.args.phases.now) c.loop-phase.phase-index c.as_slice.result.now rest c.loop-phase.team c.if-number-gt-UNMARKED.out
+  begun : BeforePhase c.args.region.now s (map ops_of c.args.phases.now) c.loop-phase.phase-index c.as_slice.result.now rest c.loop-phase.team c.if-number-gt-UNMARKED.out
   begun =
       let count = c.loop-phase.invariant.count in
       elim c.if-number-gt-UNMARKED.branch [
@@ -56,9 +55,9 @@ pub loop-phase-preserved : goal.loop-phase-preserved
 loop-phase-preserved g c =
     let d = (goal.at.loop-phase-preserved g c).After-as_slice in
     record {
-      far = λ f at room.
-          let before = begun g d f at room in
-          phase_ends before (c.perform_phase-team.ensures.done f (rest g d f at room) (length (rest g d f at room) + 1) before.p before.at);
+      far = λ s at room.
+          let before = begun g d s at room in
+          phase_ends before (c.perform_phase-team.ensures.done s (rest g d s at room) (length (rest g d s at room) + 1) before.p before.at);
       count = ap (λ (n : ℕ). n + 1) c.loop-phase.invariant.count;
     }
 
@@ -68,9 +67,9 @@ push-requires-2 g c =
     spare_for_close (as_last c.args.phases.now c.loop-phase.phase-index c.loop-phase-test.false (c.loop-phase.invariant.far st.0 st.1 st.2))
 
 -- before the stops: the mark of the close was written
-closing : (g : Over) (c : After-push-2 g) (f : Profile) → TeamAt c.args.region.now f (map ops_of c.args.phases.now) c.args.team at_start → HasRoom f (map ops_of c.args.phases.now) (length c.args.phases.now + 1) c.args.out.now at_start
-    → BeforeClose c.args.region.now f (map ops_of c.args.phases.now) c.loop-phase.team c.push-2.new.self
-closing g c f at room = close_begins (as_last c.args.phases.now c.loop-phase.phase-index c.loop-phase-test.false (c.loop-phase.invariant.far f at room)) c.push-2.ensures.added c.push-2.ensures.size
+closing : (g : Over) (c : After-push-2 g) (s : Session) → TeamAt c.args.region.now s (map ops_of c.args.phases.now) c.args.team at_start → HasRoom s (map ops_of c.args.phases.now) (length c.args.phases.now + 1) c.args.out.now at_start
+    → BeforeClose c.args.region.now s (map ops_of c.args.phases.now) c.loop-phase.team c.push-2.new.self
+closing g c s at room = close_begins (as_last c.args.phases.now c.loop-phase.phase-index c.loop-phase-test.false (c.loop-phase.invariant.far s at room)) c.push-2.ensures.added c.push-2.ensures.size
 
 pub finish-requires : goal.finish-requires
 finish-requires g c =
@@ -80,7 +79,7 @@ finish-requires g c =
 
 pub returns : goal.returns
 returns g c = record {
-  replayed = λ f at room.
-      let before = closing g (goal.at.returns g c).After-push-2 f at room in
-      close_ends before (c.finish.ensures.done f before.p before.team_at before.marked before.room);
+  replayed = λ s at room.
+      let before = closing g (goal.at.returns g c).After-push-2 s at room in
+      close_ends before (c.finish.ensures.done s before.p before.team_at before.marked before.room);
 }

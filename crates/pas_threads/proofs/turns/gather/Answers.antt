@@ -2,7 +2,7 @@ use Rattle.std.proofs.Common.{◌∙◌, ◌+◌, ◌++◌, List, length, drop, 
 use Rattle.pas_report.specs.Rooms.{records_in}
 use Rattle.pas_report.specs.declared.record.Record.{Record}
 use Rattle.pas_threads.specs.Turns.{said_by_all}
-use Rattle.pas_threads.proofs.Gathering.{gather_begins, next_said, gather_goes_on, gather_ends}
+use Rattle.pas_threads.proofs.TakingTurns.{gather_begins, next_said, gather_goes_on, gather_ends}
 use Rattle.pas_threads.proofs.turns.gather.Goals as goal
 
 pub loop-place-init : goal.loop-place-init

@@ -1,7 +1,7 @@
 -- the workers before this place are gathered
 use Rattle.std.proofs.Common.{◌≡◌}
 use Rattle.pas_report.specs.Rooms.{records_in, room_of}
-use Rattle.pas_threads.proofs.Gathering.{AreGathered}
+use Rattle.pas_threads.proofs.TakingTurns.{AreGathered}
 use Rattle.pas_threads.proofs.turns.gather.Given as goal
 
 abbrev pub invariant-loop-place : goal.invariant-loop-place

@@ -1,6 +1,6 @@
 use Rattle.std.proofs.Common.{suc}
 use Rattle.pas_threads.specs.Sessions.{evenly}
-use Rattle.pas_threads.proofs.ThreadTurns.{ends_begin, ends_go_on, ends_end}
+use Rattle.pas_threads.proofs.TakingTurns.{ends_begin, ends_go_on, ends_end}
 use Rattle.pas_threads.proofs.turns.stop_all.Goals as goal
 
 pub loop-index-init : goal.loop-index-init

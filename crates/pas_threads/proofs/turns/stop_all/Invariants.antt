@@ -3,7 +3,7 @@ use Rattle.std.proofs.Common.{ℕ}
 use Rattle.pas_profile.specs.declared.profile.Profile.{Profile}
 use Rattle.pas_answers.specs.Answers.{Progress}
 use Rattle.pas_threads.specs.Sessions.{AreResting}
-use Rattle.pas_threads.proofs.ThreadTurns.{EndedSoFar}
+use Rattle.pas_threads.proofs.TakingTurns.{EndedSoFar}
 use Rattle.pas_threads.proofs.turns.stop_all.Given as goal
 
 abbrev pub invariant-loop-index : goal.invariant-loop-index

@@ -1,7 +1,7 @@
 use Rattle.std.proofs.Common.{◌≡◌, ◌+◌, ◌∙◌, suc, true, false, sym}
 use Rattle.pas_bits.specs.Masks.{is_set}
 use Rattle.pas_threads.specs.Sessions.{evenly}
-use Rattle.pas_threads.proofs.ThreadTurns.{wakes_begin, wakes_go_on, wakes_pass, wakes_end}
+use Rattle.pas_threads.proofs.TakingTurns.{wakes_begin, wakes_go_on, wakes_pass, wakes_end}
 use Rattle.pas_threads.proofs.turns.wake_all.Goals as goal
 use Rattle.pas_threads.proofs.turns.wake_all.Goals.{then-get, else-get}
 

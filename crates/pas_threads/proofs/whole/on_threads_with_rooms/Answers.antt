@@ -3,8 +3,7 @@ use Rattle.std.proofs.lemmas.List.{length-map}
 use Rattle.pas_trace.specs.Plans.{ops_of}
 use Rattle.pas_trace.specs.declared.plan.Phase.{Phase}
 use Rattle.pas_plans.proofs.PlanFacts.{plan_phases, plan_valid}
-use Rattle.pas_threads.proofs.Starting.{handed}
-use Rattle.pas_threads.proofs.Ending.{all_back, all_of_region, shows, replayed_so}
+use Rattle.pas_threads.proofs.StartAndEnd.{session_of, handed, all_back, all_of_region, shows, replayed_so}
 use Rattle.pas_threads.proofs.whole.on_threads_with_rooms.Goals as goal
 
 pub replay-team-requires-clause-phases : goal.replay-team-requires-clause-phases
@@ -18,27 +17,27 @@ replay-team-requires-clause-phases g c =
 pub replay-team-requires-clause-stands : goal.replay-team-requires-clause-stands
 replay-team-requires-clause-stands g c =
     let start = handed c.args.out.now c.as_slice.result.now c.requires.plan.2 c.requires.kit c.as_slice.ensures c.requires.empty c.requires.room in
-    λ lifetimes outlive. (c.args.plan.now.profile, start.0, start.1)
+    λ lifetimes outlive. (session_of c.args.plan.now, start.0, start.1)
 
 pub passes_of-passes-requires-clause-places : goal.passes_of-passes-requires-clause-places
 passes_of-passes-requires-clause-places g c =
     let start = handed c.args.out.now c.as_slice.result.now c.requires.plan.2 c.requires.kit c.as_slice.ensures c.requires.empty c.requires.room in
-    let many = (c.replay-team.ensures.replayed c.args.plan.now.profile start.0 start.1).stands.many in
+    let many = (c.replay-team.ensures.replayed (session_of c.args.plan.now) start.0 start.1).stands.many in
     let place = c.requires.kit.place in
     omega (arith, many, place)
 
 pub passes_of-passes-requires-clause-back : goal.passes_of-passes-requires-clause-back
 passes_of-passes-requires-clause-back g c =
     let start = handed c.args.out.now c.as_slice.result.now c.requires.plan.2 c.requires.kit c.as_slice.ensures c.requires.empty c.requires.room in
-    all_back (c.replay-team.ensures.replayed c.args.plan.now.profile start.0 start.1).stands
+    all_back (c.replay-team.ensures.replayed (session_of c.args.plan.now) start.0 start.1).stands
 
 pub close-requires : goal.close-requires
 close-requires g c =
     let start = handed c.args.out.now c.as_slice.result.now c.requires.plan.2 c.requires.kit c.as_slice.ensures c.requires.empty c.requires.room in
-    all_of_region (c.replay-team.ensures.replayed c.args.plan.now.profile start.0 start.1).stands c.passes_of-passes.result.items c.passes_of-passes.ensures
+    all_of_region (c.replay-team.ensures.replayed (session_of c.args.plan.now) start.0 start.1).stands c.passes_of-passes.result.items c.passes_of-passes.ensures
 
 pub returns : goal.returns
 returns g c =
     let start = handed c.args.out.now c.as_slice.result.now c.requires.plan.2 c.requires.kit c.as_slice.ensures c.requires.empty c.requires.room in
-    let replayed = replayed_so c.args.plan.now c.as_slice.result.now c.as_slice.ensures (c.replay-team.ensures.replayed c.args.plan.now.profile start.0 start.1) in
+    let replayed = replayed_so c.args.plan.now c.as_slice.result.now c.as_slice.ensures (c.replay-team.ensures.replayed (session_of c.args.plan.now) start.0 start.1) in
     shows {plan = c.args.plan.now} c.passes_of-passes.result.items (plan_valid c.requires.plan.2) c.requires.kit.profile replayed c.passes_of-passes.ensures c.close.ensures

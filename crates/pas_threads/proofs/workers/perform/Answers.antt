@@ -1,7 +1,7 @@
 use Rattle.std.proofs.Common.{◌∙◌, [], Some, ap, sym, subst}
 use Rattle.pas_shared.specs.Passes.{IsPassOf}
 use Rattle.pas_shared.specs.declared.region.SharedRegion.{SharedRegion}
-use Rattle.pas_answers.specs.Acts.{own_acts}
+use Rattle.pas_trace.specs.Acts.{own_acts}
 use Rattle.pas_acts.specs.Works.{ThreadAt, Works}
 use Rattle.pas_threads.specs.Hands.{kept_by}
 use Rattle.pas_threads.proofs.Sitting.{seated, rose, own_seat, worked}

@@ -2,7 +2,7 @@ use Rattle.std.proofs.Common.{◌∙◌, [], ◌∷◌, Some, refl, ap, sym, sub
 use Rattle.pas_cache.specs.Caches.{cached}
 use Rattle.pas_shared.specs.Passes.{IsPassOf}
 use Rattle.pas_shared.specs.declared.region.SharedRegion.{SharedRegion}
-use Rattle.pas_answers.specs.Acts.{StopsIdle}
+use Rattle.pas_trace.specs.Acts.{StopsIdle}
 use Rattle.pas_acts.specs.AtDesks.{here, told_if, ThreadActs}
 use Rattle.pas_acts.specs.Turns.{RestsAt}
 use Rattle.pas_threads.proofs.Sitting.{seated, rose}
@@ -24,10 +24,12 @@ returns c = record {
       let did = c.stop_and_tell.ensures.stops f k later p (seated (λ σ. RestsAt f k σ (cached old.cache) old.out later p) pass is at.has at.rests) read in
       record {
         stopped = did.0;
-        did = rose (λ σ σ'. ThreadActs f k (StopsIdle k c.args.epochs ∷ []) [] (told_if did.0 k) (here σ (cached old.cache) old.out) (here σ' (cached c.stop_and_tell.new.cache) c.stop_and_tell.new.own) later p)
-            pass c.stop_and_tell.new.desk.pass c.into_pass.result is at.has c.into_pass.ensures.pass
-            (subst (λ (r : SharedRegion). IsPassOf r c.into_pass.result) (c.stop_and_tell.ensures.home ∙ c.desk-desk.ensures.region) c.into_pass.ensures.of) did.1;
+        turn = record {
+          did = rose (λ σ σ'. ThreadActs f k (StopsIdle k c.args.epochs ∷ []) [] (told_if did.0 k) (here σ (cached old.cache) old.out) (here σ' (cached c.stop_and_tell.new.cache) c.stop_and_tell.new.own) later p)
+              pass c.stop_and_tell.new.desk.pass c.into_pass.result is at.has c.into_pass.ensures.pass
+              (subst (λ (r : SharedRegion). IsPassOf r c.into_pass.result) (c.stop_and_tell.ensures.home ∙ c.desk-desk.ensures.region) c.into_pass.ensures.of) did.1;
+          requests = refl;
+        };
         told = did.2;
-        requests = refl;
       };
 }
