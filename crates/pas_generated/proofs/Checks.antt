@@ -6,7 +6,9 @@ use Rattle.pas_trace.specs.Reasons.{first_failed, is_thread, is_alignment, is_na
 use Rattle.pas_trace.specs.declared.fault.Reason.{Reason}
 use Rattle.pas_trace.proofs.Costs.{small_cost, large_cost}
 use Rattle.pas_trace.specs.declared.item.Item.{Item}
-use Rattle.pas_trace.specs.declared.item.Item.TheVariants.{Allocates, Frees, Ticks, Passes}
+use Rattle.pas_trace.specs.declared.item.Item.TheVariants.{Operates, Scavenges}
+use Rattle.pas_trace.specs.declared.item.Wish.TheVariants.{Asks, Frees}
+use Rattle.pas_trace.specs.declared.plan.Chore.{Chore}
 use Rattle.pas_generate.specs.Traces.{IsJob}
 use Rattle.pas_generated.specs.Meant.{region}
 
@@ -34,7 +36,7 @@ request-cost size within = elim (cases_lt 2048 size) [
 ]
 
 few : (ops threads pages n : ℕ) (items : List Item) (i : Item) → IsJob ops threads pages → n < ops → Counted pages threads n items → cost_of (region pages threads) i ≤ 4097
-    → AreHeld (few_enough (region pages threads) items i)
+    → AreHeld (few_enough (operations_in items) (record_bound (region pages threads) (i ∷ items)))
 few ops threads pages n items i job more counted small =
     let operations : operations_in items ≡ n = counted.operations in
     let costs : costs_of (region pages threads) items ≤ 3 * n + 4096 * (n / 1000) = counted.costs in
@@ -43,13 +45,13 @@ few ops threads pages n items i job more counted small =
     (lt-ltb (operations_in items) 1000000 (omega arith), (le-leb (record_bound (region pages threads) (i ∷ items)) 2000000 (omega arith), tt))
 
 -- ---- ticks and passes
-pub tick-fine : (ops threads pages n : ℕ) (items : List Item) (epoch : ℕ) → IsJob ops threads pages → n < ops → Counted pages threads n items → reason_of (region pages threads) items (Ticks epoch) ≡ None
+pub tick-fine : (ops threads pages n : ℕ) (items : List Item) (epoch : ℕ) → IsJob ops threads pages → n < ops → Counted pages threads n items → reason_of (region pages threads) items (Scavenges (Chore.Tick epoch)) ≡ None
 tick-fine ops threads pages n items epoch job more counted =
-    none-failed (checks_of (region pages threads) items (Ticks epoch)) (few ops threads pages n items (Ticks epoch) job more counted (omega arith))
+    none-failed (checks_of (region pages threads) items (Scavenges (Chore.Tick epoch))) (few ops threads pages n items (Scavenges (Chore.Tick epoch)) job more counted (omega arith))
 
-pub pass-fine : (ops threads pages n : ℕ) (items : List Item) → IsJob ops threads pages → n < ops → Counted pages threads n items → reason_of (region pages threads) items Passes ≡ None
+pub pass-fine : (ops threads pages n : ℕ) (items : List Item) → IsJob ops threads pages → n < ops → Counted pages threads n items → reason_of (region pages threads) items (Scavenges Chore.Pass) ≡ None
 pass-fine ops threads pages n items job more counted =
-    none-failed (checks_of (region pages threads) items Passes) (few ops threads pages n items Passes job more counted (let most : pages ≤ 4096 = job.pages_most in omega arith))
+    none-failed (checks_of (region pages threads) items (Scavenges Chore.Pass)) (few ops threads pages n items (Scavenges Chore.Pass) job more counted (let most : pages ≤ 4096 = job.pages_most in omega arith))
 
 -- ---- allocations
 pub thread-fine : (pages threads t : ℕ) → 1 ≤ t → t ≤ threads → is_thread (region pages threads) t ≡ true
@@ -70,11 +72,11 @@ pub record IsRequested (threads t name heap size align : ℕ) (items : List Item
   pub fresh : is_named items name ≡ false
 
 pub allocation-fine : (ops threads pages n : ℕ) (items : List Item) (t name heap size align : ℕ) → IsJob ops threads pages → n < ops → Counted pages threads n items → IsRequested threads t name heap size align items
-    → reason_of (region pages threads) items (Allocates t record { name = name; heap = heap; size = size; align = align }) ≡ None
+    → reason_of (region pages threads) items (Operates t (Asks name heap size align)) ≡ None
 allocation-fine ops threads pages n items t name heap size align job more counted r =
     let cost : cost_of_size size ≤ 3 = request-cost size r.small in
     let within : size ≤ 4096 * pages = let most : size ≤ 8192 = r.small in let some : 2 ≤ pages = job.two_pages in omega arith in
-    none-failed (checks_of (region pages threads) items (Allocates t record { name = name; heap = heap; size = size; align = align })) (
+    none-failed (checks_of (region pages threads) items (Operates t (Asks name heap size align))) (
       thread-fine pages threads t r.some_thread r.thread_within,
       (
         lt-ltb heap 6 r.known_heap,
@@ -84,7 +86,7 @@ allocation-fine ops threads pages n items t name heap size align job more counte
             align-fine align r.aligned,
             (
               ap not r.fresh,
-              few ops threads pages n items (Allocates t record { name = name; heap = heap; size = size; align = align }) job more counted (omega (arith, cost)),
+              (refl, (refl, few ops threads pages n items (Operates t (Asks name heap size align)) job more counted (omega (arith, cost)))),
             ),
           ),
         ),
@@ -93,7 +95,7 @@ allocation-fine ops threads pages n items t name heap size align job more counte
 
 -- ---- frees
 pub free-fine : (ops threads pages n : ℕ) (items : List Item) (t name : ℕ) → IsJob ops threads pages → n < ops → Counted pages threads n items → 1 ≤ t → t ≤ threads → is_named items name ≡ true
-    → ((t == thread_of items name) || not (is_named_now items name)) ≡ true → reason_of (region pages threads) items (Frees t name) ≡ None
+    → ((t == thread_of items name) || not (is_named_now items name)) ≡ true → reason_of (region pages threads) items (Operates t (Frees name)) ≡ None
 free-fine ops threads pages n items t name job more counted lo hi named early =
-    none-failed (checks_of (region pages threads) items (Frees t name))
-    (thread-fine pages threads t lo hi, (named, (early, few ops threads pages n items (Frees t name) job more counted (omega arith))))
+    none-failed (checks_of (region pages threads) items (Operates t (Frees name)))
+    (thread-fine pages threads t lo hi, (refl, (refl, (refl, (refl, (named, (early, few ops threads pages n items (Operates t (Frees name)) job more counted (omega arith))))))))

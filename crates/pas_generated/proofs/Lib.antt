@@ -1,10 +1,10 @@
 pub mod Digits
-pub mod Splits
-pub mod Says
-pub mod Headers
-pub mod Reading
-pub mod Checks
-pub mod Listed
-pub mod Steps
-pub mod Whole
-pub mod Plans
+mod Splits
+mod Says
+mod Headers
+mod Reading
+mod Checks
+mod Listed
+mod Steps
+mod Whole
+mod Plans

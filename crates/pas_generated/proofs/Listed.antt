@@ -2,10 +2,11 @@
 use Rattle.std.proofs.Common.{◌≡◌, ◌≢◌, ℕ, ◌+◌, ◌-◌, ◌<◌, ◌≤◌, ◌==◌, nat_eq, Bool, true, false, not, ◌||◌, if◌then◌else◌, List, [], ◌∷◌, ◌++◌, length, set, get_or, All, swap_remove, inl, inr, refl, sym, ap, ◌∙◌, arith}
 use Rattle.std.proofs.lemmas.Bool.{eq-eqb, ne_eqb, cases_eq}
 use Rattle.std.proofs.lemmas.List.Elements.{All-push, All-take, All-set, All-get_or, All-weaker}
-use Rattle.pas_trace.specs.Reasons.{allocates, is_phase, is_named, is_named_now, thread_of, actor_of}
+use Rattle.pas_trace.specs.Wishes.{name_made, is_name}
+use Rattle.pas_trace.specs.Reasons.{makes, is_phase, is_named, is_named_now, thread_of, actor_of}
 use Rattle.pas_trace.specs.declared.item.Item.{Item}
-use Rattle.pas_trace.specs.declared.item.Item.TheVariants.{Allocates, NextPhase}
-use Rattle.pas_trace.specs.declared.item.Request.{Request}
+use Rattle.pas_trace.specs.declared.item.Item.TheVariants.{NextPhase, Operates}
+use Rattle.pas_trace.specs.declared.item.Wish.{Wish}
 
 -- The name was asked for before the next one, by the thread; and if in the present phase, then at this one.
 pub record IsListed (threads phase next : ℕ) (items : List Item) (name thread at : ℕ) : Type 0 where
@@ -17,8 +18,8 @@ pub record IsListed (threads phase next : ℕ) (items : List Item) (name thread 
   pub thread_within : thread ≤ threads
   pub now : is_named_now items name ≡ true → at ≡ phase
 
--- an item that doesn't allocate the name and begins no phase changes nothing
-pub listed-past : (threads phase next more : ℕ) (items : List Item) (i : Item) (name thread at : ℕ) → next ≤ more → allocates i name ≡ false → is_phase i ≡ false → IsListed threads phase next items name thread at
+-- an item that doesn't make the name and begins no phase changes nothing
+pub listed-past : (threads phase next more : ℕ) (items : List Item) (i : Item) (name thread at : ℕ) → next ≤ more → makes i name ≡ false → is_phase i ≡ false → IsListed threads phase next items name thread at
     → IsListed threads phase more (i ∷ items) name thread at
 listed-past threads phase next more items i name thread at le other same h = record {
   some_name = h.some_name;
@@ -27,7 +28,7 @@ listed-past threads phase next more items i name thread at le other same h = rec
   thread_is = ap (λ (t : Bool). if t then actor_of i else thread_of items name) other ∙ h.thread_is;
   some_thread = h.some_thread;
   thread_within = h.thread_within;
-  now = λ e. h.now (sym (ap (λ (p : Bool). if p then false else (allocates i name || is_named_now items name)) same ∙ ap (λ (t : Bool). t || is_named_now items name) other) ∙ e);
+  now = λ e. h.now (sym (ap (λ (p : Bool). if p then false else (makes i name || is_named_now items name)) same ∙ ap (λ (t : Bool). t || is_named_now items name) other) ∙ e);
 }
 
 -- in a new phase there is no name yet
@@ -43,18 +44,16 @@ listed-next threads phase next items name thread at h = record {
 }
 
 -- the name that is asked for
-pub listed-new : (threads phase next : ℕ) (items : List Item) (t : ℕ) (q : Request) → q.name ≡ next → 1 ≤ next → 1 ≤ t → t ≤ threads → IsListed threads phase (next + 1) (Allocates t q ∷ items) next t phase
-listed-new threads phase next items t q is some lo hi =
-    let same : (q.name == next) ≡ true = eq-eqb q.name next is in
-    record {
-      some_name = some;
-      before = omega arith;
-      named = ap (λ (b : Bool). b || is_named items next) same;
-      thread_is = ap (λ (b : Bool). if b then t else thread_of items next) same;
-      some_thread = lo;
-      thread_within = hi;
-      now = λ e. refl;
-    }
+pub listed-new : (threads phase next : ℕ) (items : List Item) (t : ℕ) (w : Wish) → is_name (name_made w) next ≡ true → 1 ≤ next → 1 ≤ t → t ≤ threads → IsListed threads phase (next + 1) (Operates t w ∷ items) next t phase
+listed-new threads phase next items t w same some lo hi = record {
+  some_name = some;
+  before = omega arith;
+  named = ap (λ (b : Bool). b || is_named items next) same;
+  thread_is = ap (λ (b : Bool). if b then t else thread_of items next) same;
+  some_thread = lo;
+  thread_within = hi;
+  now = λ e. refl;
+}
 
 -- ---- the thread that frees it
 -- the thread is of the region, and no free comes too early

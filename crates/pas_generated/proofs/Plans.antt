@@ -1,14 +1,15 @@
 -- The plan of a text that is read, made of its items.
-use Rattle.std.proofs.Common.{◌≡◌, ℕ, zero, suc, ◌+◌, ◌^◌, ◌<◌, ◌≤◌, ◌||◌, Bool, true, inl, inr, List, [], ◌∷◌, ◌++◌, map, length, Some, Ok, refl, ap, sym, ◌∙◌, subst, arith, length-append}
+use Rattle.std.proofs.Common.{◌≡◌, ℕ, zero, suc, ◌+◌, ◌^◌, ◌<◌, ◌≤◌, ◌||◌, Bool, true, inl, inr, List, [], ◌∷◌, ◌++◌, map, length, Option, None, Some, Ok, refl, ap, sym, ◌∙◌, subst, arith, length-append}
 use Rattle.std.specs.Global.{Global, Vec}
 use Rattle.std.proofs.lemmas.Bool.{cases_eq, ne_eqb, false≢true}
 use Rattle.std.proofs.lemmas.List.{length-map}
 use denote.RawPtr.{null_ptr}
 use Rattle.pas_profile.specs.declared.profile.Profile.{Profile}
+use Rattle.pas_trace.specs.Wishes.{name_made, is_name}
 use Rattle.pas_trace.specs.Reasons.{is_named, record_bound}
 use Rattle.pas_trace.specs.Plans.{parsed, shared_in, add_last, line_of_newest, phases_after, phases_in, bound_of, bounds_upto, ops_of, IsPlanOf}
 use Rattle.pas_trace.specs.declared.item.Item.{Item}
-use Rattle.pas_trace.specs.declared.item.Item.TheVariants.{Blank, Shares, NextPhase, Allocates, Frees, FreesRaw, Flushes, Stops, Ticks, Passes, Idles}
+use Rattle.pas_trace.specs.declared.item.Item.TheVariants.{Blank, Shares, NextPhase, Operates, Scavenges}
 use Rattle.pas_trace.specs.declared.plan.Op.{Op}
 use Rattle.pas_trace.specs.declared.plan.Phase.{Phase}
 use Rattle.pas_trace.specs.declared.plan.Plan.{Plan}
@@ -40,14 +41,8 @@ most-after : (n line : ℕ) (i : Item) (ps : List (List Op)) → AtMost n ps →
 most-after n line Blank ps h = most-more n ps h
 most-after n line (Shares a) ps h = most-more n ps h
 most-after n line NextPhase ps h = most-next n ps h
-most-after n line (Allocates t q) ps h = most-add n _ ps h
-most-after n line (Frees t a) ps h = most-add n _ ps h
-most-after n line (FreesRaw t a b) ps h = most-add n _ ps h
-most-after n line (Flushes t) ps h = most-add n _ ps h
-most-after n line (Stops t) ps h = most-add n _ ps h
-most-after n line (Ticks e) ps h = most-add n _ ps h
-most-after n line Passes ps h = most-add n _ ps h
-most-after n line (Idles a) ps h = most-add n _ ps h
+most-after n line (Operates t w) ps h = most-add n _ ps h
+most-after n line (Scavenges c) ps h = most-add n _ ps h
 
 most-in : (items : List Item) → AtMost (length items) (phases_in items)
 most-in [] = (omega arith, tt)
@@ -65,14 +60,8 @@ few-after : (line : ℕ) (i : Item) (ps : List (List Op)) → length (phases_aft
 few-after line Blank ps = omega arith
 few-after line (Shares a) ps = omega arith
 few-after line NextPhase ps = omega (arith, length-append ps ([] ∷ []))
-few-after line (Allocates t q) ps = add-few _ ps
-few-after line (Frees t a) ps = add-few _ ps
-few-after line (FreesRaw t a b) ps = add-few _ ps
-few-after line (Flushes t) ps = add-few _ ps
-few-after line (Stops t) ps = add-few _ ps
-few-after line (Ticks e) ps = add-few _ ps
-few-after line Passes ps = add-few _ ps
-few-after line (Idles a) ps = add-few _ ps
+few-after line (Operates t w) ps = add-few _ ps
+few-after line (Scavenges c) ps = add-few _ ps
 
 few-in : (items : List Item) → length (phases_in items) ≤ length items + 1
 few-in [] = omega arith
@@ -94,17 +83,25 @@ bounds-count f items zero = refl
 bounds-count f items (suc n) = omega (arith, bounds-count f items n, length-append (bounds_upto f items n) (bound_of f items n ∷ []))
 
 -- ---- a number above all names
+abbrev above : Option ℕ → ℕ
+above None = 0
+above (Some n) = n + 1
+
 abbrev limit_in : List Item → ℕ
 limit_in [] = 0
-limit_in (Allocates t q ∷ items) = limit_in items + q.name + 1
+limit_in (Operates t w ∷ items) = limit_in items + above (name_made w)
 limit_in (i ∷ items) = limit_in items
+
+below_more : (made : Option ℕ) (named : Bool) (n limit : ℕ) → is_name made n || named ≡ true → (named ≡ true → n < limit) → n < limit + above made
+below_more None named n limit is before = let lt = before is in omega (arith, lt)
+below_more (Some m) named n limit is before = elim (cases_eq m n) [
+  | inl same ↦ omega (arith, same)
+  | inr other ↦ let lt = before (sym (ap (λ (t : Bool). t || named) (ne_eqb m n other)) ∙ is) in omega (arith, lt)
+]
 
 named_below : (items : List Item) (n : ℕ) → is_named items n ≡ true → n < limit_in items
 named_below [] n is = absurd (false≢true is)
-named_below (Allocates t q ∷ items) n is = elim (cases_eq q.name n) [
-  | inl same ↦ omega (arith, same)
-  | inr other ↦ let before = named_below items n (sym (ap (λ (t : Bool). t || is_named items n) (ne_eqb q.name n other)) ∙ is) in omega (arith, before)
-]
+named_below (Operates t w ∷ items) n is = below_more (name_made w) (is_named items n) n (limit_in items) is (named_below items n)
 named_below (i ∷ items) n is = named_below items n is
 
 -- ---- the plan

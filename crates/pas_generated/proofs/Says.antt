@@ -5,7 +5,9 @@ use Rattle.std.proofs.lemmas.Bool.{le-leb, lt-ltb, ne_eqb}
 use Rattle.pas_trace.specs.Texts.{words_of}
 use Rattle.pas_trace.specs.Items.{below, from_one, trace_name, epoch_word, item1, item2, item5, item_of_words, item_of_line}
 use Rattle.pas_trace.specs.declared.item.Item.{Item}
-use Rattle.pas_trace.specs.declared.item.Item.TheVariants.{Allocates, Frees, Ticks}
+use Rattle.pas_trace.specs.declared.item.Item.TheVariants.{Operates, Scavenges}
+use Rattle.pas_trace.specs.declared.item.Wish.TheVariants.{Asks, Frees}
+use Rattle.pas_trace.specs.declared.plan.Chore.{Chore}
 use Rattle.pas_generate.specs.Lines.{free_line, tick_line}
 use Rattle.pas_generated.proofs.Digits.{number-back}
 use Rattle.pas_generated.proofs.Splits.{Lacks, IsWord, IsLine, decimal-word, word-by, last-word, word-before}
@@ -58,7 +60,7 @@ pub record IsWritten (thread name heap size align : ℕ) : Type 0 where
   pub align_fits : align < 2 ^ 64
 
 pub allocation-says : (t n h s a : ℕ) → IsWritten t n h s a
-    → Says (97 ∷ 32 ∷ (decimal t ++ 32 ∷ (decimal n ++ 32 ∷ (decimal h ++ 32 ∷ (decimal s ++ 32 ∷ (decimal a ++ 10 ∷ [])))))) (Allocates t record { name = n; heap = h; size = s; align = a })
+    → Says (97 ∷ 32 ∷ (decimal t ++ 32 ∷ (decimal n ++ 32 ∷ (decimal h ++ 32 ∷ (decimal s ++ 32 ∷ (decimal a ++ 10 ∷ [])))))) (Operates t (Asks n h s a))
 allocation-says t n h s a w =
     let tw = decimal-word t w.thread_fits in
     let nw = decimal-word n (let fits : n ≤ 1000000 = w.name_fits in omega arith) in
@@ -68,16 +70,16 @@ allocation-says t n h s a w =
     line-says 97 (32 ∷ (decimal t ++ 32 ∷ (decimal n ++ 32 ∷ (decimal h ++ 32 ∷ (decimal s ++ 32 ∷ (decimal a ++ 10 ∷ []))))))
     ((97 ∷ []) ∷ decimal t ∷ decimal n ∷ decimal h ∷ decimal s ∷ decimal a ∷ []) _ (lit< tt)
     (word-before (97 ∷ []) _ _ [] (letter 97 (lit< tt)) (word-before (decimal t) _ _ [] tw (word-before (decimal n) _ _ [] nw (word-before (decimal h) _ _ [] hw (word-before (decimal s) _ _ [] sw (last-word (decimal a) [] aw))))))
-    (λ started i. item5 (λ t n h s a. Allocates t record { name = n; heap = h; size = s; align = a }) (number-back t w.thread_fits i) (name-fits n w.some_name w.name_fits i) (number-back h w.heap_fits i) (number-back s w.size_fits i) (number-back a w.align_fits i))
+    (λ started i. item5 (λ t n h s a. Operates t (Asks n h s a)) (number-back t w.thread_fits i) (name-fits n w.some_name w.name_fits i) (number-back h w.heap_fits i) (number-back s w.size_fits i) (number-back a w.align_fits i))
 
-pub free-says : (t n : ℕ) → t < 2 ^ 64 → 1 ≤ n → n ≤ 1000000 → Says (free_line t n) (Frees t n)
+pub free-says : (t n : ℕ) → t < 2 ^ 64 → 1 ≤ n → n ≤ 1000000 → Says (free_line t n) (Operates t (Frees n))
 free-says t n small lo hi =
     line-says 102 (32 ∷ (decimal t ++ 32 ∷ (decimal n ++ 10 ∷ []))) ((102 ∷ []) ∷ decimal t ∷ decimal n ∷ []) _ (lit< tt)
     (word-before (102 ∷ []) _ _ [] (letter 102 (lit< tt)) (word-before (decimal t) _ _ [] (decimal-word t small) (last-word (decimal n) [] (decimal-word n (omega arith)))))
-    (λ started i. item2 Frees (number-back t small i) (name-fits n lo hi i))
+    (λ started i. item2 (λ t n. Operates t (Frees n)) (number-back t small i) (name-fits n lo hi i))
 
-pub tick-says : (n : ℕ) → n < 2 ^ 40 → Says (tick_line n) (Ticks n)
+pub tick-says : (n : ℕ) → n < 2 ^ 40 → Says (tick_line n) (Scavenges (Chore.Tick n))
 tick-says n small =
     line-says 116 (105 ∷ 99 ∷ 107 ∷ 32 ∷ (decimal n ++ 10 ∷ [])) (codes "tick" ∷ decimal n ∷ []) _ (lit< tt)
     (word-before (codes "tick") _ _ [] (word-by (codes "tick") refl refl refl) (last-word (decimal n) [] (decimal-word n (omega arith))))
-    (λ started i. item1 Ticks (epoch-fits n small i))
+    (λ started i. item1 (λ e. Scavenges (Chore.Tick e)) (epoch-fits n small i))

@@ -1,10 +1,12 @@
 -- One operation more: its lines are read, and what is kept between two operations holds again.
 use Rattle.std.proofs.Common.{◌≡◌, ◌⊎◌, ℕ, zero, suc, ◌+◌, ◌*◌, ◌/◌, ◌%◌, ◌^◌, ◌<◌, ◌≤◌, nat_eq, nat_lt, Bool, true, false, ◌||◌, List, ◌∷◌, length, codes, inl, inr, refl, ap, ◌∙◌, arith}
 use Rattle.std.proofs.Math.Nat.{mod-lt}
-use Rattle.std.proofs.lemmas.Bool.{ne_eqb}
+use Rattle.std.proofs.lemmas.Bool.{eq-eqb, ne_eqb}
 use Rattle.pas_trace.specs.Reasons.{is_named, operations_in, cost_of, costs_of, kept}
 use Rattle.pas_trace.specs.declared.item.Item.{Item}
-use Rattle.pas_trace.specs.declared.item.Item.TheVariants.{Allocates, Frees, Ticks, Passes, NextPhase}
+use Rattle.pas_trace.specs.declared.item.Item.TheVariants.{NextPhase, Operates, Scavenges}
+use Rattle.pas_trace.specs.declared.item.Wish.TheVariants.{Asks, Frees}
+use Rattle.pas_trace.specs.declared.plan.Chore.{Chore}
 use Rattle.pas_generate.specs.Draws.{drawn, draw, moved_by}
 use Rattle.pas_generate.specs.Requests.{request_from}
 use Rattle.pas_generate.specs.Lines.{line_of, tick_line}
@@ -37,17 +39,17 @@ one-more pages threads n items e = ap (λ k. k + 1) e
 
 -- ---- ticks and passes
 pub tick-step : (ops threads pages n : ℕ) (s : State) (items : List Item) → IsJob ops threads pages → n < ops → Follows pages threads n s items
-    → Step pages threads n items (tick_line ((n + 1) / 1000 + 1)) s (Ticks ((n + 1) / 1000 + 1) ∷ items)
+    → Step pages threads n items (tick_line ((n + 1) / 1000 + 1)) s (Scavenges (Chore.Tick ((n + 1) / 1000 + 1)) ∷ items)
 tick-step ops threads pages n s items job more h =
     let e = (n + 1) / 1000 + 1 in
     let most : ops ≤ 200000 = job.most in
     record {
-      reads = reads-said (region pages threads) items (tick_line e) (Ticks e) (tick-says e (omega arith)) (tick-fine ops threads pages n items e job more h.counted);
+      reads = reads-said (region pages threads) items (tick_line e) (Scavenges (Chore.Tick e)) (tick-says e (omega arith)) (tick-fine ops threads pages n items e job more h.counted);
       follows = record {
         some_name = h.some_name;
         few_names = let few : s.next_name ≤ n + 1 = h.few_names in omega arith;
         fresh = h.fresh;
-        listed = each-weaker s.unfreed _ _ (λ a l. listed-past threads s.phase s.next_name s.next_name items (Ticks e) a.name a.thread a.phase (omega arith) refl refl l) h.listed;
+        listed = each-weaker s.unfreed _ _ (λ a l. listed-past threads s.phase s.next_name s.next_name items (Scavenges (Chore.Tick e)) a.name a.thread a.phase (omega arith) refl refl l) h.listed;
         counted = record {
           operations = one-more pages threads n items h.counted.operations;
           costs = let costs : costs_of (region pages threads) items ≤ 3 * n + 4096 * (n / 1000) = h.counted.costs in omega arith;
@@ -57,20 +59,20 @@ tick-step ops threads pages n s items job more h =
     }
 
 pub pass-step : (ops threads pages n : ℕ) (s : State) (items : List Item) → IsJob ops threads pages → n < ops → (n + 1) % 1000 ≡ 0 → Follows pages threads n s items
-    → Step pages threads n items (codes "pass\nphase\n") (record s { phase = s.phase + 1 }) (NextPhase ∷ Passes ∷ items)
+    → Step pages threads n items (codes "pass\nphase\n") (record s { phase = s.phase + 1 }) (NextPhase ∷ Scavenges Chore.Pass ∷ items)
 pass-step ops threads pages n s items job more turn h =
     let f = region pages threads in
     let most : pages ≤ 4096 = job.pages_most in
     record {
-      reads = reads-both f items (Passes ∷ items) (NextPhase ∷ Passes ∷ items) (codes "pass\n") (codes "phase\n")
-          (reads-line f items (codes "pass") Passes (lacks-by 10 (codes "pass") refl) (ap (kept Passes) (pass-fine ops threads pages n items job more h.counted)))
-          (reads-line f (Passes ∷ items) (codes "phase") NextPhase (lacks-by 10 (codes "phase") refl) refl);
+      reads = reads-both f items (Scavenges Chore.Pass ∷ items) (NextPhase ∷ Scavenges Chore.Pass ∷ items) (codes "pass\n") (codes "phase\n")
+          (reads-line f items (codes "pass") (Scavenges Chore.Pass) (lacks-by 10 (codes "pass") refl) (ap (kept (Scavenges Chore.Pass)) (pass-fine ops threads pages n items job more h.counted)))
+          (reads-line f (Scavenges Chore.Pass ∷ items) (codes "phase") NextPhase (lacks-by 10 (codes "phase") refl) refl);
       follows = record {
         some_name = h.some_name;
         few_names = let few : s.next_name ≤ n + 1 = h.few_names in omega arith;
         fresh = h.fresh;
         listed = each-weaker s.unfreed _ _
-            (λ a l. listed-next threads s.phase s.next_name (Passes ∷ items) a.name a.thread a.phase (listed-past threads s.phase s.next_name s.next_name items Passes a.name a.thread a.phase (omega arith) refl refl l)) h.listed;
+            (λ a l. listed-next threads s.phase s.next_name (Scavenges Chore.Pass ∷ items) a.name a.thread a.phase (listed-past threads s.phase s.next_name s.next_name items (Scavenges Chore.Pass) a.name a.thread a.phase (omega arith) refl refl l)) h.listed;
         counted = record {
           operations = one-more pages threads n items h.counted.operations;
           costs = let costs : costs_of f items ≤ 3 * n + 4096 * (n / 1000) = h.counted.costs in omega arith;
@@ -99,7 +101,7 @@ allocation-step ops threads pages n t s items job more lo hi h =
     let few : name ≤ n + 1 = h.few_names in
     let most : ops ≤ 200000 = job.most in
     let some_threads : threads ≤ 16 = job.threads_most in
-    let i : Item = Allocates t record { name = name; heap = heap; size = size; align = align } in
+    let i : Item = Operates t (Asks name heap size align) in
     let written : IsWritten t name heap size align = record {
       thread_fits = omega arith;
       some_name = h.some_name;
@@ -124,7 +126,7 @@ allocation-step ops threads pages n t s items job more lo hi h =
         fresh = λ other later. ap (λ (b : Bool). b || is_named items other) (ne_eqb name other (λ e. omega (arith, e, later))) ∙ h.fresh other (omega (arith, later));
         listed = each-more s.unfreed _ (λ a. IsListed threads s.phase (name + 1) (i ∷ items) a.name a.thread a.phase)
             (each-weaker s.unfreed _ _ (λ a l. listed-past threads s.phase name (name + 1) items i a.name a.thread a.phase (omega arith) (ne_eqb name a.name (λ e. let before : a.name < name = l.before in omega (arith, e))) refl l) h.listed)
-            (listed-new threads s.phase name items t record { name = name; heap = heap; size = size; align = align } refl h.some_name lo hi);
+            (listed-new threads s.phase name items t (Asks name heap size align) (eq-eqb name name refl) h.some_name lo hi);
         counted = record {
           operations = one-more pages threads n items h.counted.operations;
           costs = let costs : costs_of f items ≤ 3 * n + 4096 * (n / 1000) = h.counted.costs in let cost : cost_of f i ≤ 3 = request-cost size small in omega arith;
@@ -151,7 +153,7 @@ free-step ops threads pages n t s items job more lo hi some h =
     let before : name < s.next_name = l.before in
     let few : s.next_name ≤ n + 1 = h.few_names in
     let most : ops ≤ 200000 = job.most in
-    let i : Item = Frees (freeing_thread t s) name in
+    let i : Item = Operates (freeing_thread t s) (Frees name) in
     record {
       reads = reads-said f items (line_of (free_of t s)) i (free-says (freeing_thread t s) name (omega arith) l.some_name (omega arith))
           (free-fine ops threads pages n items (freeing_thread t s) name job more h.counted b.some_thread b.thread_within l.named b.late);

@@ -7,7 +7,8 @@ use Rattle.pas_trace.specs.Plans.{parsed, IsPlanOf}
 use Rattle.pas_trace.specs.declared.fault.TraceFault.{TraceFault}
 use Rattle.pas_trace.specs.declared.plan.Plan.{Plan}
 use Rattle.pas_trace.specs.declared.item.Item.{Item}
-use Rattle.pas_trace.specs.declared.item.Item.TheVariants.{Shares, Ticks, Passes, NextPhase}
+use Rattle.pas_trace.specs.declared.item.Item.TheVariants.{Shares, Scavenges, NextPhase}
+use Rattle.pas_trace.specs.declared.plan.Chore.{Chore}
 use Rattle.pas_generate.specs.Lines.{header, line_of}
 use Rattle.pas_generate.specs.Operations.{State, operation_at, after_operation}
 use Rattle.pas_generate.specs.Traces.{IsJob, state_after, lines_of, trace_text}
@@ -20,11 +21,11 @@ use Rattle.pas_generated.proofs.Plans.{has-plan}
 use Rattle.pas_generated.proofs.Steps.{Follows, Step, tick-step, pass-step, drawn-step}
 
 -- ---- the operation of a number
-with-tick : (threads number : ℕ) (s : State) (items : List Item) → number % 1000 ≡ 999 → with_operation threads number s items ≡ Ticks (number / 1000 + 1) ∷ items
+with-tick : (threads number : ℕ) (s : State) (items : List Item) → number % 1000 ≡ 999 → with_operation threads number s items ≡ Scavenges (Chore.Tick (number / 1000 + 1)) ∷ items
 unfolding with_operation
 with-tick threads number s items e = rw e refl
 
-with-pass : (threads number : ℕ) (s : State) (items : List Item) → number % 1000 ≡ 0 → with_operation threads number s items ≡ NextPhase ∷ Passes ∷ items
+with-pass : (threads number : ℕ) (s : State) (items : List Item) → number % 1000 ≡ 0 → with_operation threads number s items ≡ NextPhase ∷ Scavenges Chore.Pass ∷ items
 unfolding with_operation
 with-pass threads number s items e = rw e refl
 

@@ -2,7 +2,9 @@
 use Rattle.std.specs.Prelude.{ℕ, zero, suc, ◌+◌, ◌/◌, ◌%◌, nat_eq, if◌then◌else◌, List, [], ◌∷◌}
 use Rattle.pas_profile.specs.declared.profile.Profile.{Profile}
 use Rattle.pas_trace.specs.declared.item.Item.{Item}
-use Rattle.pas_trace.specs.declared.item.Item.TheVariants.{Shares, NextPhase, Allocates, Frees, Ticks, Passes}
+use Rattle.pas_trace.specs.declared.item.Item.TheVariants.{Shares, NextPhase, Operates, Scavenges}
+use Rattle.pas_trace.specs.declared.item.Wish.TheVariants.{Asks, Frees}
+use Rattle.pas_trace.specs.declared.plan.Chore.{Chore}
 use Rattle.pas_trace.specs.Plans.{Parsed}
 use Rattle.pas_generate.specs.Requests.{request_from}
 use Rattle.pas_generate.specs.Operations.{State, allocates, begun, thread_of, freed, freeing_thread}
@@ -16,11 +18,11 @@ region pages threads = record { pages = pages; threads = threads; age = 2; heaps
 -- an allocation by a thread, by its state
 abbrev pub with_allocation : ℕ → State → List Item → List Item
 with_allocation thread s earlier =
-    Allocates thread (record { name = s.next_name; heap = (request_from s.x).heap; size = (request_from s.x).size; align = (request_from s.x).align }) ∷ earlier
+    Operates thread (Asks s.next_name (request_from s.x).heap (request_from s.x).size (request_from s.x).align) ∷ earlier
 
 -- a free
 abbrev pub with_free : ℕ → State → List Item → List Item
-with_free thread s earlier = Frees (freeing_thread thread s) (freed s).name ∷ earlier
+with_free thread s earlier = Operates (freeing_thread thread s) (Frees (freed s).name) ∷ earlier
 
 -- either of the two
 unfoldable pub with_drawn : ℕ → State → List Item → List Item
@@ -29,7 +31,7 @@ with_drawn threads s earlier = if allocates s then with_allocation (thread_of th
 -- the operation of this number: every thousandth is a pass, after which a phase begins, and the one before it a tick
 unfoldable pub with_operation : ℕ → ℕ → State → List Item → List Item
 with_operation threads number s earlier =
-    if nat_eq (number % 1000) 999 then Ticks (number / 1000 + 1) ∷ earlier else (if nat_eq (number % 1000) 0 then NextPhase ∷ Passes ∷ earlier else with_drawn threads s earlier)
+    if nat_eq (number % 1000) 999 then Scavenges (Chore.Tick (number / 1000 + 1)) ∷ earlier else (if nat_eq (number % 1000) 0 then NextPhase ∷ Scavenges Chore.Pass ∷ earlier else with_drawn threads s earlier)
 
 -- the items of so many operations, after the line that shares the last heap
 unfoldable pub items_after : ℕ → ℕ → ℕ → List Item

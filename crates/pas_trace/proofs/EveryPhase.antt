@@ -1,19 +1,25 @@
 -- In each phase of every plan, the names that a thread frees were asked for by itself or before the phase.
 use Rattle.std.proofs.Common.{◌≡◌, ℕ, ◌==◌, ◌||◌, Bool, true, false, not, if◌then◌else◌, List, [], ◌∷◌, ◌++◌, map, Some, None, refl, ap, sym, ◌∙◌, subst, append_assoc}
+use Rattle.std.specs.Prelude.{MatchOption}
 use Rattle.std.proofs.lemmas.Bool.{eqb-true, eq-eqb, false≢true}
 use Rattle.std.proofs.lemmas.List.{append-nil}
 use Rattle.pas_profile.specs.declared.profile.Profile.{Profile}
-use Rattle.pas_trace.specs.Reasons.{is_phase, is_named, is_named_now, actor_of, thread_of, reason_of}
-use Rattle.pas_trace.specs.Plans.{IsPlanOf, phases_of, ops_of, add_last, phases_in}
+use Rattle.pas_trace.specs.Wishes.{name_made, name_freed, is_name}
+use Rattle.pas_trace.specs.Reasons.{is_phase, is_named, is_named_now, may_free, thread_of, reason_of}
+use Rattle.pas_trace.specs.Plans.{IsPlanOf, phases_of, ops_of, what_wished, what_of_chore, add_last, phases_in}
+use Rattle.pas_trace.specs.Asked.{freed_in}
 use Rattle.pas_trace.specs.EveryPlan.{all_ops, is_asked, asked_after, asked_by}
 use Rattle.pas_trace.specs.EveryPhase.{FreesItsOwn, FreeTheirOwn}
 use Rattle.pas_trace.specs.declared.item.Item.{Item}
-use Rattle.pas_trace.specs.declared.item.Item.TheVariants.{Blank, Shares, NextPhase, Allocates, Frees}
+use Rattle.pas_trace.specs.declared.item.Item.TheVariants.{Blank, Shares, NextPhase, Operates, Scavenges}
+use Rattle.pas_trace.specs.declared.item.Wish.{Wish}
+use Rattle.pas_trace.specs.declared.item.Wish.TheVariants.{Asks}
+use Rattle.pas_trace.specs.declared.plan.Chore.{Chore}
 use Rattle.pas_trace.specs.declared.plan.Op.{Op}
 use Rattle.pas_trace.specs.declared.plan.Plan.{Plan}
-use Rattle.pas_trace.proofs.OperationsOfItems.{new_ops, asked_both, AreNames, item_names}
+use Rattle.pas_trace.proofs.OperationsOfItems.{new_ops, asked_both, AreNames, asks_for, asks_none, item_names}
 use Rattle.pas_trace.proofs.ParsedItems.{AreChecked, parts_of}
-use Rattle.pas_trace.proofs.PassedChecks.{passes}
+use Rattle.pas_trace.proofs.PassedChecks.{own_passed, held_both}
 
 -- ---- the names that thread k may free: those that were asked for before the phase, and its own after operations of the phase
 abbrev own_after : ℕ → List ℕ → Op → List ℕ
@@ -68,44 +74,52 @@ record HasLast (items : List Item) : Type 0 where
   frees : (k : ℕ) → FreesItsOwn k (asked_in front) last
   own : HaveOwn (λ k. own_by k (asked_in front) last) items
 
+wish_frees : (w : Wish) → freed_in (what_wished w) ≡ name_freed w
+wish_frees (Asks n h s a) = refl
+wish_frees w = refl
+
+chore_frees : (c : Chore) → freed_in (what_of_chore c) ≡ None
+chore_frees (Chore.Tick e) = refl
+chore_frees c = refl
+
 item_frees : (f : Profile) (i : Item) (earlier : List Item) (own : ℕ → List ℕ) → reason_of f earlier i ≡ None → HaveOwn own earlier → (k : ℕ) → FreesItsOwn k (own k) (new_ops i earlier)
-item_frees f (Frees t n) earlier own passed have k =
-    let held = passes f earlier (Frees t n) passed in
-    (λ who. subst (λ j. is_asked (own j) n ≡ true) who (have t n (held.1.0, held.1.1.0)), tt)
-item_frees f Blank earlier own passed have k = tt
-item_frees f (Shares h) earlier own passed have k = tt
-item_frees f NextPhase earlier own passed have k = tt
-item_frees f i earlier own passed have k = (λ who. tt, tt)
+item_frees f (Operates t w) earlier own passed have k =
+    let held = own_passed f earlier t w passed in
+    let freed : MatchOption (name_freed w) (Unit {0}) (λ n. is_asked (own t) n ≡ true) = held_both (name_freed w) (is_named earlier) (may_free earlier t) _ (λ n known free. have t n (known, free)) held.known held.free in
+    (λ who. subst (λ o. MatchOption o (Unit {0}) (λ n. is_asked (own k) n ≡ true)) (sym (wish_frees w)) (subst (λ j. MatchOption (name_freed w) (Unit {0}) (λ n. is_asked (own j) n ≡ true)) who freed), tt)
+item_frees f (Scavenges c) earlier own passed have k = (λ who. subst (λ o. MatchOption o (Unit {0}) (λ n. is_asked (own k) n ≡ true)) (sym (chore_frees c)) tt, tt)
+item_frees f i earlier own passed have k = tt
 
 -- ---- what a thread may free after an item
 either_same : (t : Bool) (asked : List ℕ) (n : ℕ) → is_asked asked n ≡ true → is_asked (if t then asked else asked) n ≡ true
 either_same true asked n is = is
 either_same false asked n is = is
 
--- the request of a name by thread t: what another thread may free is no other than before
-own_request : (new mine : Bool) (name n : ℕ) (asked : List ℕ) → name == n ≡ new → (new ≡ true → mine ≡ true) → (new ≡ false → is_asked asked n ≡ true) → is_asked (if mine then name ∷ asked else asked) n ≡ true
-own_request true true name n asked is own old = ap (λ b. b || is_asked asked n) is
-own_request true false name n asked is own old = absurd (false≢true (own refl))
-own_request false true name n asked is own old = ap (λ b. b || is_asked asked n) is ∙ old refl
-own_request false false name n asked is own old = old refl
+-- an operation of thread t: of a name that it makes, what another thread may free is no other than before
+own_made : (new mine : Bool) (w : Wish) (n : ℕ) (asked : List ℕ) → is_name (name_made w) n ≡ new → (new ≡ true → mine ≡ true) → (new ≡ false → is_asked asked n ≡ true)
+    → is_asked (if mine then asked_after (what_wished w) asked else asked) n ≡ true
+own_made true true w n asked is own old = asks_for w asked n ∙ ap (λ b. b || is_asked asked n) is
+own_made true false w n asked is own old = absurd (false≢true (own refl))
+own_made false true w n asked is own old = asks_for w asked n ∙ ap (λ b. b || is_asked asked n) is ∙ old refl
+own_made false false w n asked is own old = old refl
 
 only_left : (t : Bool) → t || false ≡ true → t ≡ true
 only_left true is = refl
 only_left false is = absurd (cc)
 
-request_own : (new named now : Bool) (t thread k name n : ℕ) (asked : List ℕ) → name == n ≡ new → new || named ≡ true → ((k == (if new then t else thread)) || not (new || now)) ≡ true
-    → (named ≡ true → ((k == thread) || not now) ≡ true → is_asked asked n ≡ true) → is_asked (if t == k then name ∷ asked else asked) n ≡ true
-request_own true named now t thread k name n asked is known may old =
-    own_request true (t == k) name n asked is (λ yes. eq-eqb t k (sym (eqb-true k t (only_left (k == t) may)))) (λ no. absurd (cc))
-request_own false named now t thread k name n asked is known may old = own_request false (t == k) name n asked is (λ yes. absurd (cc)) (λ no. old known may)
+wish_own : (new named now : Bool) (t thread k : ℕ) (w : Wish) (n : ℕ) (asked : List ℕ) → is_name (name_made w) n ≡ new → new || named ≡ true → ((k == (if new then t else thread)) || not (new || now)) ≡ true
+    → (named ≡ true → ((k == thread) || not now) ≡ true → is_asked asked n ≡ true) → is_asked (if t == k then asked_after (what_wished w) asked else asked) n ≡ true
+wish_own true named now t thread k w n asked is known may old =
+    own_made true (t == k) w n asked is (λ yes. eq-eqb t k (sym (eqb-true k t (only_left (k == t) may)))) (λ no. absurd (cc))
+wish_own false named now t thread k w n asked is known may old = own_made false (t == k) w n asked is (λ yes. absurd (cc)) (λ no. old known may)
 
 item_own : (i : Item) (earlier : List Item) (own : ℕ → List ℕ) → is_phase i ≡ false → HaveOwn own earlier → HaveOwn (λ k. own_by k (own k) (new_ops i earlier)) (i ∷ earlier)
-item_own (Allocates t q) earlier own other have k n may =
-    request_own (q.name == n) (is_named earlier n) (is_named_now earlier n) t (thread_of earlier n) k q.name n (own k) refl may.0 may.1 (λ known free. have k n (known, free))
+item_own (Operates t w) earlier own other have k n may =
+    wish_own (is_name (name_made w) n) (is_named earlier n) (is_named_now earlier n) t (thread_of earlier n) k w n (own k) refl may.0 may.1 (λ known free. have k n (known, free))
+item_own (Scavenges c) earlier own other have k n may =
+    subst (λ now. is_asked (if 0 == k then now else own k) n ≡ true) (sym (asks_none c (own k))) (either_same (0 == k) (own k) n (have k n may))
 item_own NextPhase earlier own other have k n may = absurd (cc)
-item_own Blank earlier own other have k n may = have k n may
-item_own (Shares h) earlier own other have k n may = have k n may
-item_own i earlier own other have k n may = either_same (actor_of i == k) (own k) n (have k n may)
+item_own i earlier own other have k n may = have k n may
 
 -- ---- item by item
 item_behind : (i : Item) (earlier : List Item) (front : List (List Op)) (last : List Op) → is_phase i ≡ false → phases_in earlier ≡ front ++ last ∷ []

@@ -9,7 +9,8 @@ use Rattle.pas_trace.specs.Numbers.{is_digit, all_digits, value_from, is_decimal
 use Rattle.pas_trace.specs.Items.{below, from_one, trace_name, item2, item5, item_of_words}
 use Rattle.pas_trace.specs.FirstLines.{BeginsWith, FirstSays}
 use Rattle.pas_trace.specs.declared.item.Item.{Item}
-use Rattle.pas_trace.specs.declared.item.Item.TheVariants.{Allocates, Frees}
+use Rattle.pas_trace.specs.declared.item.Item.TheVariants.{Operates}
+use Rattle.pas_trace.specs.declared.item.Wish.TheVariants.{Asks, Frees}
 use Rattle.pas_trace.proofs.Digits.{digit-is}
 use Rattle.pas_trace.proofs.Splits.{pieces-at, pieces-off, end-after, keeps}
 
@@ -164,14 +165,14 @@ name-fits w n e lo hi =
     ap (λ o. from_one (below 1000001 o)) e ∙ ap (λ (t : Bool). from_one (if t then Some n else None)) most ∙ ap (λ (t : Bool). if t then Some n else None) least
 
 pub allocation-first : (text t1 t2 t3 t4 rest : List ℕ) (t n h s a : ℕ) → BeginsWith text t 32 t1 → BeginsWith t1 n 32 t2 → BeginsWith t2 h 32 t3 → BeginsWith t3 s 32 t4 → BeginsWith t4 a 10 rest → 1 ≤ n → n ≤ 1000000
-    → FirstSays (97 ∷ 32 ∷ text) (Allocates t record { name = n; heap = h; size = s; align = a }) rest
+    → FirstSays (97 ∷ 32 ∷ text) (Operates t (Asks n h s a)) rest
 allocation-first text t1 t2 t3 t4 rest t n h s a b1 b2 b3 b4 b5 lo hi =
     let named = name-fits b2.word n b2.number lo hi in
     line-says 97 text (b1.word ∷ b2.word ∷ b3.word ∷ b4.word ∷ b5.word ∷ []) rest _ (omega arith)
     (line-more text t t1 _ rest b1 (line-more t1 n t2 _ rest b2 (line-more t2 h t3 _ rest b3 (line-more t3 s t4 _ rest b4 (line-end t4 a rest b5)))))
-    (λ started i. item5 (λ t n h s a. Allocates t record { name = n; heap = h; size = s; align = a }) (b1.number i) (named i) (b3.number i) (b4.number i) (b5.number i))
+    (λ started i. item5 (λ t n h s a. Operates t (Asks n h s a)) (b1.number i) (named i) (b3.number i) (b4.number i) (b5.number i))
 
-pub free-first : (text t1 rest : List ℕ) (t n : ℕ) → BeginsWith text t 32 t1 → BeginsWith t1 n 10 rest → 1 ≤ n → n ≤ 1000000 → FirstSays (102 ∷ 32 ∷ text) (Frees t n) rest
+pub free-first : (text t1 rest : List ℕ) (t n : ℕ) → BeginsWith text t 32 t1 → BeginsWith t1 n 10 rest → 1 ≤ n → n ≤ 1000000 → FirstSays (102 ∷ 32 ∷ text) (Operates t (Frees n)) rest
 free-first text t1 rest t n b1 b2 lo hi =
     let named = name-fits b2.word n b2.number lo hi in
-    line-says 102 text (b1.word ∷ b2.word ∷ []) rest _ (omega arith) (line-more text t t1 _ rest b1 (line-end t1 n rest b2)) (λ started i. item2 Frees (b1.number i) (named i))
+    line-says 102 text (b1.word ∷ b2.word ∷ []) rest _ (omega arith) (line-more text t t1 _ rest b1 (line-end t1 n rest b2)) (λ started i. item2 (λ t n. Operates t (Frees n)) (b1.number i) (named i))

@@ -1,19 +1,21 @@
 -- The numbers of an item are within the ranges of their places.
 use Rattle.std.proofs.Common.{◌≡◌, ℕ, ◌-◌, ◌^◌, ◌<◌, ◌==◌, nat_lt, Bool, true, false, if◌then◌else◌, List, [], ◌∷◌, Option, Some, None, Result, refl, arith}
-use Rattle.std.specs.Prelude.{IfOk, codes}
+use Rattle.std.specs.Prelude.{IfOk, MatchOption, codes}
 use Rattle.std.proofs.lemmas.Bool.{ltb-true}
 use Rattle.pas_trace.specs.Texts.{words_of}
 use Rattle.pas_trace.specs.Numbers.{number_of, address_of_word}
+use Rattle.pas_trace.specs.Asked.{epoch_of}
 use Rattle.pas_trace.specs.Items.{same_bytes, below, trace_name, epoch_word, turn_word, item1, item2, item3, item5, item_of_two, item_of_words, item_of_line}
 use Rattle.pas_trace.specs.declared.fault.Reason.{Reason}
 use Rattle.pas_trace.specs.declared.item.Item.{Item}
-use Rattle.pas_trace.specs.declared.item.Item.TheVariants.{Shares, Allocates, Frees, FreesRaw, Flushes, Stops, Ticks, Idles}
+use Rattle.pas_trace.specs.declared.item.Item.TheVariants.{Shares, Operates, Scavenges}
+use Rattle.pas_trace.specs.declared.item.Wish.TheVariants.{Asks, Frees, FreesRaw, Flushes, Stops}
+use Rattle.pas_trace.specs.declared.plan.Chore.{Chore}
 
 -- a turn has a next one, and epochs are below 2^40
 abbrev pub IsInRange : Item → Type 0
-IsInRange (FreesRaw t a n) = n < 2 ^ 40 - 1
-IsInRange (Ticks e) = e < 2 ^ 40
-IsInRange (Idles n) = n < 2 ^ 40
+IsInRange (Operates t (FreesRaw a n)) = n < 2 ^ 40 - 1
+IsInRange (Scavenges c) = MatchOption (epoch_of c) (Unit {0}) (λ e. e < 2 ^ 40)
 IsInRange i = Unit {0}
 
 if_range : (t : Bool) (a b : Result Item Reason) → IfOk a IsInRange → IfOk b IsInRange → IfOk (if t then a else b) IsInRange
@@ -48,21 +50,21 @@ below_lt limit n (Some m) e = kept_lt (nat_lt m limit) limit n m refl e
 two_range : (started : Bool) (w a : List ℕ) → IfOk (item_of_two started w a) IsInRange
 two_range started w a =
     if_range (same_bytes w (codes "shared")) _ _ (if_range started _ _ tt (range1 Shares (number_of a) (λ x is. tt)))
-    (if_range (same_bytes w (codes "flush")) _ _ (range1 Flushes (number_of a) (λ x is. tt))
-    (if_range (same_bytes w (codes "stop")) _ _ (range1 Stops (number_of a) (λ x is. tt))
-    (if_range (same_bytes w (codes "tick")) _ _ (range1 Ticks (epoch_word a) (λ x is. below_lt (2 ^ 40) x (number_of a) is))
-    (if_range (same_bytes w (codes "idle")) _ _ (range1 Idles (epoch_word a) (λ x is. below_lt (2 ^ 40) x (number_of a) is)) tt))))
+    (if_range (same_bytes w (codes "flush")) _ _ (range1 (λ t. Operates t Flushes) (number_of a) (λ x is. tt))
+    (if_range (same_bytes w (codes "stop")) _ _ (range1 (λ t. Operates t Stops) (number_of a) (λ x is. tt))
+    (if_range (same_bytes w (codes "tick")) _ _ (range1 (λ e. Scavenges (Chore.Tick e)) (epoch_word a) (λ x is. below_lt (2 ^ 40) x (number_of a) is))
+    (if_range (same_bytes w (codes "idle")) _ _ (range1 (λ n. Scavenges (Chore.Idle n)) (epoch_word a) (λ x is. below_lt (2 ^ 40) x (number_of a) is)) tt))))
 
 words_range : (started : Bool) (ws : List (List ℕ)) → IfOk (item_of_words started ws) IsInRange
 words_range started [] = tt
 words_range started (w ∷ []) = if_range (same_bytes w (codes "pass")) _ _ tt (if_range (same_bytes w (codes "phase")) _ _ tt tt)
 words_range started (w ∷ a ∷ []) = two_range started w a
-words_range started (w ∷ a ∷ b ∷ []) = if_range (same_bytes w (codes "f")) _ _ (range2 Frees (number_of a) (trace_name b) (λ x y is. tt)) tt
+words_range started (w ∷ a ∷ b ∷ []) = if_range (same_bytes w (codes "f")) _ _ (range2 (λ t n. Operates t (Frees n)) (number_of a) (trace_name b) (λ x y is. tt)) tt
 words_range started (w ∷ a ∷ b ∷ c ∷ []) =
-    if_range (same_bytes w (codes "r")) _ _ (range3 FreesRaw (number_of a) (address_of_word b) (turn_word c) (λ x y z is. below_lt (2 ^ 40 - 1) z (number_of c) is)) tt
+    if_range (same_bytes w (codes "r")) _ _ (range3 (λ t a n. Operates t (FreesRaw a n)) (number_of a) (address_of_word b) (turn_word c) (λ x y z is. below_lt (2 ^ 40 - 1) z (number_of c) is)) tt
 words_range started (w ∷ a ∷ b ∷ c ∷ d ∷ []) = tt
 words_range started (w ∷ a ∷ b ∷ c ∷ d ∷ e ∷ []) =
-    if_range (same_bytes w (codes "a")) _ _ (range5 (λ t n h s a. Allocates t record { name = n; heap = h; size = s; align = a }) (number_of a) (trace_name b) (number_of c) (number_of d) (number_of e) (λ v w x y z is. tt)) tt
+    if_range (same_bytes w (codes "a")) _ _ (range5 (λ t n h s a. Operates t (Asks n h s a)) (number_of a) (trace_name b) (number_of c) (number_of d) (number_of e) (λ v w x y z is. tt)) tt
 words_range started (w ∷ a ∷ b ∷ c ∷ d ∷ e ∷ g ∷ more) = tt
 
 pub line_range : (started : Bool) (line : List ℕ) → IfOk (item_of_line started line) IsInRange

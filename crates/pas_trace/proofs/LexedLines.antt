@@ -1,14 +1,13 @@
 -- Lines that say something by themselves, and what is read of them.
 use Rattle.std.proofs.Common.{◌≡◌, ℕ, ◌+◌, ◌==◌, Bool, true, false, if◌then◌else◌, List, [], ◌∷◌, ◌++◌, OnOk, map, length, Result, Ok, Err, codes, refl, sym, ap, ◌∙◌, arith, append_assoc, length-append}
 use Rattle.std.proofs.lemmas.List.{map-append}
-use Rattle.std.proofs.lemmas.List.Elements.{All-nil, All-push}
 use Rattle.pas_profile.specs.declared.profile.Profile.{Profile}
 use Rattle.pas_trace.specs.Texts.{lines_of, words_of}
 use Rattle.pas_trace.specs.Items.{same_bytes, item1, item_of_words, item_of_line, plain}
 use Rattle.pas_trace.specs.FirstLines.{FirstSays}
 use Rattle.pas_trace.specs.Reasons.{line_says}
 use Rattle.pas_trace.specs.Plans.{items_from, after_item, line_of_newest}
-use Rattle.pas_trace.specs.Told.{Tells, IsRanged, IsTaken, AreTaken, IsRead}
+use Rattle.pas_trace.specs.Told.{Tells, IsTaken, AreTaken, IsRead}
 use Rattle.pas_trace.specs.Lexed.{Say, AreLexed}
 use Rattle.pas_trace.specs.declared.fault.Reason.{Reason}
 use Rattle.pas_trace.specs.declared.fault.TraceFault.{TraceFault}
@@ -46,16 +45,15 @@ says-anywhere started (b ∷ bs) item e =
 
 -- ---- lines are taken apart, one after another
 pub lexed-none : (text : List ℕ) → AreLexed text [] text
-lexed-none text = record { lines = []; cut = refl; say = λ started. refl; ranged = All-nil IsRanged; few = omega arith }
+lexed-none text = record { lines = []; cut = refl; say = λ started. refl; few = omega arith }
 
-pub lexed-more : (text left after : List ℕ) (items : List Item) (item : Item) → AreLexed text items left → FirstSays left item after → IsRanged item → AreLexed text (items ++ item ∷ []) after
-lexed-more text left after items item h f ranged =
+pub lexed-more : (text left after : List ℕ) (items : List Item) (item : Item) → AreLexed text items left → FirstSays left item after → AreLexed text (items ++ item ∷ []) after
+lexed-more text left after items item h f =
     record {
       lines = h.lines ++ f.line ∷ [];
       cut = h.cut ∙ ap (λ ls. h.lines ++ ls) f.cut ∙ sym (append_assoc h.lines (f.line ∷ []) (lines_of after));
       say = λ started. map-append (item_of_line started) h.lines (f.line ∷ []) ∙ ap (λ rs. rs ++ item_of_line started f.line ∷ []) (h.say started)
           ∙ ap (λ (r : Result Item Reason). map Ok items ++ r ∷ []) (f.says started) ∙ sym (map-append Ok items (item ∷ []));
-      ranged = All-push IsRanged items item h.ranged ranged;
       few = let long = length-append items (item ∷ []) in omega (arith, long, h.few, f.shorter);
     }
 

@@ -4,17 +4,21 @@ use Rattle.std.specs.Prelude.{MatchOption}
 use Rattle.std.proofs.lemmas.Bool.{eq-eqb, leb-true, ltb-true}
 use Rattle.std.proofs.lemmas.List.{append-nil}
 use Rattle.pas_profile.specs.declared.profile.Profile.{Profile}
-use Rattle.pas_trace.specs.Reasons.{is_named, actor_of, cost_of, costs_of, reason_of}
-use Rattle.pas_trace.specs.Plans.{operation_of, add_last, phases_in, phases_after, line_of_newest, own_costs}
+use Rattle.pas_trace.specs.Reasons.{is_named, actor_of, cost_of, costs_of, cost_of_wish, records_of_chore, reason_of}
+use Rattle.pas_trace.specs.Plans.{operation_of, what_wished, what_of_chore, add_last, phases_in, phases_after, line_of_newest, own_costs}
 use Rattle.pas_trace.specs.Asked.{request_in}
-use Rattle.pas_trace.specs.EveryPlan.{all_ops, is_asked, asked_with, asked_after, asked_by, AreBelow, AreSound, records_of_ops, own_records}
+use Rattle.pas_trace.specs.Wishes.{name_made, is_name}
+use Rattle.pas_trace.specs.EveryPlan.{all_ops, is_asked, asked_with, asked_after, asked_by, AreBelow, AreSound, records_of_what, records_of_ops, own_records}
 use Rattle.pas_trace.specs.declared.item.Request.{Request}
 use Rattle.pas_trace.specs.declared.item.Item.{Item}
-use Rattle.pas_trace.specs.declared.item.Item.TheVariants.{Blank, Shares, NextPhase, Allocates, Frees, FreesRaw, Flushes, Stops, Ticks, Passes, Idles}
+use Rattle.pas_trace.specs.declared.item.Item.TheVariants.{Blank, Shares, NextPhase, Operates, Scavenges}
+use Rattle.pas_trace.specs.declared.item.Wish.{Wish}
+use Rattle.pas_trace.specs.declared.item.Wish.TheVariants.{Asks, Frees, FreesRaw, Flushes, Stops}
+use Rattle.pas_trace.specs.declared.plan.Chore.{Chore}
 use Rattle.pas_trace.specs.declared.plan.Op.{Op}
 use Rattle.pas_trace.proofs.ItemRanges.{IsInRange}
 use Rattle.pas_trace.proofs.ParsedItems.{AreChecked}
-use Rattle.pas_trace.proofs.PassedChecks.{passes, thread_within, aligns, is_not}
+use Rattle.pas_trace.proofs.PassedChecks.{own_passed, aligns, is_not}
 
 -- ---- the operations of items in one list: those before, and that of the newest item, where it is one
 abbrev pub ops_in : List Item → List Op
@@ -59,21 +63,31 @@ abbrev sharing : Profile → ℕ → Profile
 sharing f shared = record f { shared = shared }
 
 item_sound : (f : Profile) (shared : ℕ) (i : Item) (earlier : List Item) (asked : List ℕ) → reason_of f earlier i ≡ None → IsInRange i → AreNames asked earlier → AreSound (sharing f shared) asked (new_ops i earlier)
-item_sound f shared (Allocates t q) earlier asked passed range names =
-    let held = passes f earlier (Allocates t q) passed in
-    let size = leb-true q.size (4096 * f.pages) held.1.1.0 in
-    (thread_within f t held.0, (record { within = omega (arith, size); aligned = aligns q.align held.1.1.1.0; of_profile = ltb-true q.heap f.heaps held.1.0 }, names q.name ∙ is_not (is_named earlier q.name) held.1.1.1.1.0), tt)
-item_sound f shared (Frees t n) earlier asked passed range names = let held = passes f earlier (Frees t n) passed in (thread_within f t held.0, names n ∙ held.1.0, tt)
-item_sound f shared (FreesRaw t a n) earlier asked passed range names = (thread_within f t (passes f earlier (FreesRaw t a n) passed).0, range, tt)
-item_sound f shared (Flushes t) earlier asked passed range names = (thread_within f t (passes f earlier (Flushes t) passed).0, range, tt)
-item_sound f shared (Stops t) earlier asked passed range names = (thread_within f t (passes f earlier (Stops t) passed).0, range, tt)
-item_sound f shared (Ticks e) earlier asked passed range names = (refl, range, tt)
-item_sound f shared Passes earlier asked passed range names = (refl, range, tt)
-item_sound f shared (Idles n) earlier asked passed range names = (refl, range, tt)
+item_sound f shared (Operates t (Asks n h s a)) earlier asked passed range names =
+    let held = own_passed f earlier t (Asks n h s a) passed in
+    let size = leb-true s (4096 * f.pages) held.size in
+    (held.thread, (record { within = omega (arith, size); aligned = aligns a held.align; of_profile = ltb-true h f.heaps held.heap }, names n ∙ is_not (is_named earlier n) held.fresh), tt)
+item_sound f shared (Operates t (Frees n)) earlier asked passed range names = let held = own_passed f earlier t (Frees n) passed in (held.thread, names n ∙ held.known, tt)
+item_sound f shared (Operates t (FreesRaw a n)) earlier asked passed range names = ((own_passed f earlier t (FreesRaw a n) passed).thread, range, tt)
+item_sound f shared (Operates t Flushes) earlier asked passed range names = ((own_passed f earlier t Flushes passed).thread, tt, tt)
+item_sound f shared (Operates t Stops) earlier asked passed range names = ((own_passed f earlier t Stops passed).thread, tt, tt)
+item_sound f shared (Scavenges (Chore.Tick e)) earlier asked passed range names = (refl, range, tt)
+item_sound f shared (Scavenges Chore.Pass) earlier asked passed range names = (refl, range, tt)
+item_sound f shared (Scavenges (Chore.Idle n)) earlier asked passed range names = (refl, range, tt)
 item_sound f shared i earlier asked passed range names = tt
 
+-- what an operation of a thread, and a chore, ask for
+pub asks_for : (w : Wish) (asked : List ℕ) (n : ℕ) → is_asked (asked_after (what_wished w) asked) n ≡ (is_name (name_made w) n || is_asked asked n)
+asks_for (Asks m h s a) asked n = refl
+asks_for w asked n = refl
+
+pub asks_none : (c : Chore) (asked : List ℕ) → asked_after (what_of_chore c) asked ≡ asked
+asks_none (Chore.Tick e) asked = refl
+asks_none c asked = refl
+
 pub item_names : (i : Item) (earlier : List Item) (asked : List ℕ) → AreNames asked earlier → AreNames (asked_by asked (new_ops i earlier)) (i ∷ earlier)
-item_names (Allocates t q) earlier asked names m = ap (λ b. (q.name == m) || b) (names m)
+item_names (Operates t w) earlier asked names m = asks_for w asked m ∙ ap (λ b. is_name (name_made w) m || b) (names m)
+item_names (Scavenges c) earlier asked names m = ap (λ now. is_asked now m) (asks_none c asked) ∙ names m
 item_names i earlier asked names m = names m
 
 pub record AreFollowing (f : Profile) (shared : ℕ) (items : List Item) : Type 0 where
@@ -122,19 +136,27 @@ pub own_both : (f : Profile) (k : ℕ) (xs ys : List Op) → own_records f k (xs
 own_both f k [] ys = omega arith
 own_both f k (x ∷ xs) ys = omega (arith, own_both f k xs ys)
 
+wish_records : (f : Profile) (w : Wish) → records_of_what f (what_wished w) ≡ cost_of_wish w
+wish_records f (Asks n h s a) = refl
+wish_records f w = refl
+
+chore_records : (f : Profile) (shared : ℕ) (c : Chore) → records_of_what (sharing f shared) (what_of_chore c) ≡ records_of_chore f c
+chore_records f shared (Chore.Tick e) = refl
+chore_records f shared c = refl
+
 item_records : (f : Profile) (shared : ℕ) (i : Item) (earlier : List Item) → records_of_ops (sharing f shared) (new_ops i earlier) ≡ cost_of f i
-item_records f shared Blank earlier = refl
-item_records f shared i earlier = omega arith
+item_records f shared (Operates t w) earlier = omega (arith, wish_records (sharing f shared) w)
+item_records f shared (Scavenges c) earlier = omega (arith, chore_records f shared c)
+item_records f shared i earlier = refl
 
 if_same : (t : Bool) (n : ℕ) → n ≡ (if t then n else n)
 if_same true n = refl
 if_same false n = refl
 
 item_own : (f : Profile) (shared k : ℕ) (i : Item) (earlier : List Item) → own_records (sharing f shared) k (new_ops i earlier) ≡ (if actor_of i == k then cost_of f i else 0)
-item_own f shared k Blank earlier = if_same (0 == k) 0
-item_own f shared k (Shares h) earlier = if_same (0 == k) 0
-item_own f shared k NextPhase earlier = if_same (0 == k) 0
-item_own f shared k i earlier = omega arith
+item_own f shared k (Operates t w) earlier = ap (λ n. (if t == k then n else 0) + 0) (wish_records (sharing f shared) w) ∙ omega arith
+item_own f shared k (Scavenges c) earlier = ap (λ n. (if 0 == k then n else 0) + 0) (chore_records f shared c) ∙ omega arith
+item_own f shared k i earlier = if_same (0 == k) 0
 
 own_more : (t : Bool) (own cost : ℕ) → own + (if t then cost else 0) ≡ (if t then own + cost else own)
 own_more true own cost = refl

@@ -1,13 +1,17 @@
 -- What an item keeps that passed its checks.
-use Rattle.std.proofs.Common.{◌≡◌, ℕ, ◌%◌, ◌<◌, ◌≤◌, ◌==◌, nat_le, Bool, true, false, not, ◌&&◌, List, [], ◌∷◌, None, refl, arith}
+use Rattle.std.proofs.Common.{◌≡◌, ℕ, ◌*◌, ◌%◌, ◌^◌, ◌<◌, ◌≤◌, ◌==◌, nat_le, nat_lt, Bool, true, false, not, ◌&&◌, List, [], ◌∷◌, Option, None, Some, refl, arith}
+use Rattle.std.specs.Prelude.{MatchOption}
 use Rattle.std.proofs.lemmas.Bool.{ltb-true, leb-true, eqb-true, and_parts}
 use Rattle.pas_profile.specs.Classes.{IsAlignment}
+use Rattle.pas_profile.specs.Profiles.{IsValid}
 use Rattle.pas_profile.specs.declared.profile.Profile.{Profile}
-use Rattle.pas_trace.specs.Reasons.{first_failed, is_thread, is_alignment, record_bound, few_enough, checks_of, reason_of, operations_in, is_operation, actor_of}
+use Rattle.pas_trace.specs.Wishes.{Sizing, heap_in, sizing_in, name_made, name_freed, holds_of, IsFit}
+use Rattle.pas_trace.specs.Reasons.{first_failed, is_thread, is_alignment, record_bound, few_enough, may_free, checks_of, reason_of, operations_in, is_operation, is_named, actor_of}
 use Rattle.pas_trace.specs.EveryPlan.{IsThread}
 use Rattle.pas_trace.specs.declared.fault.Reason.{Reason}
 use Rattle.pas_trace.specs.declared.item.Item.{Item}
-use Rattle.pas_trace.specs.declared.item.Item.TheVariants.{Blank, Shares, NextPhase, Allocates, Frees, FreesRaw, Flushes, Stops}
+use Rattle.pas_trace.specs.declared.item.Item.TheVariants.{Operates, Scavenges}
+use Rattle.pas_trace.specs.declared.item.Wish.{Wish}
 
 abbrev pub AreHeld : List (Bool × Reason) → Type 0
 AreHeld [] = Unit {0}
@@ -42,25 +46,62 @@ pub record FineCounts (f : Profile) (items : List Item) (i : Item) : Type 0 wher
   pub few : operations_in items < 1000000
   pub small : record_bound f (i ∷ items) ≤ 2000000
 
-counts_fit : (f : Profile) (items : List Item) (i : Item) → AreHeld (few_enough f items i) → FineCounts f items i
+counts_fit : (f : Profile) (items : List Item) (i : Item) → AreHeld (few_enough (operations_in items) (record_bound f (i ∷ items))) → FineCounts f items i
 counts_fit f items i h = record { few = ltb-true _ _ h.0; small = leb-true _ _ h.1.0 }
+
+-- those of an operation of a thread, one by one
+pub record OwnPassed (f : Profile) (items : List Item) (t : ℕ) (w : Wish) : Type 0 where
+  pub thread : IsThread f t
+  pub heap : holds_of (λ h. nat_lt h f.heaps) (heap_in w) ≡ true
+  pub size : holds_of (λ s. nat_le s.size (4096 * f.pages)) (sizing_in w) ≡ true
+  pub align : holds_of (λ s. is_alignment s.align) (sizing_in w) ≡ true
+  pub fresh : holds_of (λ n. not (is_named items n)) (name_made w) ≡ true
+  pub known : holds_of (is_named items) (name_freed w) ≡ true
+  pub free : holds_of (may_free items t) (name_freed w) ≡ true
+  pub counts : FineCounts f items (Operates t w)
+
+pub own_passed : (f : Profile) (items : List Item) (t : ℕ) (w : Wish) → reason_of f items (Operates t w) ≡ None → OwnPassed f items t w
+own_passed f items t w e =
+    let held = passes f items (Operates t w) e in
+    record {
+      thread = thread_within f t held.0;
+      heap = held.1.0;
+      size = held.1.1.0;
+      align = held.1.1.1.0;
+      fresh = held.1.1.1.1.0;
+      known = held.1.1.1.1.1.0;
+      free = held.1.1.1.1.1.1.0;
+      counts = counts_fit f items (Operates t w) held.1.1.1.1.1.1.1;
+    }
 
 -- ---- what any item gives
 pub actor_within : (f : Profile) (items : List Item) (i : Item) → reason_of f items i ≡ None → actor_of i ≤ f.threads
-actor_within f items (Allocates t q) e = (thread_within f t (passes f items (Allocates t q) e).0).1
-actor_within f items (Frees t n) e = (thread_within f t (passes f items (Frees t n) e).0).1
-actor_within f items (FreesRaw t a n) e = (thread_within f t (passes f items (FreesRaw t a n) e).0).1
-actor_within f items (Flushes t) e = (thread_within f t (passes f items (Flushes t) e).0).1
-actor_within f items (Stops t) e = (thread_within f t (passes f items (Stops t) e).0).1
+actor_within f items (Operates t w) e = (own_passed f items t w e).thread.1
 actor_within f items i e = omega arith
 
 pub counts_within : (f : Profile) (items : List Item) (i : Item) → is_operation i ≡ true → reason_of f items i ≡ None → FineCounts f items i
-counts_within f items (Allocates t q) o e = counts_fit f items (Allocates t q) (passes f items (Allocates t q) e).1.1.1.1.1
-counts_within f items (Frees t n) o e = counts_fit f items (Frees t n) (passes f items (Frees t n) e).1.1.1
-counts_within f items (FreesRaw t a n) o e = counts_fit f items (FreesRaw t a n) (passes f items (FreesRaw t a n) e).1
-counts_within f items (Flushes t) o e = counts_fit f items (Flushes t) (passes f items (Flushes t) e).1
-counts_within f items (Stops t) o e = counts_fit f items (Stops t) (passes f items (Stops t) e).1
-counts_within f items Blank o e = absurd (cc)
-counts_within f items (Shares h) o e = absurd (cc)
-counts_within f items NextPhase o e = absurd (cc)
-counts_within f items i o e = counts_fit f items i (passes f items i e)
+counts_within f items (Operates t w) o e = (own_passed f items t w e).counts
+counts_within f items (Scavenges c) o e = counts_fit f items (Scavenges c) (passes f items (Scavenges c) e)
+counts_within f items i o e = absurd (cc)
+
+-- ---- tests of a value that may be there
+pub held_both : {A : Type 0} (o : Option A) (test other : A → Bool) (P : A → Type 0) → ((x : A) → test x ≡ true → other x ≡ true → P x) → holds_of test o ≡ true → holds_of other o ≡ true → MatchOption o (Unit {0}) P
+held_both None test other P all a b = tt
+held_both (Some x) test other P all a b = all x a b
+
+-- the numbers of an operation have a place in a plan
+small_heap : (f : Profile) → IsValid f → (h : ℕ) → nat_lt h f.heaps ≡ true → h < 2 ^ 8
+small_heap f valid h held = let most = valid.heaps in let lt = ltb-true h f.heaps held in omega (arith, most, lt)
+
+small_sizing : (f : Profile) → IsValid f → (s : Sizing) → nat_le s.size (4096 * f.pages) ≡ true → is_alignment s.align ≡ true → (s.size < 2 ^ 32) × (s.align < 2 ^ 32)
+small_sizing f valid s size align =
+    let most = valid.pages in
+    let le = leb-true s.size (4096 * f.pages) size in
+    let few = (aligns s.align align).1 in
+    (omega (arith, most, le), omega (arith, few))
+
+pub all_fit : (f : Profile) (items : List Item) (t : ℕ) (w : Wish) → IsValid f → OwnPassed f items t w → IsFit w
+all_fit f items t w valid p = (
+  held_both (heap_in w) (λ h. nat_lt h f.heaps) (λ h. nat_lt h f.heaps) _ (λ h held again. small_heap f valid h held) p.heap p.heap,
+  held_both (sizing_in w) (λ s. nat_le s.size (4096 * f.pages)) (λ s. is_alignment s.align) _ (small_sizing f valid) p.size p.align,
+)

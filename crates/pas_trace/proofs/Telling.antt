@@ -4,21 +4,22 @@ use Rattle.std.proofs.Math.ListN.{length-set}
 use Rattle.std.proofs.lemmas.Bool.{eq-eqb, ne_eqb, cases_eq}
 use Rattle.pas_profile.specs.Profiles.{IsValid}
 use Rattle.pas_profile.specs.declared.profile.Profile.{Profile}
-use Rattle.pas_trace.specs.Reasons.{cost_of, costs_of, record_bound, reason_of, operations_in, is_operation, is_phase, actor_of, allocates, is_named, is_named_now, thread_of, started}
-use Rattle.pas_trace.specs.Plans.{shared_by, shared_in, phases_after, phases_in, line_of_newest, own_costs, bound_of, bounds_upto, operation, add_last}
-use Rattle.pas_trace.specs.Told.{owner_in, Tells, NameTold, IsOperated, IsAdded}
-use Rattle.pas_trace.specs.declared.item.Request.{Request}
+use Rattle.pas_trace.specs.Wishes.{name_made, is_name}
+use Rattle.pas_trace.specs.Reasons.{cost_of, costs_of, cost_of_wish, records_of_chore, record_bound, reason_of, operations_in, is_operation, is_phase, actor_of, makes, is_named, is_named_now, thread_of, started}
+use Rattle.pas_trace.specs.Plans.{shared_by, shared_in, phases_after, phases_in, line_of_newest, own_costs, bound_of, bounds_upto, operation, what_wished, what_of_chore, add_last}
+use Rattle.pas_trace.specs.Told.{owner_in, Tells, NameTold, IsReady, IsCounted, IsOperated, IsAdded}
 use Rattle.pas_trace.specs.declared.item.Item.{Item}
-use Rattle.pas_trace.specs.declared.item.Item.TheVariants.{Allocates}
+use Rattle.pas_trace.specs.declared.item.Item.TheVariants.{Operates, Scavenges}
+use Rattle.pas_trace.specs.declared.item.Wish.{Wish}
 use Rattle.pas_trace.specs.declared.names.Owner.{Owner}
 use Rattle.pas_trace.specs.declared.names.Names.{Names}
+use Rattle.pas_trace.specs.declared.plan.Chore.{Chore}
 use Rattle.pas_trace.specs.declared.plan.Op.{Op}
 use Rattle.pas_trace.specs.declared.plan.What.{What}
-use Rattle.pas_trace.specs.declared.plan.What.TheVariants.{Alloc}
 use Rattle.pas_trace.specs.declared.reader.Reader.{Reader}
 use Rattle.pas_trace.proofs.Checking.{bound-after}
 use Rattle.pas_trace.proofs.Gathering.{get_or-written}
-use Rattle.pas_trace.proofs.PassedChecks.{FineCounts, passes, thread_within, actor_within, counts_within}
+use Rattle.pas_trace.proofs.PassedChecks.{FineCounts, own_passed, actor_within, counts_within}
 
 -- ---- costs
 if-le : (b : Bool) (x y z : ℕ) → x ≤ z → y ≤ z → (if b then x else y) ≤ z
@@ -38,14 +39,7 @@ cost-within r items k t lt =
     let all : r.counts.bound ≡ record_bound r.header items = t.bound in
     omega (arith, own, all, own_costs-le r.header k items)
 
--- the reader may count an operation of the actor
-pub record IsReady (r : Reader) (actor cost : ℕ) : Type 0 where
-  pub is_actor : actor < 17
-  pub few : r.counts.operations < 1000000
-  pub small : r.counts.bound + cost ≤ 2000000
-  pub within : get_or r.counts.costs actor 0 ≤ r.counts.bound
-
-pub ready : (r : Reader) (items : List Item) (i : Item) (actor cost : ℕ) → Tells r items → FineCounts r.header items i → actor ≤ 16 → cost ≡ cost_of r.header i → IsReady r actor cost
+pub ready : (r : Reader) (items : List Item) (i : Item) (actor cost : ℕ) → Tells r items → FineCounts r.header items i → actor ≤ 16 → cost ≡ cost_of r.header i → IsReady r.counts actor cost
 ready r items i actor cost t fine le e =
     let few : operations_in items < 1000000 = fine.few in
     let small : record_bound r.header (i ∷ items) ≤ 2000000 = fine.small in
@@ -59,16 +53,16 @@ ready r items i actor cost t fine le e =
     }
 
 -- ---- names
-pub kept-name : (i : Item) (items : List Item) (o : Owner) (p n : ℕ) → is_phase i ≡ false → allocates i n ≡ false → NameTold o p items n → NameTold o p (i ∷ items) n
+pub kept-name : (i : Item) (items : List Item) (o : Owner) (p n : ℕ) → is_phase i ≡ false → makes i n ≡ false → NameTold o p items n → NameTold o p (i ∷ items) n
 kept-name i items o p n phase none h = record {
   named = ap (λ b. b || is_named items n) none ∙ h.named;
   thread = ap (λ b. if b then actor_of i else thread_of items n) none ∙ h.thread;
-  now = ap (λ b. if b then false else (allocates i n || is_named_now items n)) phase ∙ ap (λ b. b || is_named_now items n) none ∙ h.now;
+  now = ap (λ b. if b then false else (makes i n || is_named_now items n)) phase ∙ ap (λ b. b || is_named_now items n) none ∙ h.now;
   before = h.before;
 }
 
-taken-here : (t p : ℕ) (q : Request) (items : List Item) (n : ℕ) → 1 ≤ t → (q.name == n) ≡ true → NameTold (record { thread = t; phase = p }) p (Allocates t q ∷ items) n
-taken-here t p q items n least e =
+taken-here : (t p : ℕ) (w : Wish) (items : List Item) (n : ℕ) → 1 ≤ t → is_name (name_made w) n ≡ true → NameTold (record { thread = t; phase = p }) p (Operates t w ∷ items) n
+taken-here t p w items n least e =
     let some : (t == 0) ≡ false = ne_eqb t 0 (λ z. absurd (omega (arith, z, least))) in
     let same : (p == p) ≡ true = eq-eqb p p refl in
     record {
@@ -78,19 +72,12 @@ taken-here t p q items n least e =
       before = omega arith;
     }
 
-pub taken-name : (t p : ℕ) (q : Request) (items : List Item) (o o' : Owner) (n : ℕ) → 1 ≤ t → o' ≡ (if n == q.name then record { thread = t; phase = p } else o) → NameTold o p items n → NameTold o' p (Allocates t q ∷ items) n
-taken-name t p q items o o' n least e told = elim (cases_eq n q.name) [
-  | inl same ↦
-      let here : (n == q.name) ≡ true = eq-eqb n q.name same in
-      let is : o' ≡ record { thread = t; phase = p } = e ∙ ap (λ b. if b then record { thread = t; phase = p } else o) here in
-      subst (λ (x : Owner). NameTold x p (Allocates t q ∷ items) n) (sym is) (taken-here t p q items n least (eq-eqb q.name n (sym same)))
-  | inr other ↦
-      let there : (n == q.name) ≡ false = ne_eqb n q.name other in
-      let is : o' ≡ o = e ∙ ap (λ b. if b then record { thread = t; phase = p } else o) there in
-      subst (λ (x : Owner). NameTold x p (Allocates t q ∷ items) n) (sym is) (kept-name (Allocates t q) items o p n refl (ne_eqb q.name n (λ x. other (sym x))) told)
-]
+taken-by : (here : Bool) (t p : ℕ) (w : Wish) (items : List Item) (o o' : Owner) (n : ℕ) → is_name (name_made w) n ≡ here → 1 ≤ t → o' ≡ (if here then record { thread = t; phase = p } else o) → NameTold o p items n
+    → NameTold o' p (Operates t w ∷ items) n
+taken-by true t p w items o o' n is least e told = subst (λ (x : Owner). NameTold x p (Operates t w ∷ items) n) (sym e) (taken-here t p w items n least is)
+taken-by false t p w items o o' n is least e told = subst (λ (x : Owner). NameTold x p (Operates t w ∷ items) n) (sym e) (kept-name (Operates t w) items o p n refl is told)
 
--- ---- an item that is an operation
+-- ---- an item that is an operation, of a thread or of the scavenger
 pub record IsOperation (f : Profile) (i : Item) (actor : ℕ) (what : What) (cost : ℕ) : Type 0 where
   pub operates : is_operation i ≡ true
   pub same_phase : is_phase i ≡ false
@@ -116,8 +103,8 @@ cost-added f i items costs actor cost k lt is_actor is_cost told = elim (cases_e
 ]
 
 pub operated : (old new : Reader) (names : Names) (items : List Item) (i : Item) (actor : ℕ) (what : What) (cost : ℕ) → Tells old items → IsOperation old.header i actor what cost
-    → IsReady old actor cost → ((n : ℕ) → NameTold (owner_in names n) old.phase (i ∷ items) n)
-    → IsOperated (record old { line = old.line + 1; names = names }) new actor what cost → Tells new (i ∷ items)
+    → IsReady old.counts actor cost → ((n : ℕ) → NameTold (owner_in names n) old.phase (i ∷ items) n)
+    → IsCounted (record old { line = old.line + 1; names = names }) new actor what cost → Tells new (i ∷ items)
 operated old new names items i actor what cost t op can told h =
     let size : length old.counts.costs ≡ 17 = t.width in
     let actor-lt : actor < length old.counts.costs = omega (arith, size, can.is_actor) in
@@ -142,25 +129,19 @@ operated old new names items i actor what cost t op can told h =
           ∙ sym (op.phases (line_of_newest (i ∷ items)) (phases_in items));
     }
 
--- ---- what any item gives
-pub within-item : (r : Reader) (items : List Item) (i : Item) (actor : ℕ) → Tells r items → reason_of r.header items i ≡ None → actor_of i ≡ actor → get_or r.counts.costs actor 0 ≤ r.counts.bound
-within-item r items i actor t e is =
-    let most = actor_within r.header items i e in
-    let header = t.header in
-    let threads : r.header.threads ≤ 16 = header.threads in
-    cost-within r items actor t (omega (arith, most, threads, is))
-
 -- what the names hold after an item
 abbrev pub NamesAfter : Reader → Names → Item → Type 0
 NamesAfter old names i = (items : List Item) → Tells old items → reason_of old.header items i ≡ None → (n : ℕ) → NameTold (owner_in names n) old.phase (i ∷ items) n
 
-pub names-taken : (old : Reader) (names : Names) (t : ℕ) (q : Request) → ((n : ℕ) → owner_in names n ≡ (if n == q.name then record { thread = t; phase = old.phase } else owner_in old.names n)) → NamesAfter old names (Allocates t q)
-names-taken old names t q given items told e n =
-    let thread = thread_within old.header t (passes old.header items (Allocates t q) e).0 in
-    taken-name t old.phase q items (owner_in old.names n) (owner_in names n) n thread.0 (given n) (told.names n)
+names-taken : (old : Reader) (names : Names) (t : ℕ) (w : Wish) → ((n : ℕ) → owner_in names n ≡ (if is_name (name_made w) n then record { thread = t; phase = old.phase } else owner_in old.names n)) → NamesAfter old names (Operates t w)
+names-taken old names t w given items told e n =
+    taken-by (is_name (name_made w) n) t old.phase w items (owner_in old.names n) (owner_in names n) n refl (own_passed old.header items t w e).thread.0 (given n) (told.names n)
+
+names-kept : (old : Reader) (c : Chore) → NamesAfter old old.names (Scavenges c)
+names-kept old c items told e n = kept-name (Scavenges c) items (owner_in old.names n) old.phase n refl refl (told.names n)
 
 pub added : (old new : Reader) (names : Names) (i : Item) (actor : ℕ) (what : What) (cost : ℕ) → IsOperation old.header i actor what cost → NamesAfter old names i
-    → IsOperated (record old { line = old.line + 1; names = names }) new actor what cost → IsAdded old new i
+    → IsCounted (record old { line = old.line + 1; names = names }) new actor what cost → IsAdded old new i
 added old new names i actor what cost op after h = record {
   header = h.header;
   line = h.line;
@@ -173,9 +154,16 @@ added old new names i actor what cost op after h = record {
       operated old new names items i actor what cost t op can (after items t e) h;
 }
 
--- ---- an allocation is one
-pub is-allocates : (f : Profile) (t : ℕ) (q : Request) (cost : ℕ) → cost_of f (Allocates t q) ≡ cost → IsOperation f (Allocates t q) t (Alloc q.name q.heap q.size q.align) cost
-is-allocates f t q cost e = record { operates = refl; same_phase = refl; marks = λ m. refl; thread = refl; costs = e; phases = λ line ps. refl }
+pub added_wish : (old new : Reader) (t : ℕ) (w : Wish) → IsOperated (record old { line = old.line + 1 }) new t w (cost_of_wish w) → IsAdded old new (Operates t w)
+added_wish old new t w h =
+    let op : IsOperation old.header (Operates t w) t (what_wished w) (cost_of_wish w) = record { operates = refl; same_phase = refl; marks = λ m. refl; thread = refl; costs = refl; phases = λ line ps. refl } in
+    added old new h.names (Operates t w) t (what_wished w) (cost_of_wish w) op (names-taken old h.names t w h.given) h.counted
+
+pub added_chore : (old new : Reader) (c : Chore) → IsCounted (record old { line = old.line + 1 }) new 0 (what_of_chore c) (records_of_chore old.header c) → IsAdded old new (Scavenges c)
+added_chore old new c h =
+    let cost = records_of_chore old.header c in
+    let op : IsOperation old.header (Scavenges c) 0 (what_of_chore c) cost = record { operates = refl; same_phase = refl; marks = λ m. refl; thread = refl; costs = refl; phases = λ line ps. refl } in
+    added old new old.names (Scavenges c) 0 (what_of_chore c) cost op (names-kept old c) h
 
 -- ---- bounds
 pub bounds-more : (f : Profile) (items : List Item) (k deeds cost : ℕ) (bounds more : List ℕ) → bounds ≡ bounds_upto f items k → deeds + cost ≡ bound_of f items k → more ≡ bounds ++ (deeds + cost) ∷ []

@@ -1,6 +1,5 @@
 -- What an operation asks for, in few tables, by which all that is said of operations goes.
 use Rattle.std.specs.Prelude.{ℕ, Option, None, Some}
-use Rattle.pas_profile.specs.declared.name.Name.{Name}
 use Rattle.pas_trace.specs.Reasons.{cost_of_size}
 use Rattle.pas_trace.specs.declared.item.Request.{Request}
 use Rattle.pas_trace.specs.declared.plan.What.{What}

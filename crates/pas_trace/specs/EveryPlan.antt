@@ -3,11 +3,11 @@ use Rattle.std.specs.Prelude.{ℕ, ◌+◌, ◌-◌, ◌*◌, ◌^◌, ◌<◌, 
 use Rattle.pas_profile.specs.Profiles.{IsValid, IsAdmitted}
 use Rattle.pas_profile.specs.declared.profile.Profile.{Profile}
 use Rattle.pas_trace.specs.Asked.{work_of, request_in, epoch_of, cost_of_task}
+pub use Rattle.pas_trace.specs.Reasons.{records_of_chore}
 use Rattle.pas_trace.specs.Plans.{ops_of, phases_of, bounds_of}
 use Rattle.pas_trace.specs.declared.plan.What.{What}
 use Rattle.pas_trace.specs.declared.item.Request.{Request}
 use Rattle.pas_trace.specs.declared.plan.Task.{Task}
-use Rattle.pas_trace.specs.declared.plan.Chore.{Chore}
 use Rattle.pas_trace.specs.declared.plan.Work.{Work}
 use Rattle.pas_trace.specs.declared.plan.Op.{Op}
 use Rattle.pas_trace.specs.declared.plan.Plan.{Plan}
@@ -80,11 +80,6 @@ AreSound f asked [] = Unit {0}
 AreSound f asked (op ∷ ops) = IsActorOf f op.what op.actor × IsSoundWhat f asked op.what × AreSound f (asked_after op.what asked) ops
 
 -- ---- how many records operations may make, beside a deed for each thread and page
-abbrev pub records_of_chore : Profile → Chore → ℕ
-records_of_chore f (Chore.Tick epoch) = 1
-records_of_chore f Chore.Pass = 1 + f.pages
-records_of_chore f (Chore.Idle n) = f.threads
-
 abbrev pub records_of_work : Profile → Work → ℕ
 records_of_work f (Work.Own task) = cost_of_task task
 records_of_work f (Work.Chore chore) = records_of_chore f chore

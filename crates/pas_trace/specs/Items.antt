@@ -3,7 +3,9 @@ use Rattle.std.specs.Prelude.{ℕ, ◌-◌, ◌^◌, ◌==◌, nat_lt, nat_le, B
 use Rattle.pas_trace.specs.Texts.{words_of}
 use Rattle.pas_trace.specs.Numbers.{number_of, address_of_word}
 use Rattle.pas_trace.specs.declared.item.Item.{Item}
-use Rattle.pas_trace.specs.declared.item.Item.TheVariants.{Blank, Shares, NextPhase, Allocates, Frees, FreesRaw, Flushes, Stops, Ticks, Passes, Idles}
+use Rattle.pas_trace.specs.declared.item.Item.TheVariants.{Blank, Shares, NextPhase, Operates, Scavenges}
+use Rattle.pas_trace.specs.declared.item.Wish.TheVariants.{Asks, Frees, FreesRaw, Flushes, Stops}
+use Rattle.pas_trace.specs.declared.plan.Chore.{Chore}
 use Rattle.pas_trace.specs.declared.fault.Reason.{Reason}
 
 -- two words are the same bytes
@@ -58,24 +60,24 @@ item5 make (Some a) (Some b) c d e = item3 (make a b) c d e
 -- ---- a line's words, by how many there are: the first word and the number of words choose the item
 -- `started` says that an operation or a `phase` line stands before: a `shared` line may not follow it
 abbrev pub item_of_one : List ℕ → Result Item Reason
-item_of_one w = if same_bytes w (codes "pass") then Ok Passes else (if same_bytes w (codes "phase") then Ok NextPhase else Err Reason.BadWord)
+item_of_one w = if same_bytes w (codes "pass") then Ok (Scavenges Chore.Pass) else (if same_bytes w (codes "phase") then Ok NextPhase else Err Reason.BadWord)
 
 abbrev pub item_of_two : Bool → List ℕ → List ℕ → Result Item Reason
 item_of_two started w a =
     if same_bytes w (codes "shared") then (if started then Err Reason.BadWord else item1 Shares (plain a)) else
-    (if same_bytes w (codes "flush") then item1 Flushes (plain a) else
-    (if same_bytes w (codes "stop") then item1 Stops (plain a) else
-    (if same_bytes w (codes "tick") then item1 Ticks (epoch_word a) else
-    (if same_bytes w (codes "idle") then item1 Idles (epoch_word a) else Err Reason.BadWord))))
+    (if same_bytes w (codes "flush") then item1 (λ t. Operates t Flushes) (plain a) else
+    (if same_bytes w (codes "stop") then item1 (λ t. Operates t Stops) (plain a) else
+    (if same_bytes w (codes "tick") then item1 (λ e. Scavenges (Chore.Tick e)) (epoch_word a) else
+    (if same_bytes w (codes "idle") then item1 (λ n. Scavenges (Chore.Idle n)) (epoch_word a) else Err Reason.BadWord))))
 
 abbrev pub item_of_three : List ℕ → List ℕ → List ℕ → Result Item Reason
-item_of_three w a b = if same_bytes w (codes "f") then item2 Frees (plain a) (trace_name b) else Err Reason.BadWord
+item_of_three w a b = if same_bytes w (codes "f") then item2 (λ t n. Operates t (Frees n)) (plain a) (trace_name b) else Err Reason.BadWord
 
 abbrev pub item_of_four : List ℕ → List ℕ → List ℕ → List ℕ → Result Item Reason
-item_of_four w a b c = if same_bytes w (codes "r") then item3 FreesRaw (plain a) (address_of_word b) (turn_word c) else Err Reason.BadWord
+item_of_four w a b c = if same_bytes w (codes "r") then item3 (λ t a n. Operates t (FreesRaw a n)) (plain a) (address_of_word b) (turn_word c) else Err Reason.BadWord
 
 abbrev pub item_of_six : List ℕ → List ℕ → List ℕ → List ℕ → List ℕ → List ℕ → Result Item Reason
-item_of_six w a b c d e = if same_bytes w (codes "a") then item5 (λ t n h s a. Allocates t record { name = n; heap = h; size = s; align = a }) (plain a) (trace_name b) (plain c) (plain d) (plain e) else Err Reason.BadWord
+item_of_six w a b c d e = if same_bytes w (codes "a") then item5 (λ t n h s a. Operates t (Asks n h s a)) (plain a) (trace_name b) (plain c) (plain d) (plain e) else Err Reason.BadWord
 
 abbrev pub item_of_words : Bool → List (List ℕ) → Result Item Reason
 item_of_words started [] = Ok Blank

@@ -1,8 +1,7 @@
 -- Lines that were taken apart before those in front of them were read.
-use Rattle.std.specs.Prelude.{ℕ, ◌+◌, ◌≤◌, ◌≡◌, Bool, List, ◌++◌, map, length, All, Ok}
+use Rattle.std.specs.Prelude.{ℕ, ◌+◌, ◌≤◌, ◌≡◌, Bool, List, ◌++◌, map, length, Ok}
 use Rattle.pas_trace.specs.Texts.{lines_of}
 use Rattle.pas_trace.specs.Items.{item_of_line}
-use Rattle.pas_trace.specs.Told.{IsRanged}
 use Rattle.pas_trace.specs.declared.item.Item.{Item}
 
 -- the lines say these items, one by one, whatever stands before them
@@ -14,5 +13,4 @@ pub record AreLexed (text : List ℕ) (items : List Item) (left : List ℕ) : Ty
   pub lines : List (List ℕ)
   pub cut : lines_of text ≡ lines ++ lines_of left
   pub say : Say lines items
-  pub ranged : All IsRanged items
   pub few : length items + length left ≤ length text

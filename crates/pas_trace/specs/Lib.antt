@@ -1,5 +1,6 @@
 pub mod Texts
 pub mod Numbers
+pub mod Wishes
 pub mod Items
 pub mod FirstLines
 pub mod Reasons

@@ -4,7 +4,10 @@ use Rattle.pas_profile.specs.declared.profile.Profile.{Profile}
 use Rattle.pas_profile.specs.declared.name.Name.{Name}
 use Rattle.pas_trace.specs.Texts.{lines_of}
 use Rattle.pas_trace.specs.declared.item.Item.{Item}
-use Rattle.pas_trace.specs.declared.item.Item.TheVariants.{Blank, Shares, NextPhase, Allocates, Frees, FreesRaw, Flushes, Stops, Ticks, Passes, Idles}
+use Rattle.pas_trace.specs.declared.item.Item.TheVariants.{Blank, Shares, NextPhase, Operates, Scavenges}
+use Rattle.pas_trace.specs.declared.item.Wish.{Wish}
+use Rattle.pas_trace.specs.declared.item.Wish.TheVariants.{Asks, Frees, FreesRaw, Flushes, Stops}
+use Rattle.pas_trace.specs.declared.plan.Chore.{Chore}
 use Rattle.pas_trace.specs.Reasons.{header_of, line_says, is_named, actor_of, cost_of, record_bound}
 use Rattle.pas_trace.specs.declared.fault.Reason.{Reason}
 use Rattle.pas_trace.specs.declared.fault.TraceFault.{TraceFault}
@@ -57,14 +60,8 @@ abbrev pub shared_by : Item → ℕ → ℕ
 shared_by Blank marks = marks
 shared_by (Shares h) marks = bit_or marks (2 ^ h)
 shared_by NextPhase marks = marks
-shared_by (Allocates t q) marks = marks
-shared_by (Frees t n) marks = marks
-shared_by (FreesRaw t a n) marks = marks
-shared_by (Flushes t) marks = marks
-shared_by (Stops t) marks = marks
-shared_by (Ticks e) marks = marks
-shared_by Passes marks = marks
-shared_by (Idles n) marks = marks
+shared_by (Operates t w) marks = marks
+shared_by (Scavenges c) marks = marks
 
 abbrev pub shared_in : List Item → ℕ
 shared_in [] = 0
@@ -76,19 +73,26 @@ name_at address turn = record { address = record { 0 = address }; turn = turn }
 abbrev pub operation : ℕ → ℕ → What → Op
 operation line actor what = record { line = line; actor = actor; what = what }
 
+-- what a wish and a chore are in a plan
+abbrev pub what_wished : Wish → What
+what_wished (Asks n h s a) = Alloc n h s a
+what_wished (Frees n) = Free n
+what_wished (FreesRaw a n) = Raw (name_at a n)
+what_wished Flushes = Flush
+what_wished Stops = Stop
+
+abbrev pub what_of_chore : Chore → What
+what_of_chore (Chore.Tick epoch) = Tick epoch
+what_of_chore Chore.Pass = Pass
+what_of_chore (Chore.Idle n) = Idle n
+
 -- an item's operation, where it is one
 abbrev pub operation_of : ℕ → Item → Option Op
 operation_of line Blank = None
 operation_of line (Shares h) = None
 operation_of line NextPhase = None
-operation_of line (Allocates t q) = Some (operation line t (Alloc q.name q.heap q.size q.align))
-operation_of line (Frees t n) = Some (operation line t (Free n))
-operation_of line (FreesRaw t a n) = Some (operation line t (Raw (name_at a n)))
-operation_of line (Flushes t) = Some (operation line t Flush)
-operation_of line (Stops t) = Some (operation line t Stop)
-operation_of line (Ticks e) = Some (operation line 0 (Tick e))
-operation_of line Passes = Some (operation line 0 Pass)
-operation_of line (Idles n) = Some (operation line 0 (Idle n))
+operation_of line (Operates t w) = Some (operation line t (what_wished w))
+operation_of line (Scavenges c) = Some (operation line 0 (what_of_chore c))
 
 -- the phases so far, with their operations in order, from the items (newest first): a `phase` line begins an empty one, and an operation goes
 -- to the end of the last one
@@ -107,14 +111,8 @@ abbrev pub phases_after : Item → ℕ → List (List Op) → List (List Op)
 phases_after Blank line phases = phases
 phases_after (Shares h) line phases = phases
 phases_after NextPhase line phases = phases ++ [] ∷ []
-phases_after (Allocates t q) line phases = add_last (operation_of line (Allocates t q)) phases
-phases_after (Frees t n) line phases = add_last (operation_of line (Frees t n)) phases
-phases_after (FreesRaw t a n) line phases = add_last (operation_of line (FreesRaw t a n)) phases
-phases_after (Flushes t) line phases = add_last (operation_of line (Flushes t)) phases
-phases_after (Stops t) line phases = add_last (operation_of line (Stops t)) phases
-phases_after (Ticks e) line phases = add_last (operation_of line (Ticks e)) phases
-phases_after Passes line phases = add_last (operation_of line Passes) phases
-phases_after (Idles n) line phases = add_last (operation_of line (Idles n)) phases
+phases_after (Operates t w) line phases = add_last (operation_of line (Operates t w)) phases
+phases_after (Scavenges c) line phases = add_last (operation_of line (Scavenges c)) phases
 
 abbrev pub phases_in : List Item → List (List Op)
 phases_in [] = [] ∷ []
@@ -145,7 +143,7 @@ phases_of phases = phases.phases.items
 abbrev pub bounds_of : Bounds → List ℕ
 bounds_of bounds = bounds.bounds.items
 
--- each name that the items allocate is below the limit
+-- each name that the items make is below the limit
 abbrev pub AreNamedBelow : ℕ → List Item → Type 0
 AreNamedBelow limit items = (name : ℕ) → is_named items name ≡ true → name < limit
 

@@ -4,7 +4,11 @@ use Rattle.pas_profile.specs.declared.profile.Profile.{Profile}
 use Rattle.pas_trace.specs.Texts.{words_of}
 use Rattle.pas_trace.specs.Numbers.{number_of}
 use Rattle.pas_trace.specs.declared.item.Item.{Item}
-use Rattle.pas_trace.specs.declared.item.Item.TheVariants.{Blank, Shares, NextPhase, Allocates, Frees, FreesRaw, Flushes, Stops, Ticks, Passes, Idles}
+use Rattle.pas_trace.specs.declared.item.Item.TheVariants.{Blank, Shares, NextPhase, Operates, Scavenges}
+use Rattle.pas_trace.specs.declared.item.Wish.{Wish}
+use Rattle.pas_trace.specs.declared.item.Wish.TheVariants.{Asks, Frees, FreesRaw, Flushes, Stops}
+use Rattle.pas_trace.specs.declared.plan.Chore.{Chore}
+use Rattle.pas_trace.specs.Wishes.{heap_in, sizing_in, name_made, name_freed, holds_of, is_name}
 use Rattle.pas_trace.specs.Items.{same_bytes, item_of_line}
 use Rattle.pas_trace.specs.declared.fault.Reason.{Reason}
 
@@ -35,27 +39,15 @@ abbrev pub is_operation : Item → Bool
 is_operation Blank = false
 is_operation (Shares h) = false
 is_operation NextPhase = false
-is_operation (Allocates t q) = true
-is_operation (Frees t n) = true
-is_operation (FreesRaw t a n) = true
-is_operation (Flushes t) = true
-is_operation (Stops t) = true
-is_operation (Ticks e) = true
-is_operation Passes = true
-is_operation (Idles n) = true
+is_operation (Operates t w) = true
+is_operation (Scavenges c) = true
 
 abbrev pub is_phase : Item → Bool
 is_phase Blank = false
 is_phase (Shares h) = false
 is_phase NextPhase = true
-is_phase (Allocates t q) = false
-is_phase (Frees t n) = false
-is_phase (FreesRaw t a n) = false
-is_phase (Flushes t) = false
-is_phase (Stops t) = false
-is_phase (Ticks e) = false
-is_phase Passes = false
-is_phase (Idles n) = false
+is_phase (Operates t w) = false
+is_phase (Scavenges c) = false
 
 -- an operation or a `phase` line stood before
 abbrev pub started : List Item → Bool
@@ -66,48 +58,36 @@ abbrev pub operations_in : List Item → ℕ
 operations_in [] = 0
 operations_in (i ∷ earlier) = if is_operation i then operations_in earlier + 1 else operations_in earlier
 
--- the item allocates the name
-abbrev pub allocates : Item → ℕ → Bool
-allocates Blank name = false
-allocates (Shares h) name = false
-allocates NextPhase name = false
-allocates (Allocates t q) name = q.name == name
-allocates (Frees t n) name = false
-allocates (FreesRaw t a n) name = false
-allocates (Flushes t) name = false
-allocates (Stops t) name = false
-allocates (Ticks e) name = false
-allocates Passes name = false
-allocates (Idles n) name = false
+-- the item makes the name
+abbrev pub makes : Item → ℕ → Bool
+makes Blank name = false
+makes (Shares h) name = false
+makes NextPhase name = false
+makes (Operates t w) name = is_name (name_made w) name
+makes (Scavenges c) name = false
 
--- an allocation before has the name
+-- an item before made the name
 abbrev pub is_named : List Item → ℕ → Bool
 is_named [] name = false
-is_named (i ∷ earlier) name = allocates i name || is_named earlier name
+is_named (i ∷ earlier) name = makes i name || is_named earlier name
 
 -- .. in the present phase
 abbrev pub is_named_now : List Item → ℕ → Bool
 is_named_now [] name = false
-is_named_now (i ∷ earlier) name = if is_phase i then false else (allocates i name || is_named_now earlier name)
+is_named_now (i ∷ earlier) name = if is_phase i then false else (makes i name || is_named_now earlier name)
 
 -- the thread of a line; 0 for those of the scavenger and those that are no operations
 abbrev pub actor_of : Item → ℕ
 actor_of Blank = 0
 actor_of (Shares h) = 0
 actor_of NextPhase = 0
-actor_of (Allocates t q) = t
-actor_of (Frees t n) = t
-actor_of (FreesRaw t a n) = t
-actor_of (Flushes t) = t
-actor_of (Stops t) = t
-actor_of (Ticks e) = 0
-actor_of Passes = 0
-actor_of (Idles n) = 0
+actor_of (Operates t w) = t
+actor_of (Scavenges c) = 0
 
--- the thread that allocated the name
+-- the thread that made the name
 abbrev pub thread_of : List Item → ℕ → ℕ
 thread_of [] name = 0
-thread_of (i ∷ earlier) name = if allocates i name then actor_of i else thread_of earlier name
+thread_of (i ∷ earlier) name = if makes i name then actor_of i else thread_of earlier name
 
 -- ---- how many records an item may make
 -- whole pages that hold so many bytes
@@ -118,18 +98,26 @@ pages_for size = (size + 4095) / 4096
 abbrev pub cost_of_size : ℕ → ℕ
 cost_of_size size = if nat_le size 2048 then 2 else 1 + pages_for size
 
+-- of an operation of a thread
+abbrev pub cost_of_wish : Wish → ℕ
+cost_of_wish (Asks n h s a) = cost_of_size s
+cost_of_wish (Frees n) = 1
+cost_of_wish (FreesRaw a n) = 1
+cost_of_wish Flushes = 0
+cost_of_wish Stops = 0
+
+-- of one of the scavenger
+abbrev pub records_of_chore : Profile → Chore → ℕ
+records_of_chore f (Chore.Tick epoch) = 1
+records_of_chore f Chore.Pass = 1 + f.pages
+records_of_chore f (Chore.Idle n) = f.threads
+
 abbrev pub cost_of : Profile → Item → ℕ
 cost_of f Blank = 0
 cost_of f (Shares h) = 0
 cost_of f NextPhase = 0
-cost_of f (Allocates t q) = cost_of_size q.size
-cost_of f (Frees t n) = 1
-cost_of f (FreesRaw t a n) = 1
-cost_of f (Flushes t) = 0
-cost_of f (Stops t) = 0
-cost_of f (Ticks e) = 1
-cost_of f Passes = 1 + f.pages
-cost_of f (Idles n) = f.threads
+cost_of f (Operates t w) = cost_of_wish w
+cost_of f (Scavenges c) = records_of_chore f c
 
 abbrev pub costs_of : Profile → List Item → ℕ
 costs_of f [] = 0
@@ -151,28 +139,33 @@ is_alignment a = nat_le 16 a && nat_le a 4096 && (4096 % a == 0)
 abbrev pub is_thread : Profile → ℕ → Bool
 is_thread f t = nat_le 1 t && nat_le t f.threads
 
-abbrev pub few_enough : Profile → List Item → Item → List (Bool × Reason)
-few_enough f earlier i = (nat_lt (operations_in earlier) 1000000, Reason.TooManyOps) ∷ (nat_le (record_bound f (i ∷ earlier)) 2000000, Reason.TraceTooLarge) ∷ []
+-- those of every operation, by how many there were before, and how many records there may be with this one
+abbrev pub few_enough : ℕ → ℕ → List (Bool × Reason)
+few_enough operations records = (nat_lt operations 1000000, Reason.TooManyOps) ∷ (nat_le records 2000000, Reason.TraceTooLarge) ∷ []
 
-abbrev pub thread_first : Profile → List Item → ℕ → Item → List (Bool × Reason)
-thread_first f earlier t i = (is_thread f t, Reason.BadThread) ∷ few_enough f earlier i
+-- Those of a thread's operation, by what is known of the lines before: which names were made, and which of these the thread may free. A check that
+-- asks for a value holds where the operation has none.
+abbrev pub own_checks : Profile → (ℕ → Bool) → (ℕ → Bool) → ℕ → Wish → List (Bool × Reason) → List (Bool × Reason)
+own_checks f is_known may_free t w few =
+    (is_thread f t, Reason.BadThread)
+    ∷ (holds_of (λ h. nat_lt h f.heaps) (heap_in w), Reason.BadHeap)
+    ∷ (holds_of (λ s. nat_le s.size (4096 * f.pages)) (sizing_in w), Reason.BadSize)
+    ∷ (holds_of (λ s. is_alignment s.align) (sizing_in w), Reason.BadAlign)
+    ∷ (holds_of (λ n. not (is_known n)) (name_made w), Reason.NameTaken)
+    ∷ (holds_of is_known (name_freed w), Reason.NameUnknown)
+    ∷ (holds_of may_free (name_freed w), Reason.TooEarly)
+    ∷ few
+
+-- a name that another thread made isn't free for this one in the same phase
+abbrev pub may_free : List Item → ℕ → ℕ → Bool
+may_free earlier t name = (t == thread_of earlier name) || not (is_named_now earlier name)
 
 abbrev pub checks_of : Profile → List Item → Item → List (Bool × Reason)
 checks_of f earlier Blank = []
 checks_of f earlier (Shares h) = (nat_lt h f.heaps, Reason.BadHeap) ∷ []
 checks_of f earlier NextPhase = []
-checks_of f earlier (Allocates t q) =
-    (is_thread f t, Reason.BadThread) ∷ (nat_lt q.heap f.heaps, Reason.BadHeap) ∷ (nat_le q.size (4096 * f.pages), Reason.BadSize) ∷ (is_alignment q.align, Reason.BadAlign)
-    ∷ (not (is_named earlier q.name), Reason.NameTaken) ∷ few_enough f earlier (Allocates t q)
-checks_of f earlier (Frees t n) =
-    (is_thread f t, Reason.BadThread) ∷ (is_named earlier n, Reason.NameUnknown) ∷ ((t == thread_of earlier n) || not (is_named_now earlier n), Reason.TooEarly)
-    ∷ few_enough f earlier (Frees t n)
-checks_of f earlier (FreesRaw t a n) = thread_first f earlier t (FreesRaw t a n)
-checks_of f earlier (Flushes t) = thread_first f earlier t (Flushes t)
-checks_of f earlier (Stops t) = thread_first f earlier t (Stops t)
-checks_of f earlier (Ticks e) = few_enough f earlier (Ticks e)
-checks_of f earlier Passes = few_enough f earlier Passes
-checks_of f earlier (Idles n) = few_enough f earlier (Idles n)
+checks_of f earlier (Operates t w) = own_checks f (is_named earlier) (may_free earlier t) t w (few_enough (operations_in earlier) (record_bound f (Operates t w ∷ earlier)))
+checks_of f earlier (Scavenges c) = few_enough (operations_in earlier) (record_bound f (Scavenges c ∷ earlier))
 
 -- the fault of an item after those before it
 abbrev pub reason_of : Profile → List Item → Item → Option Reason

@@ -1,19 +1,22 @@
 -- What the reader keeps of the lines that it has read.
-use Rattle.std.specs.Prelude.{if◌then◌else◌, ℕ, ◌+◌, ◌*◌, ◌^◌, ◌==◌, ◌≡◌, ◌≤◌, ◌<◌, nat_lt, nat_le, Bool, true, not, ◌&&◌, ◌||◌, List, [], ◌∷◌, ◌++◌, map, length, None, Some, Result, Ok, Err, slice_index, slice_index_or, slice_set}
+use Rattle.std.specs.Prelude.{if◌then◌else◌, ℕ, ◌+◌, ◌==◌, ◌≡◌, ◌≤◌, ◌<◌, nat_lt, Bool, true, not, ◌&&◌, ◌||◌, List, [], ◌∷◌, ◌++◌, map, length, Option, None, Some, Result, Ok, Err, slice_index, slice_index_or, slice_set}
 use Rattle.pas_profile.specs.Profiles.{IsValid}
 use Rattle.pas_profile.specs.declared.profile.Profile.{Profile}
-use Rattle.pas_trace.specs.Reasons.{header_of, first_failed, is_thread, is_alignment, cost_of, started, operations_in, is_named, is_named_now, thread_of, record_bound, line_says, reason_of}
+use Rattle.pas_trace.specs.Wishes.{name_made, is_name}
+use Rattle.pas_trace.specs.Reasons.{header_of, first_failed, is_thread, few_enough, own_checks, cost_of_wish, records_of_chore, started, operations_in, is_named, is_named_now, thread_of, record_bound, line_says, reason_of}
 use Rattle.pas_trace.specs.declared.fault.Reason.{Reason}
 use Rattle.pas_trace.specs.declared.item.Item.{Item}
-use Rattle.pas_trace.specs.declared.item.Item.TheVariants.{Blank, Shares, NextPhase, Allocates, Frees, FreesRaw, Flushes, Stops, Ticks, Passes, Idles}
+use Rattle.pas_trace.specs.declared.item.Item.TheVariants.{Blank, Shares, NextPhase, Operates, Scavenges}
+use Rattle.pas_trace.specs.declared.item.Wish.{Wish}
 use Rattle.pas_trace.specs.declared.reader.Reader.{Reader}
 use Rattle.pas_trace.specs.Texts.{lines_of}
-use Rattle.pas_trace.specs.Plans.{ops_of, phases_of, bounds_of, phases_in, shared_in, line_of_newest, own_costs, bounds_upto, AreNamedBelow, add_last, operation, fault_at, items_from}
+use Rattle.pas_trace.specs.Plans.{ops_of, phases_of, bounds_of, phases_in, shared_in, line_of_newest, own_costs, bounds_upto, AreNamedBelow, add_last, operation, what_wished, fault_at, items_from}
 use Rattle.pas_trace.specs.declared.plan.Op.{Op}
 use Rattle.pas_trace.specs.declared.plan.What.{What}
 use Rattle.pas_trace.specs.declared.plan.Plan.{Plan}
 use Rattle.pas_trace.specs.declared.fault.ReadFault.{ReadFault}
 use Rattle.pas_trace.specs.declared.fault.ReadFault.TheVariants.{Trace, NoMemory}
+use Rattle.pas_trace.specs.declared.counts.Counts.{Counts}
 use Rattle.pas_trace.specs.declared.names.Owner.{Owner}
 use Rattle.pas_trace.specs.declared.names.Names.{Names}
 use Rattle.pas_trace.specs.declared.gathered.Gathered.{Gathered}
@@ -28,7 +31,7 @@ gathered_phases gathered = map ops_of gathered.done.items ++ gathered.present.it
 
 -- ---- the checks, by what the reader keeps
 abbrev pub few_told : Reader → ℕ → List (Bool × Reason)
-few_told r cost = (nat_lt r.counts.operations 1000000, Reason.TooManyOps) ∷ (nat_le (r.counts.bound + cost) 2000000, Reason.TraceTooLarge) ∷ []
+few_told r cost = few_enough r.counts.operations (r.counts.bound + cost)
 
 abbrev pub thread_told : Reader → ℕ → ℕ → List (Bool × Reason)
 thread_told r t cost = (is_thread r.header t, Reason.BadThread) ∷ few_told r cost
@@ -39,41 +42,23 @@ has_owner r n = not ((owner_in r.names n).thread == 0)
 abbrev pub has_owner_now : Reader → ℕ → Bool
 has_owner_now r n = has_owner r n && ((owner_in r.names n).phase == r.phase)
 
+abbrev pub may_free_told : Reader → ℕ → ℕ → Bool
+may_free_told r t n = (t == (owner_in r.names n).thread) || not (has_owner_now r n)
+
 abbrev pub told_checks : Reader → Item → List (Bool × Reason)
 told_checks r Blank = []
 told_checks r (Shares h) = (nat_lt h r.header.heaps, Reason.BadHeap) ∷ []
 told_checks r NextPhase = []
-told_checks r (Allocates t q) =
-    (is_thread r.header t, Reason.BadThread) ∷ (nat_lt q.heap r.header.heaps, Reason.BadHeap) ∷ (nat_le q.size (4096 * r.header.pages), Reason.BadSize) ∷ (is_alignment q.align, Reason.BadAlign)
-    ∷ (not (has_owner r q.name), Reason.NameTaken) ∷ few_told r (cost_of r.header (Allocates t q))
-told_checks r (Frees t n) =
-    (is_thread r.header t, Reason.BadThread) ∷ (has_owner r n, Reason.NameUnknown) ∷ ((t == (owner_in r.names n).thread) || not (has_owner_now r n), Reason.TooEarly)
-    ∷ few_told r 1
-told_checks r (FreesRaw t a n) = thread_told r t 1
-told_checks r (Flushes t) = thread_told r t 0
-told_checks r (Stops t) = thread_told r t 0
-told_checks r (Ticks e) = few_told r 1
-told_checks r Passes = few_told r (cost_of r.header Passes)
-told_checks r (Idles n) = few_told r (cost_of r.header (Idles n))
+told_checks r (Operates t w) = own_checks r.header (has_owner r) (may_free_told r t) t w (few_told r (cost_of_wish w))
+told_checks r (Scavenges c) = few_told r (records_of_chore r.header c)
 
--- the answer of the checks: the cost where all hold, or the first reason
-abbrev pub IsChecked : List (Bool × Reason) → ℕ → Result ℕ Reason → Type 0
-IsChecked checks cost (Ok c) = (first_failed checks ≡ None) × (c ≡ cost)
-IsChecked checks cost (Err r) = first_failed checks ≡ Some r
+abbrev pub reason_told : Reader → ℕ → Wish → Option Reason
+reason_told r t w = first_failed (told_checks r (Operates t w))
 
--- ---- the numbers of an item, as far as its words bound them
-abbrev pub IsRanged : Item → Type 0
-IsRanged Blank = Unit {0}
-IsRanged (Shares h) = Unit {0}
-IsRanged NextPhase = Unit {0}
-IsRanged (Allocates t q) = q.name ≤ 1000000
-IsRanged (Frees t n) = n ≤ 1000000
-IsRanged (FreesRaw t a n) = a < 2 ^ 32
-IsRanged (Flushes t) = Unit {0}
-IsRanged (Stops t) = Unit {0}
-IsRanged (Ticks e) = Unit {0}
-IsRanged Passes = Unit {0}
-IsRanged (Idles n) = Unit {0}
+-- the answer of checks of which this is the first that fails: the cost where all hold, or the reason
+abbrev pub IsChecked : Option Reason → ℕ → Result ℕ Reason → Type 0
+IsChecked failed cost (Ok c) = (failed ≡ None) × (c ≡ cost)
+IsChecked failed cost (Err r) = failed ≡ Some r
 
 -- ---- what the reader keeps, told by the items that it has read
 
@@ -98,8 +83,15 @@ pub record Tells (r : Reader) (items : List Item) : Type 0 where
   pub costs : (k : ℕ) → k < 17 → slice_index r.counts.costs k ≡ own_costs r.header k items
   pub phases : gathered_phases r.gathered ≡ phases_in items
 
--- an operation was added
-pub record IsOperated (old new : Reader) (actor : ℕ) (what : What) (cost : ℕ) : Type 0 where
+-- an operation of the actor may be counted
+pub record IsReady (counts : Counts) (actor cost : ℕ) : Type 0 where
+  pub is_actor : actor < 17
+  pub few : counts.operations < 1000000
+  pub small : counts.bound + cost ≤ 2000000
+  pub within : slice_index counts.costs actor ≤ counts.bound
+
+-- an operation was counted and added
+pub record IsCounted (old new : Reader) (actor : ℕ) (what : What) (cost : ℕ) : Type 0 where
   pub header : new.header ≡ old.header
   pub shared : new.shared ≡ old.shared
   pub started : new.started ≡ true
@@ -111,11 +103,11 @@ pub record IsOperated (old new : Reader) (actor : ℕ) (what : What) (cost : ℕ
   pub costs : new.counts.costs ≡ slice_set old.counts.costs actor (slice_index old.counts.costs actor + cost)
   pub phases : gathered_phases new.gathered ≡ add_last (Some (operation old.line actor what)) (gathered_phases old.gathered)
 
--- an operation that allocates the name was added, and the name given to the thread
-pub record IsAllocated (old new : Reader) (thread name : ℕ) (what : What) (cost : ℕ) : Type 0 where
+-- .. and the name that it makes was given to its thread
+pub record IsOperated (old new : Reader) (actor : ℕ) (wish : Wish) (cost : ℕ) : Type 0 where
   pub names : Names
-  pub given : (n : ℕ) → owner_in names n ≡ (if n == name then record { thread = thread; phase = old.phase } else owner_in old.names n)
-  pub operated : IsOperated (record old { names = names }) new thread what cost
+  pub given : (n : ℕ) → owner_in names n ≡ (if is_name (name_made wish) n then record { thread = actor; phase = old.phase } else owner_in old.names n)
+  pub counted : IsCounted (record old { names = names }) new actor (what_wished wish) cost
 
 -- the next phase was begun
 pub record IsNextPhase (old new : Reader) : Type 0 where

@@ -2,9 +2,8 @@
 ghost use Rattle.std.specs.Prelude.{◌≡◌, ◌≤◌, ◌<◌, ◌^◌, ◌++◌, IfSome, true, length, take, codes};
 ghost use Rattle.pas_trace.specs.FirstLines.{BeginsWith, FirstSays};
 ghost use Rattle.pas_trace.specs.Numbers.{all_digits, value_from};
-ghost use Rattle.pas_trace.specs.Told.{IsRanged};
 
-use crate::item::{Item, Request};
+use crate::item::{Item, Wish};
 use crate::items::MOST_NAME;
 
 /// The most digits that are read here: no value of so many overflows.
@@ -58,8 +57,7 @@ fn front_number(text: &[u8], end: u8) -> Option<(u64, &[u8])>
 /// What a line `a T NAME H SIZE ALIGN` says, and the text after it, where this text follows its first two bytes.
 #[inline(always)]
 fn front_allocation(text: &[u8]) -> Option<(Item, &[u8])>
-    ensures says { IfSome result (λ p. FirstSays (codes "a " ++ text.now) p.0 p.1.now) }
-    ensures ranged { IfSome result (λ p. IsRanged p.0) }
+    ensures { IfSome result (λ p. FirstSays (codes "a " ++ text.now) p.0 p.1.now) }
 {
     let (thread, after_thread) = front_number(text, b' ')?;
     let (name, after_name) = front_number(after_thread, b' ')?;
@@ -69,35 +67,34 @@ fn front_allocation(text: &[u8]) -> Option<(Item, &[u8])>
     if name < 1 || name > MOST_NAME {
         return None;
     }
-    let request = Request {
-        name,
+    let wish = Wish::Asks {
+        name: name as u32,
         heap,
         size,
         align,
     };
-    Some((Item::Allocates { thread, request }, rest))
+    Some((Item::Operates { thread, wish }, rest))
 }
 
 /// What a line `f T NAME` says, and the text after it, where this text follows its first two bytes.
 #[inline(always)]
 fn front_free(text: &[u8]) -> Option<(Item, &[u8])>
-    ensures says { IfSome result (λ p. FirstSays (codes "f " ++ text.now) p.0 p.1.now) }
-    ensures ranged { IfSome result (λ p. IsRanged p.0) }
+    ensures { IfSome result (λ p. FirstSays (codes "f " ++ text.now) p.0 p.1.now) }
 {
     let (thread, after_thread) = front_number(text, b' ')?;
     let (name, rest) = front_number(after_thread, b'\n')?;
     if name < 1 || name > MOST_NAME {
         return None;
     }
-    Some((Item::Frees { thread, name }, rest))
+    let wish = Wish::Frees { name: name as u32 };
+    Some((Item::Operates { thread, wish }, rest))
 }
 
 /// What the first line of a text says, and the text after it. None for all lines but those that ask for a block or free one by its
 /// name, with single spaces and numbers of up to 18 digits in range: where it answers, it answers the item of the line.
 #[inline(always)]
 pub fn front_item(text: &[u8]) -> Option<(Item, &[u8])>
-    ensures says { IfSome result (λ p. FirstSays text.now p.0 p.1.now) }
-    ensures ranged { IfSome result (λ p. IsRanged p.0) }
+    ensures { IfSome result (λ p. FirstSays text.now p.0 p.1.now) }
 {
     if text.len() < 2 || text[1] != b' ' {
         return None;

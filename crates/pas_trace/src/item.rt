@@ -1,15 +1,43 @@
 //! What the lines of a trace say.
 
+use crate::plan::Chore;
+use std::mem::size_of;
+
 /// A request for so many bytes under the trace name, from the heap, at a multiple of the alignment.
 #[derive(Clone, Copy, PartialEq, Eq, Drop)]
 pub struct Request {
-    pub name: u64,
+    pub name: u32,
     pub heap: u64,
     pub size: u64,
     pub align: u64,
 }
 
-/// What a line from the second on says.
+/// What an operation of a thread asks for, with its numbers as they are written.
+#[derive(Clone, Copy, PartialEq, Eq, Drop)]
+pub enum Wish {
+    /// A block of so many bytes under the trace name, from the heap, at a multiple of the alignment.
+    Asks {
+        name: u32,
+        heap: u64,
+        size: u64,
+        align: u64,
+    },
+    /// The end of the block that has the trace name.
+    Frees {
+        name: u32,
+    },
+    /// The end of the block with this address and turn.
+    FreesRaw {
+        address: u32,
+        turn: u64,
+    },
+    /// That the frees are passed on which the thread has saved.
+    Flushes,
+    /// That the thread stops.
+    Stops,
+}
+
+/// What a line from the second on says, in 48 bytes.
 #[derive(Clone, Copy, PartialEq, Eq, Drop)]
 pub enum Item {
     /// A line without a word, or a comment.
@@ -18,30 +46,10 @@ pub enum Item {
     Shares(u64),
     /// The next phase begins.
     NextPhase,
-    /// The thread asks for a block.
-    Allocates {
-        thread: u64,
-        request: Request,
-    },
-    /// The thread frees the block that has the trace name.
-    Frees {
-        thread: u64,
-        name: u64,
-    },
-    /// The thread frees the block with this address and turn.
-    FreesRaw {
-        thread: u64,
-        address: u64,
-        turn: u64,
-    },
-    /// The thread passes on the frees that it has saved.
-    Flushes(u64),
-    /// The thread stops.
-    Stops(u64),
-    /// The scavenger is told the epoch.
-    Ticks(u64),
-    /// The scavenger goes over the pages.
-    Passes,
-    /// The scavenger waits so long for the threads.
-    Idles(u64),
+    /// An operation of the thread.
+    Operates { thread: u64, wish: Wish },
+    /// An operation of the scavenger.
+    Scavenges(Chore),
 }
+
+const _: () = prove!(size_of::<Item>() == 48);

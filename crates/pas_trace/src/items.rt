@@ -1,13 +1,13 @@
 //! From a line to what it says.
-ghost use Rattle.std.specs.Prelude.{◌≡◌, ℕ, Option, Some, None, ◌≤◌, ◌<◌, ◌^◌, IfOk, MatchResult};
-ghost use Rattle.pas_trace.specs.Told.{IsRanged};
+ghost use Rattle.std.specs.Prelude.{◌≡◌, ℕ, Option, Some, None, MatchResult};
 ghost use Rattle.pas_trace.specs.Items.{plain, trace_name, epoch_word, turn_word, item_of_one, item_of_two, item_of_three, item_of_four, item_of_six, item_of_words, item_of_line};
 ghost use Rattle.pas_trace.specs.Numbers.{address_of_word};
 ghost use Rattle.pas_trace.specs.Texts.{words_of};
 
 use crate::fault::Reason;
-use crate::item::{Item, Request};
+use crate::item::{Item, Wish};
 use crate::numbers::{address, number};
+use crate::plan::Chore;
 use crate::words::{is_word, next_word};
 
 /// The greatest trace name.
@@ -26,12 +26,11 @@ fn number_at(word: &[u8]) -> Result<u64, Reason>
 
 /// The trace name that a place holds, from 1 to 1,000,000.
 #[inline]
-fn name_at(word: &[u8]) -> Result<u64, Reason>
-    ensures small { IfOk result (λ n. n ≤ 1000000) }
-    ensures value { MatchResult result (λ n. trace_name word.now ≡ Some n) (λ r. (trace_name word.now ≡ None) × (r ≡ Reason.BadNumber)) }
+fn name_at(word: &[u8]) -> Result<u32, Reason>
+    ensures { MatchResult result (λ n. trace_name word.now ≡ Some n) (λ r. (trace_name word.now ≡ None) × (r ≡ Reason.BadNumber)) }
 {
     match number(word) {
-        Some(value) if value >= 1 && value <= MOST_NAME => Ok(value),
+        Some(value) if value >= 1 && value <= MOST_NAME => Ok(value as u32),
         _ => Err(Reason::BadNumber),
     }
 }
@@ -59,20 +58,21 @@ fn turn_at(word: &[u8]) -> Result<u64, Reason>
 }
 
 /// The address that a place holds.
-fn address_at(word: &[u8]) -> Result<u64, Reason>
-    ensures small { IfOk result (λ n. n < 2 ^ 32) }
-    ensures value { MatchResult result (λ n. address_of_word word.now ≡ Some n) (λ r. (address_of_word word.now ≡ None) × (r ≡ Reason.BadNumber)) }
+fn address_at(word: &[u8]) -> Result<u32, Reason>
+    ensures { MatchResult result (λ n. address_of_word word.now ≡ Some n) (λ r. (address_of_word word.now ≡ None) × (r ≡ Reason.BadNumber)) }
 {
-    address(word).ok_or(Reason::BadNumber)
+    match address(word) {
+        Some(value) => Ok(value as u32),
+        None => Err(Reason::BadNumber),
+    }
 }
 
 /// What a line of one word says.
 fn item_of_one_word(word: &[u8]) -> Result<Item, Reason>
-    ensures value { result ≡ item_of_one word.now }
-    ensures ranged { IfOk result IsRanged }
+    ensures { result ≡ item_of_one word.now }
 {
     if is_word(word, b"pass") {
-        Ok(Item::Passes)
+        Ok(Item::Scavenges(Chore::Pass))
     } else if is_word(word, b"phase") {
         Ok(Item::NextPhase)
     } else {
@@ -82,8 +82,7 @@ fn item_of_one_word(word: &[u8]) -> Result<Item, Reason>
 
 /// What a line of two words says. A `shared` line may not follow an operation or a `phase` line.
 fn item_of_two_words(started: bool, word: &[u8], a: &[u8]) -> Result<Item, Reason>
-    ensures value { result ≡ item_of_two started word.now a.now }
-    ensures ranged { IfOk result IsRanged }
+    ensures { result ≡ item_of_two started word.now a.now }
 {
     if is_word(word, b"shared") {
         if started {
@@ -91,13 +90,19 @@ fn item_of_two_words(started: bool, word: &[u8], a: &[u8]) -> Result<Item, Reaso
         }
         Ok(Item::Shares(number_at(a)?))
     } else if is_word(word, b"flush") {
-        Ok(Item::Flushes(number_at(a)?))
+        Ok(Item::Operates {
+            thread: number_at(a)?,
+            wish: Wish::Flushes,
+        })
     } else if is_word(word, b"stop") {
-        Ok(Item::Stops(number_at(a)?))
+        Ok(Item::Operates {
+            thread: number_at(a)?,
+            wish: Wish::Stops,
+        })
     } else if is_word(word, b"tick") {
-        Ok(Item::Ticks(epoch_at(a)?))
+        Ok(Item::Scavenges(Chore::Tick(epoch_at(a)?)))
     } else if is_word(word, b"idle") {
-        Ok(Item::Idles(epoch_at(a)?))
+        Ok(Item::Scavenges(Chore::Idle(epoch_at(a)?)))
     } else {
         Err(Reason::BadWord)
     }
@@ -106,21 +111,20 @@ fn item_of_two_words(started: bool, word: &[u8], a: &[u8]) -> Result<Item, Reaso
 /// What a line of three words says.
 #[inline]
 fn item_of_three_words(word: &[u8], a: &[u8], b: &[u8]) -> Result<Item, Reason>
-    ensures value { result ≡ item_of_three word.now a.now b.now }
-    ensures ranged { IfOk result IsRanged }
+    ensures { result ≡ item_of_three word.now a.now b.now }
 {
     if !is_word(word, b"f") {
         return Err(Reason::BadWord);
     }
     let thread = number_at(a)?;
     let name = name_at(b)?;
-    Ok(Item::Frees { thread, name })
+    let wish = Wish::Frees { name };
+    Ok(Item::Operates { thread, wish })
 }
 
 /// What a line of four words says.
 fn item_of_four_words(word: &[u8], a: &[u8], b: &[u8], c: &[u8]) -> Result<Item, Reason>
-    ensures value { result ≡ item_of_four word.now a.now b.now c.now }
-    ensures ranged { IfOk result IsRanged }
+    ensures { result ≡ item_of_four word.now a.now b.now c.now }
 {
     if !is_word(word, b"r") {
         return Err(Reason::BadWord);
@@ -128,11 +132,8 @@ fn item_of_four_words(word: &[u8], a: &[u8], b: &[u8], c: &[u8]) -> Result<Item,
     let thread = number_at(a)?;
     let address = address_at(b)?;
     let turn = turn_at(c)?;
-    Ok(Item::FreesRaw {
-        thread,
-        address,
-        turn,
-    })
+    let wish = Wish::FreesRaw { address, turn };
+    Ok(Item::Operates { thread, wish })
 }
 
 /// What a line of six words says.
@@ -145,8 +146,7 @@ fn item_of_six_words(
     d: &[u8],
     e: &[u8],
 ) -> Result<Item, Reason>
-    ensures value { result ≡ item_of_six word.now a.now b.now c.now d.now e.now }
-    ensures ranged { IfOk result IsRanged }
+    ensures { result ≡ item_of_six word.now a.now b.now c.now d.now e.now }
 {
     if !is_word(word, b"a") {
         return Err(Reason::BadWord);
@@ -156,20 +156,19 @@ fn item_of_six_words(
     let heap = number_at(c)?;
     let size = number_at(d)?;
     let align = number_at(e)?;
-    let request = Request {
+    let wish = Wish::Asks {
         name,
         heap,
         size,
         align,
     };
-    Ok(Item::Allocates { thread, request })
+    Ok(Item::Operates { thread, wish })
 }
 
 /// What the words of a line say: their number and the first of them choose the kind.
 #[inline]
 fn item_of_words(started: bool, line: &[u8]) -> Result<Item, Reason>
-    ensures value { result ≡ item_of_words started (words_of line.now) }
-    ensures ranged { IfOk result IsRanged }
+    ensures { result ≡ item_of_words started (words_of line.now) }
 {
     let Some((word, rest)) = next_word(line) else {
         return Ok(Item::Blank);
@@ -199,8 +198,7 @@ fn item_of_words(started: bool, line: &[u8]) -> Result<Item, Reason>
 /// before. One pass.
 #[inline]
 pub fn read_item(started: bool, line: &[u8]) -> Result<Item, Reason>
-    ensures value { result ≡ item_of_line started line.now }
-    ensures ranged { IfOk result IsRanged }
+    ensures { result ≡ item_of_line started line.now }
 {
     if !line.is_empty() && line[0] == b'#' {
         return Ok(Item::Blank);

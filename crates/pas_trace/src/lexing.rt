@@ -2,7 +2,6 @@
 ghost use Rattle.std.specs.Prelude.{IfSome};
 ghost use Rattle.pas_trace.specs.FirstLines.{FirstSays};
 ghost use Rattle.pas_trace.specs.Lexed.{AreLexed};
-ghost use Rattle.pas_trace.specs.Told.{IsRanged};
 
 use crate::fronts::front_item;
 use crate::item::Item;
@@ -13,8 +12,7 @@ use crate::lines::next_line;
 /// or it may only stand before the first operation.
 #[inline(always)]
 fn first_item(text: &[u8]) -> Option<(Item, &[u8])>
-    ensures says { IfSome result (λ p. FirstSays text.now p.0 p.1.now) }
-    ensures ranged { IfSome result (λ p. IsRanged p.0) }
+    ensures { IfSome result (λ p. FirstSays text.now p.0 p.1.now) }
 {
     if let Some(found) = front_item(text) {
         return Some(found);

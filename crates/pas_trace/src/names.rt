@@ -35,7 +35,7 @@ impl Names {
 
     /// The owner of the name.
     #[inline(always)]
-    pub fn owner(&self, name: u64) -> Owner
+    pub fn owner(&self, name: u32) -> Owner
         ensures { result ≡ owner_in self.now name }
     {
         match self.owners.get(name as usize) {
@@ -52,11 +52,11 @@ impl Names {
     }
 
     /// Makes room for the name, with nobody as the owner of the new ones.
-    fn grow_to(&mut self, name: u64) -> Result<(), AllocError>
+    fn grow_to(&mut self, name: u32) -> Result<(), AllocError>
         ensures same { (n : ℕ) → owner_in self.new n ≡ owner_in self.old n }
         ensures room { OnOk result (name < vec_len self.new.owners) }
     {
-        while self.owners.len() as u64 <= name {
+        while self.owners.len() <= name as usize {
             self.owners.push(NOBODY)?;
         }
         Ok(())
@@ -64,7 +64,7 @@ impl Names {
 
     /// Gives the name to the owner. Amortized constant time over growing names.
     #[inline(always)]
-    pub fn give(&mut self, name: u64, owner: Owner) -> Result<(), AllocError>
+    pub fn give(&mut self, name: u32, owner: Owner) -> Result<(), AllocError>
         ensures { OnOk result ((n : ℕ) → owner_in self.new n ≡ (if n == name then owner else owner_in self.old n)) }
     {
         self.grow_to(name)?;

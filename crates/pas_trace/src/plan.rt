@@ -131,6 +131,23 @@ impl Op {
     }
 }
 
+impl Chore {
+    ghost use Rattle.std.specs.Prelude.{◌≡◌};
+    ghost use Rattle.pas_trace.specs.Plans.{what_of_chore};
+
+    /// The operation that asks for it.
+    #[inline(always)]
+    pub(crate) fn what(self) -> What
+        ensures { result ≡ what_of_chore self }
+    {
+        match self {
+            Chore::Tick(epoch) => What::Tick(epoch),
+            Chore::Pass => What::Pass,
+            Chore::Idle(epochs) => What::Idle(epochs),
+        }
+    }
+}
+
 impl Phase {
     ghost use Rattle.std.specs.Prelude.{◌≡◌};
     ghost use Rattle.pas_trace.specs.Plans.{ops_of};

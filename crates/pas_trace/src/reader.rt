@@ -1,24 +1,26 @@
 //! The reader: what it keeps of the lines before, and how it takes a line.
-ghost use Rattle.std.specs.Prelude.{◌≡◌, ◌<◌, ◌≤◌, ◌+◌, ◌∷◌, ◌^◌, [], ℕ, List, All, Some, None, Ok, Err, OnOk, IfOk, MatchOption, MatchResult, length, slice_index};
+ghost use Rattle.std.specs.Prelude.{◌≡◌, ◌<◌, ◌≤◌, ◌+◌, ◌∷◌, ◌^◌, [], ℕ, List, Some, None, Ok, Err, OnOk, IfOk, MatchOption, MatchResult, length};
 ghost use Rattle.pas_profile.specs.Profiles.{IsValid};
-ghost use Rattle.pas_trace.specs.Reasons.{reason_of, cost_of, started, is_thread};
+ghost use Rattle.pas_trace.specs.Reasons.{reason_of, cost_of, cost_of_size, cost_of_wish, records_of_chore, started, is_thread, first_failed};
 ghost use Rattle.pas_trace.specs.Items.{item_of_line};
-ghost use Rattle.pas_trace.specs.Plans.{IsReading, bounds_of, bounds_upto, fault_at, name_at};
+ghost use Rattle.pas_trace.specs.Wishes.{asking, IsFit};
+ghost use Rattle.pas_trace.specs.Plans.{IsReading, bounds_of, bounds_upto, fault_at};
 ghost use Rattle.pas_trace.specs.Texts.{lines_of};
-ghost use Rattle.pas_trace.specs.Told.{IsRanged, Tells, IsOperated, IsAllocated, IsNextPhase, IsAdded, IsTaken, IsFirstTaken, AreTaken, IsRead, IsBegun, IsPlanned, IsChecked, few_told, thread_told, told_checks};
+ghost use Rattle.pas_trace.specs.Told.{Tells, IsReady, IsCounted, IsOperated, IsNextPhase, IsAdded, IsTaken, IsFirstTaken, AreTaken, IsRead, IsBegun, IsPlanned, IsChecked, few_told, thread_told, told_checks, reason_told};
 ghost use Rattle.pas_trace.specs.Lexed.{Say, AreLexed};
 ghost use Rattle.pas_trace.specs.declared.item.Item.{Item};
+ghost use Rattle.pas_trace.specs.declared.item.Wish.{Wish};
 
 use crate::counts::{Counts, MOST_OPERATIONS, MOST_RECORDS};
 use crate::fault::{ReadFault, Reason, TraceFault};
 use crate::fronts::front_item;
 use crate::gathered::Gathered;
 use crate::header::read_header;
-use crate::item::{Item, Request};
+use crate::item::{Item, Request, Wish};
 use crate::items::read_item;
 use crate::lines::next_line;
 use crate::names::{Names, Owner};
-use crate::plan::{Bounds, Op, Plan, What};
+use crate::plan::{Bounds, Chore, Op, Plan, What};
 use crate::requests::{cost_of_allocation, is_aligning};
 use pas_profile::limits::PAGE_BYTES;
 use pas_profile::{Address, Name, Profile};
@@ -73,7 +75,7 @@ impl Reader {
     /// The checks of every operation.
     #[inline(always)]
     fn check_counts(&self, cost: u32) -> Result<u32, Reason>
-        ensures { IsChecked (few_told self.now cost) cost result }
+        ensures { IsChecked (first_failed (few_told self.now cost)) cost result }
     {
         if self.counts.operations >= MOST_OPERATIONS {
             return Err(Reason::TooManyOps);
@@ -87,7 +89,7 @@ impl Reader {
     /// The checks of an operation of a thread that has no others.
     #[inline(always)]
     fn check_thread(&self, thread: u64, cost: u32) -> Result<u32, Reason>
-        ensures { IsChecked (thread_told self.now thread cost) cost result }
+        ensures { IsChecked (first_failed (thread_told self.now thread cost)) cost result }
     {
         if !self.has_thread(thread) {
             return Err(Reason::BadThread);
@@ -95,11 +97,11 @@ impl Reader {
         self.check_counts(cost)
     }
 
-    /// The checks of an allocation.
+    /// The checks of a request.
     #[inline(always)]
-    fn check_allocation(&self, thread: u64, request: Request) -> Result<u32, Reason>
+    fn check_request(&self, thread: u64, request: Request) -> Result<u32, Reason>
         requires { IsValid self.now.header }
-        ensures { IsChecked (told_checks self.now (Item.Allocates thread request)) (cost_of self.now.header (Item.Allocates thread request)) result }
+        ensures { IsChecked (reason_told self.now thread (asking request)) (cost_of_size request.size) result }
     {
         if !self.has_thread(thread) {
             return Err(Reason::BadThread);
@@ -121,8 +123,8 @@ impl Reader {
 
     /// The checks of a free by trace name. A free by another thread than the one that allocated waits for a later phase.
     #[inline(always)]
-    fn check_free(&self, thread: u64, name: u64) -> Result<u32, Reason>
-        ensures { IsChecked (told_checks self.now (Item.Frees thread name)) 1 result }
+    fn check_free(&self, thread: u64, name: u32) -> Result<u32, Reason>
+        ensures { IsChecked (reason_told self.now thread (Wish.Frees name)) 1 result }
     {
         if !self.has_thread(thread) {
             return Err(Reason::BadThread);
@@ -137,11 +139,52 @@ impl Reader {
         self.check_counts(1)
     }
 
+    /// The cost of an operation of a thread that passes its checks, or the first reason that applies.
+    #[inline(always)]
+    fn check_wish(&self, thread: u64, wish: Wish) -> Result<u32, Reason>
+        requires { IsValid self.now.header }
+        ensures { IsChecked (reason_told self.now thread wish) (cost_of_wish wish) result }
+    {
+        match wish {
+            Wish::Asks {
+                name,
+                heap,
+                size,
+                align,
+            } => {
+                let request = Request {
+                    name,
+                    heap,
+                    size,
+                    align,
+                };
+                self.check_request(thread, request)
+            }
+            Wish::Frees { name } => self.check_free(thread, name),
+            Wish::FreesRaw { .. } => self.check_thread(thread, 1),
+            Wish::Flushes => self.check_thread(thread, 0),
+            Wish::Stops => self.check_thread(thread, 0),
+        }
+    }
+
+    /// The same of an operation of the scavenger.
+    #[inline(always)]
+    fn check_chore(&self, chore: Chore) -> Result<u32, Reason>
+        requires { IsValid self.now.header }
+        ensures { IsChecked (first_failed (few_told self.now (records_of_chore self.now.header chore))) (records_of_chore self.now.header chore) result }
+    {
+        match chore {
+            Chore::Tick(_) => self.check_counts(1),
+            Chore::Pass => self.check_counts(1 + self.header.pages),
+            Chore::Idle(_) => self.check_counts(self.header.threads as u32),
+        }
+    }
+
     /// The cost of an item that passes its checks, or the first reason that applies.
     #[inline(always)]
     fn check(&self, item: Item) -> Result<u32, Reason>
         requires { IsValid self.now.header }
-        ensures { IsChecked (told_checks self.now item) (cost_of self.now.header item) result }
+        ensures { IsChecked (first_failed (told_checks self.now item)) (cost_of self.now.header item) result }
     {
         match item {
             Item::Blank => Ok(0),
@@ -153,25 +196,16 @@ impl Reader {
                     Err(Reason::BadHeap)
                 }
             }
-            Item::Allocates { thread, request } => self.check_allocation(thread, request),
-            Item::Frees { thread, name } => self.check_free(thread, name),
-            Item::FreesRaw { thread, .. } => self.check_thread(thread, 1),
-            Item::Flushes(thread) => self.check_thread(thread, 0),
-            Item::Stops(thread) => self.check_thread(thread, 0),
-            Item::Ticks(_) => self.check_counts(1),
-            Item::Passes => self.check_counts(1 + self.header.pages),
-            Item::Idles(_) => self.check_counts(self.header.threads as u32),
+            Item::Operates { thread, wish } => self.check_wish(thread, wish),
+            Item::Scavenges(chore) => self.check_chore(chore),
         }
     }
 
-    /// Adds an operation of the line.
+    /// Counts an operation of the line and adds it to the phase.
     #[inline(always)]
-    fn operate(&mut self, actor: u8, what: What, cost: u32) -> Result<(), AllocError>
-        requires actor { actor < 17 }
-        requires few { self.old.counts.operations < 1000000 }
-        requires small { self.old.counts.bound + cost ≤ 2000000 }
-        requires within { slice_index self.old.counts.costs actor ≤ self.old.counts.bound }
-        ensures { OnOk result (IsOperated self.old self.new actor what cost) }
+    fn count(&mut self, actor: u8, what: What, cost: u32) -> Result<(), AllocError>
+        requires { IsReady self.old.counts actor cost }
+        ensures { OnOk result (IsCounted self.old self.new actor what cost) }
     {
         self.started = true;
         self.counts.add(actor, cost);
@@ -179,32 +213,39 @@ impl Reader {
         self.gathered.add(Op { line, actor, what })
     }
 
-    /// Adds an operation of the line that allocates the name, and gives the name to the thread.
+    /// Adds an operation of the thread, and gives it the name that the operation makes.
     #[inline(always)]
-    fn allocate(&mut self, thread: u8, name: u64, what: What, cost: u32) -> Result<(), AllocError>
-        requires name { name ≤ 1000000 }
-        requires actor { thread < 17 }
-        requires few { self.old.counts.operations < 1000000 }
-        requires small { self.old.counts.bound + cost ≤ 2000000 }
-        requires within { slice_index self.old.counts.costs thread ≤ self.old.counts.bound }
-        ensures { OnOk result (IsAllocated self.old self.new thread name what cost) }
+    fn operate(&mut self, thread: u8, wish: Wish, cost: u32) -> Result<(), AllocError>
+        requires ready { IsReady self.old.counts thread cost }
+        requires fits { IsFit wish }
+        ensures { OnOk result (IsOperated self.old self.new thread wish cost) }
     {
-        let phase = self.phase;
-        self.names.give(name, Owner { thread, phase })?;
-        self.operate(thread, what, cost)
-    }
-
-    /// Adds a free by address and turn.
-    fn free_raw(&mut self, thread: u8, address: u32, turn: u64, cost: u32) -> Result<(), AllocError>
-        requires actor { thread < 17 }
-        requires few { self.old.counts.operations < 1000000 }
-        requires small { self.old.counts.bound + cost ≤ 2000000 }
-        requires within { slice_index self.old.counts.costs thread ≤ self.old.counts.bound }
-        ensures { OnOk result (IsOperated self.old self.new thread (What.Raw (name_at address turn)) cost) }
-    {
-        let address = Address(address);
-        let block = Name { address, turn };
-        self.operate(thread, What::Raw { block }, cost)
+        match wish {
+            Wish::Asks {
+                name,
+                heap,
+                size,
+                align,
+            } => {
+                let phase = self.phase;
+                self.names.give(name, Owner { thread, phase })?;
+                let what = What::Alloc {
+                    name,
+                    heap: heap as u8,
+                    size: size as u32,
+                    align: align as u32,
+                };
+                self.count(thread, what, cost)
+            }
+            Wish::Frees { name } => self.count(thread, What::Free { name }, cost),
+            Wish::FreesRaw { address, turn } => {
+                let address = Address(address);
+                let block = Name { address, turn };
+                self.count(thread, What::Raw { block }, cost)
+            }
+            Wish::Flushes => self.count(thread, What::Flush, cost),
+            Wish::Stops => self.count(thread, What::Stop, cost),
+        }
     }
 
     /// Begins the next phase.
@@ -222,7 +263,6 @@ impl Reader {
     #[inline(always)]
     fn add(&mut self, item: Item, cost: u32) -> Result<(), AllocError>
         requires tells { (items : List Item) × Tells self.old items × (reason_of self.old.header items item ≡ None) }
-        requires ranged { IsRanged item }
         requires cost { cost ≡ cost_of self.old.header item }
         requires line { self.old.line < 2 ^ 25 }
         ensures { OnOk result (IsAdded self.old self.new item) }
@@ -235,28 +275,8 @@ impl Reader {
                 self.shared |= 1u32 << heap;
                 Ok(())
             }
-            Item::Allocates { thread, request } => {
-                let what = What::Alloc {
-                    name: request.name as u32,
-                    heap: request.heap as u8,
-                    size: request.size as u32,
-                    align: request.align as u32,
-                };
-                self.allocate(thread as u8, request.name, what, cost)
-            }
-            Item::Frees { thread, name } => {
-                self.operate(thread as u8, What::Free { name: name as u32 }, cost)
-            }
-            Item::FreesRaw {
-                thread,
-                address,
-                turn,
-            } => self.free_raw(thread as u8, address as u32, turn, cost),
-            Item::Flushes(thread) => self.operate(thread as u8, What::Flush, cost),
-            Item::Stops(thread) => self.operate(thread as u8, What::Stop, cost),
-            Item::Ticks(epoch) => self.operate(0, What::Tick(epoch), cost),
-            Item::Passes => self.operate(0, What::Pass, cost),
-            Item::Idles(time) => self.operate(0, What::Idle(time), cost),
+            Item::Operates { thread, wish } => self.operate(thread as u8, wish, cost),
+            Item::Scavenges(chore) => self.count(0, chore.what(), cost),
         }
     }
 
@@ -276,7 +296,6 @@ impl Reader {
     #[inline(always)]
     fn take_item(&mut self, item: Item) -> Result<(), ReadFault>
         requires tells { (items : List Item) × Tells self.old items }
-        requires ranged { IsRanged item }
         requires line { self.old.line < 2 ^ 25 }
         ensures { (items : List Item) (line : List ℕ) → Tells self.old items → item_of_line self.old.started line ≡ Ok item → IsTaken self.old items line self.new result }
     {
@@ -341,7 +360,6 @@ impl Reader {
     fn take_items(&mut self, items: &[Item]) -> Result<(), ReadFault>
         requires tells { (told : List Item) × Tells self.old told }
         requires said { (lines : List (List ℕ)) × Say lines items.now }
-        requires ranged { All IsRanged items.now }
         requires size { self.old.line + length items.now ≤ 2 ^ 24 + 1 }
         ensures taken { (told : List Item) (lines : List (List ℕ)) → Tells self.old told → Say lines items.now → AreTaken self.old told lines self.new result }
         ensures few { OnOk result (self.new.line ≤ self.old.line + length items.now) }

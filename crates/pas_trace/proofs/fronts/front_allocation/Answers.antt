@@ -2,8 +2,8 @@ use Rattle.std.proofs.Common.{arith}
 use Rattle.pas_trace.proofs.FrontLines.{allocation-first}
 use Rattle.pas_trace.proofs.fronts.front_allocation.Goals as goal
 
-pub returns-clause-says : goal.returns-clause-says
-returns-clause-says c =
+pub returns : goal.returns
+returns c =
     let t = c.in_ok-thread in
     let n = c.in_ok-name in
     let h = c.in_ok-heap in

@@ -1,0 +1,46 @@
+use Rattle.std.proofs.Common.{refl, sym, subst}
+use Rattle.std.proofs.lemmas.Result.{on_ok_weaker}
+use Rattle.pas_trace.specs.Plans.{name_at}
+use Rattle.pas_trace.specs.Told.{IsOperated}
+use Rattle.pas_trace.specs.declared.item.Wish.{Wish}
+use Rattle.pas_trace.specs.declared.plan.What.{What}
+use Rattle.pas_trace.proofs.Adding.{named, unnamed}
+use Rattle.pas_trace.proofs.reader.Reader.operate.Goals as goal
+
+pub returns-in_ok-give-in-Asks : goal.returns-in_ok-give-in-Asks
+returns-in_ok-give-in-Asks c =
+    let old = c.args.self.now in
+    let new = c.count.new.self in
+    let a = c.in-Asks in
+    on_ok_weaker c.count.result (λ h. subst (λ (w : Wish). IsOperated old new c.args.thread w c.args.cost) (sym a.is)
+    (named old (record old { names = c.give.new.self }) new c.give.new.self c.args.thread a.name (Wish.Asks a.name a.heap a.size a.align) (What.Alloc a.name a.heap a.size a.align) c.args.cost refl refl refl c.in_ok-give-in-Asks.ensures h)) c.count.ensures
+
+pub returns-in-Frees : goal.returns-in-Frees
+returns-in-Frees c =
+    let old = c.args.self.now in
+    let new = c.count-in-Frees.new.self in
+    let a = c.in-Frees in
+    on_ok_weaker c.count-in-Frees.result (λ h. subst (λ (w : Wish). IsOperated old new c.args.thread w c.args.cost) (sym a.is)
+    (unnamed old old new c.args.thread (Wish.Frees a.name) (What.Free a.name) c.args.cost refl refl refl h)) c.count-in-Frees.ensures
+
+pub returns-in-FreesRaw : goal.returns-in-FreesRaw
+returns-in-FreesRaw c =
+    let old = c.args.self.now in
+    let new = c.count-in-FreesRaw.new.self in
+    let a = c.in-FreesRaw in
+    on_ok_weaker c.count-in-FreesRaw.result (λ h. subst (λ (w : Wish). IsOperated old new c.args.thread w c.args.cost) (sym a.is)
+    (unnamed old old new c.args.thread (Wish.FreesRaw a.address a.turn) (What.Raw (name_at a.address a.turn)) c.args.cost refl refl refl h)) c.count-in-FreesRaw.ensures
+
+pub returns-in-Flushes : goal.returns-in-Flushes
+returns-in-Flushes c =
+    let old = c.args.self.now in
+    let new = c.count-in-Flushes.new.self in
+    on_ok_weaker c.count-in-Flushes.result (λ h. subst (λ (w : Wish). IsOperated old new c.args.thread w c.args.cost) (sym c.in-Flushes.is)
+    (unnamed old old new c.args.thread Wish.Flushes What.Flush c.args.cost refl refl refl h)) c.count-in-Flushes.ensures
+
+pub returns-in-Stops : goal.returns-in-Stops
+returns-in-Stops c =
+    let old = c.args.self.now in
+    let new = c.count-in-Stops.new.self in
+    on_ok_weaker c.count-in-Stops.result (λ h. subst (λ (w : Wish). IsOperated old new c.args.thread w c.args.cost) (sym c.in-Stops.is)
+    (unnamed old old new c.args.thread Wish.Stops What.Stop c.args.cost refl refl refl h)) c.count-in-Stops.ensures

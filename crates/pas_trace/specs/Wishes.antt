@@ -1,0 +1,61 @@
+-- What an operation of a thread asks for, by few tables: one for each value that a check asks for, with a line for each wish.
+use Rattle.std.specs.Prelude.{ℕ, ◌<◌, ◌^◌, ◌==◌, Bool, true, false, Option, None, Some, MatchOption}
+use Rattle.pas_trace.specs.declared.item.Request.{Request}
+use Rattle.pas_trace.specs.declared.item.Wish.{Wish}
+use Rattle.pas_trace.specs.declared.item.Wish.TheVariants.{Asks, Frees, FreesRaw, Flushes, Stops}
+
+-- ---- the tables
+-- the heap that it names
+abbrev pub heap_in : Wish → Option ℕ
+heap_in (Asks n h s a) = Some h
+heap_in (Frees n) = None
+heap_in (FreesRaw a n) = None
+heap_in Flushes = None
+heap_in Stops = None
+
+-- so many bytes, at a multiple of the alignment
+pub record Sizing : Type 0 where
+  pub size : ℕ
+  pub align : ℕ
+
+abbrev pub sizing_in : Wish → Option Sizing
+sizing_in (Asks n h s a) = Some record { size = s; align = a }
+sizing_in (Frees n) = None
+sizing_in (FreesRaw a n) = None
+sizing_in Flushes = None
+sizing_in Stops = None
+
+-- the trace name that it makes
+abbrev pub name_made : Wish → Option ℕ
+name_made (Asks n h s a) = Some n
+name_made (Frees n) = None
+name_made (FreesRaw a n) = None
+name_made Flushes = None
+name_made Stops = None
+
+-- the trace name that it frees
+abbrev pub name_freed : Wish → Option ℕ
+name_freed (Asks n h s a) = None
+name_freed (Frees n) = Some n
+name_freed (FreesRaw a n) = None
+name_freed Flushes = None
+name_freed Stops = None
+
+-- ---- what is said by them
+-- a test of a value holds where there is none
+abbrev pub holds_of : {A : Type 0} → (A → Bool) → Option A → Bool
+holds_of test None = true
+holds_of test (Some x) = test x
+
+-- the name is this one
+abbrev pub is_name : Option ℕ → ℕ → Bool
+is_name None name = false
+is_name (Some n) name = n == name
+
+-- the wish of a request
+abbrev pub asking : Request → Wish
+asking q = Asks q.name q.heap q.size q.align
+
+-- its heap, size and alignment have a place in a plan
+abbrev pub IsFit : Wish → Type 0
+IsFit w = MatchOption (heap_in w) (Unit {0}) (λ h. h < 2 ^ 8) × MatchOption (sizing_in w) (Unit {0}) (λ s. (s.size < 2 ^ 32) × (s.align < 2 ^ 32))
