@@ -10,7 +10,7 @@ use Rattle.pas_profile.specs.declared.directory.Kind.{Kind}
 use Rattle.pas_profile.specs.declared.name.Name.{Name}
 use Rattle.pas_profile.specs.declared.event.Event.{Event}
 use Rattle.pas_profile.specs.declared.event.Why.TheVariants as Why
-use Rattle.pas_profile.specs.Runs.{address_of}
+use Rattle.pas_profile.specs.Blocks.{address_of}
 use Rattle.pas_trace.specs.Numbers.{is_digit, all_digits}
 use Rattle.pas_generated.proofs.Digits.{are-digits}
 use Rattle.pas_report.specs.declared.record.Said.{Said}

@@ -5,7 +5,7 @@ use Rattle.pas_profile.specs.declared.name.Name.{Name}
 use Rattle.pas_profile.specs.declared.event.Event.{Event}
 use Rattle.pas_profile.specs.declared.event.Why.{Why}
 use Rattle.pas_profile.specs.declared.event.Why.TheVariants.{Ended, NoBlock, SizeDiffers}
-use Rattle.pas_profile.specs.Runs.{address_of}
+use Rattle.pas_profile.specs.Blocks.{address_of}
 use Rattle.pas_machine.specs.Laws.{IsCounted}
 use Rattle.pas_machine.specs.Machine.{Run, Admits, IsLive, IsReason}
 use Rattle.pas_machine.specs.State.{Live, live_in, gives_in, ends_in}

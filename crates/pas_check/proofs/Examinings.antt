@@ -14,9 +14,9 @@ use Rattle.pas_report.specs.declared.record.Said.{Said}
 use Rattle.pas_check.specs.Calls.{outcome_in, outcome_in_event, outcome_in_said, IsExamined, OutcomeTaken}
 use Rattle.pas_check.specs.Ranges.{Fits}
 use Rattle.pas_check.specs.States.{Stand}
-use Rattle.pas_check.specs.Takes.{MayCome, after_outcome}
+use Rattle.pas_check.specs.Takes.{MayCome, record_of, after_outcome}
 use Rattle.pas_check.specs.declared.examining.Examined.{Examined}
-use Rattle.pas_check.proofs.OneNext.{record_of, line_is, outcome_fits}
+use Rattle.pas_check.proofs.OneNext.{outcome_fits}
 
 -- ---- the outcome of a record
 if_some : {A : Type 0} (t : Bool) (o : Option A) (x : A) → (if t then o else None) ≡ Some x → (t ≡ true) × (o ≡ Some x)
@@ -91,7 +91,7 @@ module _ (old : Machine) (line : List ℕ) (last epoch : ℕ) where
         let p = takes.page in
         let o = takes.outcome in
         none p o takes.rises takes.of_region (subst (λ e. Fits (record_of e p o)) same (outcome_fits (profile_of old) s small p o takes.of_region takes.may))
-        (subst (λ e. line ≡ line_of (record_of e p o)) same (takes.line_is ∙ sym (line_is s.epoch p o))) s stands same takes.may,
+        (subst (λ e. line ≡ line_of (record_of e p o)) same takes.line_is) s stands same takes.may,
   )
 
   -- no record has the line
@@ -121,7 +121,7 @@ module _ (old : Machine) (line : List ℕ) (last epoch : ℕ) where
           of_region = region;
           outcome = x.outcome;
           may = came.0;
-          line_is = subst (λ e. line ≡ line_of (record_of e x.page x.outcome)) (sym same) has ∙ line_is s.epoch x.page x.outcome;
+          line_is = subst (λ e. line ≡ line_of (record_of e x.page x.outcome)) (sym same) has;
           next_is = refl;
         },
         came.1,

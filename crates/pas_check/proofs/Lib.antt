@@ -8,4 +8,13 @@ mod Ticks
 mod Takings
 mod Goings
 mod OneNext
+mod Nexts
+mod Leads
+mod Beginnings
+mod Logs
+mod Actings
+mod Kept
+mod Emptyings
+mod Requests
+mod Passes
 mod Servings

@@ -3,7 +3,8 @@ use Rattle.std.proofs.Common.{◌≡◌, ◌≢◌, ℕ, ◌+◌, ◌/◌, ◌%�
 use Rattle.std.proofs.lemmas.Bool.{eqb-true, le-leb, lt-ltb, and_from}
 use Rattle.std.proofs.lemmas.Option.{none-some}
 use Rattle.pas_profile.specs.Profiles.{IsPage, IsValid}
-use Rattle.pas_profile.specs.Runs.{in_run, address_of, grain_of, length_of}
+use Rattle.pas_bits.specs.Runs.{in_run}
+use Rattle.pas_profile.specs.Blocks.{address_of, grain_of, length_of}
 use Rattle.pas_profile.specs.declared.directory.Directory.{Directory}
 use Rattle.pas_profile.specs.declared.event.Event.{Event}
 use Rattle.pas_profile.specs.declared.event.Outcome.{Outcome}
@@ -18,12 +19,12 @@ use Rattle.pas_report.specs.declared.record.Said.{Said}
 use Rattle.pas_check.specs.Bounds.{FitsRequest, FitsFirst, IsSmall}
 use Rattle.pas_trace.specs.declared.item.Request.{Request}
 use Rattle.pas_check.specs.Ranges.{FitsEvent, FitsSaid, Fits}
-use Rattle.pas_check.specs.States.{Due, Writes, Frees, Serves, Examines, Shows, Stand, with_due, with_one, with_name}
-use Rattle.pas_check.specs.Takes.{IsPreparing, IsFor, IsRefusal, directory_of, MayCome, line_of_outcome, after_outcome, TakesRequest, TakesOutcome, TakesDue}
+use Rattle.pas_check.specs.States.{Due, Writes, Frees, Serves, Examines, Heads, Shows, Totals, Stand, with_due, with_one, with_name}
+use Rattle.pas_check.specs.Takes.{IsPreparing, IsFor, IsRefusal, directory_of, MayCome, record_of, after_outcome, TakesRequest, TakesOutcome, TakesDue}
 use Rattle.pas_check.proofs.Entries.{one_event}
 use Rattle.pas_check.proofs.Readings.{one_line}
 
-same_record : (line : List ℕ) (r q : Record) → Fits r → Fits q → line ≡ line_of r → line ≡ line_of q → r ≡ q
+pub same_record : (line : List ℕ) (r q : Record) → Fits r → Fits q → line ≡ line_of r → line ≡ line_of q → r ≡ q
 same_record line r q fits fits' a b = one_line r q fits fits' (sym a ∙ b)
 
 small_page : (f : Profile) (page : ℕ) → IsValid f → IsPage f page → page < 2 ^ 32
@@ -48,7 +49,7 @@ pub has_first : (g n : ℕ) → 0 < n → in_run g n g ≡ true
 has_first g n some = and_from (nat_le g g) (nat_lt g (g + n)) (le-leb g g (omega arith)) (lt-ltb g (g + n) (omega (arith, some)))
 
 module _ (f : Profile) (s : Stand) (small : IsSmall f s) (k : ℕ) (r : Request) (fits : FitsRequest f k r) where
-  prepares_fits : (e : Event) → IsPreparing k (directory_of f r) e → Admits f s.events e → FitsEvent e
+  pub prepares_fits : (e : Event) → IsPreparing k (directory_of f r) e → Admits f s.events e → FitsEvent e
   prepares_fits e (inl is) admitted =
       let here : IsPage f is.0 × ((directory_of f r).heap < f.heaps) × (deed_in s.events is.0 ≡ None) = subst (Admits f s.events) is.1 admitted in
       subst FitsEvent (sym is.1) (fits.actor, small_page f is.0 small.valid here.0, fits.heap, fits.kind)
@@ -118,20 +119,6 @@ module _ (f : Profile) (s : Stand) (small : IsSmall f s) (k : ℕ) (r : Request)
     one_request (inr (inr x)) (inr (inr y)) = x.next_is ∙ sym y.next_is
 
 -- ---- an outcome of a pass
-abbrev pub record_of : ℕ → ℕ → Outcome → Record
-record_of epoch page Unbacked = Record.Event (Event.Unback 0 page epoch)
-record_of epoch page Bare = Record.Said 0 (Said.Bare page)
-record_of epoch page (Young stamp) = Record.Said 0 (Said.Young page stamp)
-record_of epoch page (InUse word value) = Record.Said 0 (Said.InUse page word value)
-record_of epoch page NotOffered = Record.Said 0 (Said.NotOffered page)
-
-pub line_is : (epoch page : ℕ) (o : Outcome) → line_of (record_of epoch page o) ≡ line_of_outcome epoch page o
-line_is epoch page Unbacked = refl
-line_is epoch page Bare = refl
-line_is epoch page (Young stamp) = refl
-line_is epoch page (InUse word value) = refl
-line_is epoch page NotOffered = refl
-
 same_outcome : (epoch p q : ℕ) (a b : Outcome) → record_of epoch p a ≡ record_of epoch q b → (p ≡ q) × (a ≡ b)
 same_outcome epoch p q Unbacked Unbacked e = (cc, refl)
 same_outcome epoch p q Bare Bare e = (cc, refl)
@@ -170,14 +157,16 @@ pub one_outcome : (f : Profile) (s : Stand) → IsSmall f s → (last : ℕ) (mo
 one_outcome f s small last more line a b x y =
     let same = same_outcome s.epoch x.page y.page x.outcome y.outcome (same_record line (record_of s.epoch x.page x.outcome) (record_of s.epoch y.page y.outcome)
     (outcome_fits f s small x.page x.outcome x.of_region x.may) (outcome_fits f s small y.page y.outcome y.of_region y.may)
-    (x.line_is ∙ sym (line_is s.epoch x.page x.outcome)) (y.line_is ∙ sym (line_is s.epoch y.page y.outcome))) in
+    x.line_is y.line_is) in
     x.next_is ∙ (λ i. with_due (after_outcome s (same.0 i) (same.1 i)) (Examines (same.0 i) ∷ more)) ∙ sym y.next_is
 
 -- ---- what is due
 pub one_next : (f : Profile) (s : Stand) → IsSmall f s → (due : List Due) → FitsFirst f due → (line : List ℕ) (a b : Stand) → TakesDue f s due line a → TakesDue f s due line b → a ≡ b
 one_next f s small [] fits line a b x y = absurd x
-one_next f s small (Writes text ∷ more) fits line a b x y = x.1 ∙ sym y.1
+one_next f s small (Writes item ∷ more) fits line a b x y = x.1 ∙ sym y.1
 one_next f s small (Frees k name ∷ more) fits line a b x y = x.next_is ∙ ap (λ e. with_due (with_one s e) more) (one_event s k name x.event y.event x.of_entry y.of_entry) ∙ sym y.next_is
 one_next f s small (Serves k r ∷ more) fits line a b x y = one_request f s small k r fits more line a b x y
 one_next f s small (Examines page ∷ more) fits line a b x y = one_outcome f s small page more line a b x y
+one_next f s small (Heads ∷ more) fits line a b x y = x.1 ∙ sym y.1
 one_next f s small (Shows page d ∷ more) fits line a b x y = x.next_is ∙ sym y.next_is
+one_next f s small (Totals ∷ more) fits line a b x y = x.1 ∙ sym y.1

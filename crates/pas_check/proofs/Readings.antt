@@ -16,7 +16,7 @@ use Rattle.pas_profile.specs.declared.name.Name.{Name}
 use Rattle.pas_profile.specs.declared.name.Block.{Block}
 use Rattle.pas_profile.specs.declared.event.Event.{Event}
 use Rattle.pas_profile.specs.declared.event.Why.TheVariants as Why
-use Rattle.pas_profile.specs.Runs.{address_of}
+use Rattle.pas_profile.specs.Blocks.{address_of}
 use Rattle.pas_report.specs.declared.record.Said.{Said}
 use Rattle.pas_report.specs.declared.record.Record.{Record}
 use Rattle.pas_report.specs.Lines.{hex_digits, kind_text, name_text, line_of, line_of_event, line_of_answer, CanShow}

@@ -3,12 +3,19 @@ use Rattle.std.specs.Prelude.{MatchBool}
 use Rattle.std.proofs.Common.{◌≡◌, ◌≢◌, ℕ, ◌+◌, ◌*◌, ◌-◌, ◌/◌, ◌^◌, ◌<◌, ◌≤◌, nat_le, nat_lt, Bool, true, false, List, Option, Some, None, inl, inr, refl, ap, sym, subst, ◌∙◌, arith}
 use Rattle.std.proofs.lemmas.Bool.{leb-true, ltb-true, le-leb, lt-ltb, and_from, and_parts, cases_lt}
 use Rattle.std.proofs.lemmas.Option.{none-some}
+use Rattle.pas_profile.specs.Classes.{IsClass}
+use Rattle.pas_profile.specs.Directories.{IsKind}
 use Rattle.pas_profile.specs.Profiles.{IsPage}
-use Rattle.pas_profile.specs.Runs.{in_run, grain_of, length_of}
+use Rattle.pas_profile.specs.Requests.{kind_of_class, route_in}
+use Rattle.pas_profile.specs.Routes.{IsRouteOf}
+use Rattle.pas_bits.specs.Runs.{in_run}
+use Rattle.pas_profile.specs.Blocks.{grain_of, length_of}
 use Rattle.pas_profile.specs.declared.directory.Directory.{Directory}
+use Rattle.pas_profile.specs.declared.directory.Route.TheVariants.{Class}
 use Rattle.pas_profile.specs.declared.event.Event.{Event}
 use Rattle.pas_profile.specs.declared.name.Block.{Block}
 use Rattle.pas_profile.specs.declared.name.Name.{Name}
+use Rattle.pas_profile.specs.declared.profile.Profile.{Profile}
 use Rattle.pas_machine.specs.Machines.{profile_of, StandsFor}
 use Rattle.pas_machine.specs.Places.{IsEach}
 use Rattle.pas_machine.specs.State.{deed_in}
@@ -20,7 +27,18 @@ use Rattle.pas_check.specs.Calls.{GiveTaken, IsGiven, IsWanted, LiesOn, RefusalS
 use Rattle.pas_check.specs.Ranges.{Fits, FitsEvent}
 use Rattle.pas_check.specs.States.{Stand, with_due, with_name, with_one}
 use Rattle.pas_check.specs.declared.serving.Wanted.{Wanted}
+use Rattle.pas_profile.proofs.ClassFacts.{class_known, route_is}
 use Rattle.pas_check.proofs.OneNext.{deed_page, gives_fits, refusal_fits}
+
+-- ---- what is wanted
+kind_known : (shared : Bool) (class : ℕ) → IsClass class → IsKind (kind_of_class shared class)
+kind_known true class known = tt
+kind_known false class known = known
+
+-- the kind of the pages for a class that serves a request
+pub class_kind : (shared : Bool) (f : Profile) (size align class : ℕ) → route_in f size align ≡ Class class → IsKind (kind_of_class shared class)
+class_kind shared f size align class is =
+    kind_known shared class (class_known f.classes size align class (subst (IsRouteOf f.classes size align) is (route_is f.classes size align)))
 
 -- ---- the pages under a block
 -- a page that isn't of the region has no deed

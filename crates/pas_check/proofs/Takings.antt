@@ -9,7 +9,7 @@ use Rattle.pas_profile.specs.declared.directory.Directory.{Directory}
 use Rattle.pas_profile.specs.declared.name.Name.{Name}
 use Rattle.pas_profile.specs.declared.event.Event.{Event}
 use Rattle.pas_profile.specs.declared.event.Why.{Why}
-use Rattle.pas_profile.specs.Runs.{address_of}
+use Rattle.pas_profile.specs.Blocks.{address_of}
 use Rattle.pas_machine.specs.Machine.{Run, Admits}
 use Rattle.pas_machine.specs.Machines.{profile_of, StandsFor}
 use Rattle.pas_machine.specs.State.{deed_in, backed_in}
@@ -40,7 +40,7 @@ may_answer : (s : Stand) (k : ℕ) (name : Name) (epoch : ℕ) (e : Event) → s
 may_answer s k name epoch e same (inl is) = inr (is.0, is.1, is.3)
 may_answer s k name epoch e same (inr is) = inl (is.1 ∙ ap (Event.End k name) same)
 
-plain_fits : (why : Why) → NamesNoRoom why → FitsWhy why
+pub plain_fits : (why : Why) → NamesNoRoom why → FitsWhy why
 plain_fits Why.Ended plain = tt
 plain_fits Why.NoBlock plain = tt
 plain_fits (Why.SizeDiffers room) plain = absurd plain
@@ -81,6 +81,12 @@ module _ (k : ℕ) (name : Name) (epoch : ℕ) (few : k < 2 ^ 8) (address : addr
 pub if_ok : {A E : Type 0} (r : Result A E) (P Q : A → Type 0) → ((a : A) → P a → Q a) → IfOk r P → IfOk r Q
 if_ok (Ok a) P Q more h = more a h
 if_ok (Err e) P Q more h = tt
+
+-- .. and of what is so in any case
+pub if_any : {A E : Type 0} (r : Result (Option A) E) (P : Type 0) → P → IfOk r (λ o. IfSome o (λ a. P))
+if_any (Ok (Some a)) P p = p
+if_any (Ok None) P p = tt
+if_any (Err e) P p = tt
 
 -- ---- the event of a line
 pub event_some : (item : Record) (found : Option Event) (line : List ℕ) → found ≡ event_in item → line ≡ line_of item → IfSome found (λ e. line ≡ line_of_event e)

@@ -1,28 +1,26 @@
 -- How the acts of a plan are begun: what becomes due, and what changes without a line.
-use Rattle.std.specs.Prelude.{ℕ, zero, suc, ◌+◌, ◌/◌, ◌%◌, ◌==◌, nat_le, ◌&&◌, Bool, true, false, List, [], ◌∷◌, ◌++◌, length, map, max, Option, None, Some, codes}
+use Rattle.std.specs.Prelude.{ℕ, zero, suc, ◌+◌, ◌/◌, ◌%◌, ◌==◌, nat_le, ◌&&◌, Bool, true, false, List, [], ◌∷◌, ◌++◌, length, map, max, Option, None, Some}
 use Rattle.pas_profile.specs.declared.directory.Directory.{Directory}
 use Rattle.pas_profile.specs.declared.event.Event.{Event}
 use Rattle.pas_profile.specs.declared.name.Name.{Name}
 use Rattle.pas_profile.specs.declared.profile.Profile.{Profile}
-use Rattle.pas_profile.specs.Runs.{address_of}
+use Rattle.pas_profile.specs.Blocks.{address_of}
 use Rattle.pas_machine.specs.State.{deed_in}
 use Rattle.pas_trace.specs.declared.plan.What.{What}
 use Rattle.pas_trace.specs.declared.plan.What.TheVariants.{Alloc, Free, Raw, Flush, Stop, Tick, Pass, Idle}
-use Rattle.pas_report.specs.Lines.{line_of, line_of_answer}
-use Rattle.pas_report.specs.Reports.{total_line}
 use Rattle.pas_report.specs.declared.record.Record.{Record}
 use Rattle.pas_report.specs.declared.record.Said.{Said}
 use Rattle.pas_trace.specs.Acts.{Act, Operates, Settles, Ticks, MakesPass, ReadsEpoch, StopsIdle, MarksPhase, Wakes, MarksClose, Ends}
 use Rattle.pas_trace.specs.Named.{standing_for}
-use Rattle.pas_check.specs.States.{Due, Writes, Frees, Serves, Examines, Shows, Task, Does, Reports, Stand, with_at, with_due}
+use Rattle.pas_check.specs.States.{Due, Writes, Frees, Serves, Examines, Heads, Shows, Totals, Task, Does, Reports, Stand, with_at, with_due}
 
--- just this line is due
-abbrev pub says : Stand → List ℕ → Stand
-says s line = with_due s (Writes line ∷ [])
+-- the line of just this record is due
+abbrev pub says : Stand → Record → Stand
+says s item = with_due s (Writes item ∷ [])
 
 -- actor k says this
 abbrev pub tells : Stand → ℕ → Said → Stand
-tells s k said = says s (line_of_answer k said)
+tells s k said = says s (Record.Said k said)
 
 -- ---- logs
 abbrev pub entries_due : ℕ → List Name → List Due
@@ -71,19 +69,19 @@ begun_what f s k (Idle n) = s
 
 -- an idle thread's cache is stopped where its thread read the epoch at least so long ago, which is said after its flush
 abbrev pub stopping : Bool → Stand → ℕ → Stand
-stopping true s k = flushing s k [] (Writes (line_of_answer 0 (Said.Stopped k)) ∷ [])
+stopping true s k = flushing s k [] (Writes (Record.Said 0 (Said.Stopped k)) ∷ [])
 stopping false s k = s
 
 abbrev pub begun_act : Profile → Stand → Act → Stand
 begun_act f s (Operates op) = begun_what f s op.actor op.what
 begun_act f s (Settles k) = s
 begun_act f s (Ticks e) = tells (record s { epoch = max s.epoch e }) 0 (Said.Tick (max s.epoch e))
-begun_act f s MakesPass = with_due s (Writes (line_of_answer 0 (Said.Pass s.epoch)) ∷ Examines 0 ∷ [])
+begun_act f s MakesPass = with_due s (Writes (Record.Said 0 (Said.Pass s.epoch)) ∷ Examines 0 ∷ [])
 begun_act f s ReadsEpoch = s
 begun_act f s (StopsIdle k n) = stopping (nat_le (s.idle_since k + n) s.epoch) s k
-begun_act f s (MarksPhase n) = says s (line_of (Record.Phase n))
+begun_act f s (MarksPhase n) = says s (Record.Phase n)
 begun_act f s (Wakes k) = record s { idle_since = with_at s.idle_since k s.epoch }
-begun_act f s MarksClose = says s (line_of Record.Close)
+begun_act f s MarksClose = says s Record.Close
 begun_act f s (Ends k) = flushing s k [] []
 
 -- ---- the report
@@ -97,7 +95,7 @@ pages_due es zero = []
 pages_due es (suc n) = pages_due es n ++ page_due (suc n) (deed_in es (suc n))
 
 abbrev pub report_due : Profile → List Event → List Due
-report_due f es = Writes (codes "report\n") ∷ (pages_due es f.pages ++ Writes (total_line f es) ∷ [])
+report_due f es = Heads ∷ (pages_due es f.pages ++ Totals ∷ [])
 
 abbrev pub begun : Profile → Stand → Task → Stand
 begun f s (Does act) = begun_act f s act
@@ -109,9 +107,13 @@ abbrev pub settled_with : List Due → Stand → Stand → Stand
 settled_with [] due none = none
 settled_with (d ∷ ds) due none = due
 
+-- .. after a task, these are left
+abbrev pub after_task : Profile → Stand → Task → List Task → Stand
+after_task f s t ts = record (begun f s t) { left = ts }
+
 abbrev pub begun_from : Profile → Stand → List Task → Stand
 begun_from f s [] = record s { left = [] }
-begun_from f s (t ∷ ts) = settled_with (begun f s t).due (record (begun f s t) { left = ts }) (begun_from f (begun f s t) ts)
+begun_from f s (t ∷ ts) = settled_with (after_task f s t ts).due (after_task f s t ts) (begun_from f (after_task f s t ts) ts)
 
 abbrev pub ready_with : Profile → Stand → List Due → Stand
 ready_with f s [] = begun_from f (with_due s []) s.left
@@ -120,11 +122,13 @@ ready_with f s (d ∷ ds) = with_due s (d ∷ ds)
 -- no more outcomes of a pass come
 abbrev pub past_outcomes : List Due → List Due
 past_outcomes [] = []
-past_outcomes (Writes line ∷ more) = Writes line ∷ more
+past_outcomes (Writes item ∷ more) = Writes item ∷ more
 past_outcomes (Frees k name ∷ more) = Frees k name ∷ more
 past_outcomes (Serves k r ∷ more) = Serves k r ∷ more
 past_outcomes (Examines page ∷ more) = more
+past_outcomes (Heads ∷ more) = Heads ∷ more
 past_outcomes (Shows page d ∷ more) = Shows page d ∷ more
+past_outcomes (Totals ∷ more) = Totals ∷ more
 
 -- what the next line must answer, where it is no outcome of a pass
 abbrev pub ready : Profile → Stand → Stand

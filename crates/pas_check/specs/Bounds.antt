@@ -1,5 +1,5 @@
 -- States whose numbers fit, as those of each check do.
-use Rattle.std.specs.Prelude.{ℕ, ◌^◌, ◌<◌, List, [], ◌∷◌}
+use Rattle.std.specs.Prelude.{ℕ, ◌^◌, ◌<◌, ◌≤◌, List, [], ◌∷◌, length}
 use Rattle.pas_profile.specs.Directories.{IsKind}
 use Rattle.pas_profile.specs.Profiles.{IsValid}
 use Rattle.pas_profile.specs.Requests.{room_in}
@@ -7,8 +7,10 @@ use Rattle.pas_profile.specs.declared.profile.Profile.{Profile}
 use Rattle.pas_machine.specs.Machine.{Run}
 use Rattle.pas_machine.specs.State.{gives_in, epoch_in}
 use Rattle.pas_trace.specs.declared.item.Request.{Request}
-use Rattle.pas_check.specs.States.{Due, Writes, Frees, Serves, Examines, Shows, Stand}
-use Rattle.pas_check.specs.Takes.{directory_of}
+use Rattle.pas_check.specs.States.{Due, Writes, Frees, Serves, Examines, Heads, Shows, Totals, Stand}
+use Rattle.pas_check.specs.Ranges.{Fits, FitsName}
+use Rattle.pas_check.specs.Takes.{IsOutcome, directory_of}
+use Rattle.pas_check.specs.declared.cutting.Cursor.{Cursor}
 
 pub record FitsRequest (f : Profile) (k : ℕ) (r : Request) : Type 0 where
   pub actor : k < 2 ^ 8
@@ -20,11 +22,24 @@ pub record FitsRequest (f : Profile) (k : ℕ) (r : Request) : Type 0 where
 -- what is due first
 abbrev pub FitsFirst : Profile → List Due → Type 0
 FitsFirst f [] = Unit {0}
-FitsFirst f (Writes text ∷ more) = Unit {0}
+FitsFirst f (Writes item ∷ more) = Unit {0}
 FitsFirst f (Frees k name ∷ more) = Unit {0}
 FitsFirst f (Serves k r ∷ more) = FitsRequest f k r
 FitsFirst f (Examines page ∷ more) = Unit {0}
+FitsFirst f (Heads ∷ more) = Unit {0}
 FitsFirst f (Shows page d ∷ more) = Unit {0}
+FitsFirst f (Totals ∷ more) = Unit {0}
+
+-- what is due first after a pass: its line is to be told from those of the outcomes, so its numbers fit too, and it is no outcome
+abbrev pub FitsNext : Profile → List Due → Type 0
+FitsNext f [] = Unit {0}
+FitsNext f (Writes item ∷ more) = Fits item × (IsOutcome item → ⊥)
+FitsNext f (Frees k name ∷ more) = (k < 2 ^ 8) × FitsName name
+FitsNext f (Serves k r ∷ more) = FitsRequest f k r
+FitsNext f (Examines page ∷ more) = Unit {0}
+FitsNext f (Heads ∷ more) = Unit {0}
+FitsNext f (Shows page d ∷ more) = Unit {0}
+FitsNext f (Totals ∷ more) = Unit {0}
 
 -- the events so far are a run of few blocks, at small epochs
 pub record IsSmall (f : Profile) (s : Stand) : Type 0 where
@@ -33,3 +48,8 @@ pub record IsSmall (f : Profile) (s : Stand) : Type 0 where
   pub gives : (address : ℕ) → gives_in s.events address < 2 ^ 64
   pub ends : (page : ℕ) → epoch_in s.events page < 2 ^ 64
   pub epoch : s.epoch < 2 ^ 64
+
+-- There are no more events than lines before the cursor, and no end has a later epoch than the greatest tick.
+pub record IsKept (s : Stand) (at : Cursor) : Type 0 where
+  pub few : length s.events ≤ at.lines
+  pub ends : (page : ℕ) → epoch_in s.events page ≤ s.epoch

@@ -1,5 +1,5 @@
 -- What the private functions of the checker promise of a line.
-use Rattle.std.specs.Prelude.{ℕ, ◌/◌, ◌%◌, ◌≡◌, ◌⊎◌, ◌==◌, if◌then◌else◌, Bool, true, false, List, ◌∷◌, Option, None, Some}
+use Rattle.std.specs.Prelude.{ℕ, ◌^◌, ◌<◌, ◌/◌, ◌%◌, ◌≡◌, ◌⊎◌, ◌==◌, if◌then◌else◌, Bool, true, false, List, [], ◌∷◌, ◌++◌, Option, None, Some}
 use Rattle.pas_report.specs.declared.record.Record.{Record}
 use Rattle.pas_report.specs.declared.record.Said.{Said}
 use Rattle.pas_profile.specs.declared.directory.Directory.{Directory}
@@ -10,15 +10,19 @@ use Rattle.pas_profile.specs.declared.event.Why.{Why}
 use Rattle.pas_profile.specs.declared.name.Block.{Block}
 use Rattle.pas_profile.specs.declared.name.Name.{Name}
 use Rattle.pas_profile.specs.Requests.{room_in}
-use Rattle.pas_profile.specs.Runs.{in_run, address_of, grain_of, length_of}
+use Rattle.pas_bits.specs.Runs.{in_run}
+use Rattle.pas_profile.specs.Blocks.{address_of, grain_of, length_of}
 use Rattle.pas_machine.specs.State.{deed_in}
 use Rattle.pas_machine.specs.Machine.{Admits}
 use Rattle.pas_machine.specs.Machines.{profile_of, StandsFor}
 use Rattle.pas_machine.specs.declared.machine.Machine.{Machine}
 use Rattle.pas_trace.specs.declared.item.Request.{Request}
-use Rattle.pas_check.specs.Bounds.{FitsRequest, IsSmall}
-use Rattle.pas_check.specs.States.{Due, Examines, Stand, with_due, with_name, with_one}
+use Rattle.pas_check.specs.Begins.{begun_from, entries_due, past_outcomes}
+use Rattle.pas_check.specs.Bounds.{FitsNext, FitsRequest, IsKept, IsSmall}
+use Rattle.pas_check.specs.Leading.{Fails, Leads}
+use Rattle.pas_check.specs.States.{Due, Examines, Serves, Stand, with_due, with_name, with_one}
 use Rattle.pas_check.specs.Takes.{IsFor, IsRefusal, MayCome, NamesNoRoom, TakesEntry, TakesGive, TakesOutcome, TakesPreparing, TakesRefusal, after_outcome, directory_of}
+use Rattle.pas_check.specs.declared.cutting.Cursor.{Cursor}
 use Rattle.pas_check.specs.declared.examining.Examined.{Examined}
 use Rattle.pas_check.specs.declared.serving.Wanted.{Wanted}
 
@@ -45,6 +49,15 @@ abbrev pub EntryTaken : Machine → Machine → ℕ → Name → ℕ → List �
 EntryTaken old new k name epoch line true = (s : Stand) (more : List Due) → StandsFor old s.events → s.epoch ≡ epoch
     → (e : Event) × TakesEntry (profile_of old) s k name more line (with_due (with_one s e) more) × StandsFor new (e ∷ s.events)
 EntryTaken old new k name epoch line false = (new ≡ old) × ((s : Stand) (more : List Due) (next : Stand) → StandsFor old s.events → s.epoch ≡ epoch → TakesEntry (profile_of old) s k name more line next → ⊥)
+
+-- The lines of so many entries lead from where the entries of the log are due to where those that are left are; or one of them can't be taken.
+abbrev pub EntriesTaken : Machine → Machine → List ℕ → Cursor → Cursor → ℕ → List Name → List Name → ℕ → Bool → Type 0
+EntriesTaken old new text from to k log left epoch true = (s : Stand) (more : List Due) → StandsFor old s.events → s.epoch ≡ epoch → IsKept s from
+    → s.due ≡ entries_due k log ++ more
+    → (t : Stand) × Leads (profile_of old) text s from t to × (t ≡ record s { events = t.events; due = entries_due k left ++ more }) × StandsFor new t.events × IsKept t to
+EntriesTaken old new text from to k log left epoch false = (s : Stand) (more : List Due) → StandsFor old s.events → s.epoch ≡ epoch → IsKept s from
+    → s.due ≡ entries_due k log ++ more
+    → Fails (profile_of old) text s from to.lines
 
 -- ---- deeds and backs of a request
 abbrev pub PreparingTaken : Machine → Machine → ℕ → Directory → List ℕ → Bool → Type 0
@@ -104,6 +117,10 @@ pub record IsWanted (f : Profile) (r : Request) (w : Wanted) : Type 0 where
   pub align : r.align ≡ w.align
   pub directory : directory_of f r ≡ w.directory
 
+-- a request of these numbers
+abbrev pub asked_for : ℕ → ℕ → ℕ → ℕ → Request
+asked_for name heap size align = record { name = name; heap = heap; size = size; align = align }
+
 -- each page under the block has a deed of the directory
 abbrev pub LiesOn : List Event → Block → Directory → Type 0
 LiesOn es block d = (x : ℕ) → in_run (grain_of block.name) (length_of block) x ≡ true → deed_in es (x / 256) ≡ Some d
@@ -136,3 +153,60 @@ RefusalSeen machine k w line true = (s : Stand) (r : Request) (more : List Due) 
     → TakesRefusal (profile_of machine) s k r more line (with_due (with_name s r.name None) more)
 RefusalSeen machine k w line false = (s : Stand) (r : Request) (more : List Due) (next : Stand) → IsWanted (profile_of machine) r w → IsSmall (profile_of machine) s
     → FitsRequest (profile_of machine) k r → StandsFor machine s.events → TakesRefusal (profile_of machine) s k r more line next → ⊥
+
+-- ---- the lines of a request
+-- the line ends the request: its name stands for the block that was given, or for nothing where it is a refusal; or the line does neither
+abbrev pub EndingTaken : Machine → Machine → ℕ → Wanted → List ℕ → Option (Option Name) → Type 0
+EndingTaken old new k w line (Some (Some name)) = GiveTaken old new k w line (Some name)
+EndingTaken old new k w line (Some None) = GiveTaken old new k w line None × RefusalSeen new k w line true
+EndingTaken old new k w line None = GiveTaken old new k w line None × RefusalSeen new k w line false
+
+-- where the request may stand, and its lines begin
+pub record IsAsked (machine : Machine) (s : Stand) (at : Cursor) (k : ℕ) (w : Wanted) (r : Request) (more : List Due) : Type 0 where
+  pub wants : IsWanted (profile_of machine) r w
+  pub stands : StandsFor machine s.events
+  pub kept : IsKept s at
+  pub fits : FitsRequest (profile_of machine) k r
+  pub epoch : s.epoch < 2 ^ 64
+  pub due : s.due ≡ Serves k r ∷ more
+
+-- the lines so far, which are deeds and backs, lead to where the request goes on
+abbrev pub RequestGoes : Machine → Machine → List ℕ → Cursor → Cursor → ℕ → Wanted → Type 0
+RequestGoes old new text from to k w = (s : Stand) (r : Request) (more : List Due) → IsAsked old s from k w r more
+    → (t : Stand) × Leads (profile_of old) text s from t to × (t ≡ record s { events = t.events }) × StandsFor new t.events × IsKept t to
+
+-- they lead to where its name stands for the block, or for nothing; or one of them can't be taken
+abbrev pub RequestTaken : Machine → Machine → List ℕ → Cursor → Cursor → ℕ → Wanted → Option (Option Name) → Type 0
+RequestTaken old new text from to k w (Some block) = (s : Stand) (r : Request) (more : List Due) → IsAsked old s from k w r more
+    → (t : Stand) × Leads (profile_of old) text s from t to × (t ≡ with_due (with_name (record s { events = t.events }) r.name block) more) × StandsFor new t.events × IsKept t to
+RequestTaken old new text from to k w None = (s : Stand) (r : Request) (more : List Due) → IsAsked old s from k w r more → Fails (profile_of old) text s from to.lines
+
+-- ---- the lines of a pass
+-- what stands after a pass that left these events, where the next act that has a line is begun
+abbrev pub after_pass : Profile → Stand → List Event → Stand
+after_pass f s es = begun_from f (record s { events = es; due = [] }) s.left
+
+-- What follows the pass fits its places, whatever events the pass makes.
+pub record IsFollowed (f : Profile) (s : Stand) : Type 0 where
+  pub fits : (es : List Event) → FitsNext f (after_pass f s es).due
+  pub no_pass : (es : List Event) → past_outcomes (after_pass f s es).due ≡ (after_pass f s es).due
+  pub events : (es : List Event) → (after_pass f s es).events ≡ es
+  pub epoch : (es : List Event) → (after_pass f s es).epoch < 2 ^ 64
+
+pub record IsExamining (machine : Machine) (s : Stand) (at : Cursor) (last read : ℕ) : Type 0 where
+  pub stands : StandsFor machine s.events
+  pub kept : IsKept s at
+  pub epoch : s.epoch ≡ read
+  pub small : read < 2 ^ 64
+  pub due : s.due ≡ Examines last ∷ []
+  pub followed : IsFollowed (profile_of machine) s
+
+-- the outcomes so far lead to where this page is the last
+abbrev pub OutcomesGo : Machine → Machine → List ℕ → Cursor → Cursor → ℕ → ℕ → Type 0
+OutcomesGo old new text from to last epoch = (s : Stand) → IsExamining old s from 0 epoch
+    → (t : Stand) × Leads (profile_of old) text s from t to × (t ≡ record s { events = t.events; due = Examines last ∷ [] }) × StandsFor new t.events × IsKept t to
+
+-- all of them lead to where nothing more is due of the pass
+abbrev pub OutcomesTaken : Machine → Machine → List ℕ → Cursor → Cursor → ℕ → Type 0
+OutcomesTaken old new text from to epoch = (s : Stand) → IsExamining old s from 0 epoch
+    → (t : Stand) × Leads (profile_of old) text s from t to × (t ≡ record s { events = t.events; due = [] }) × StandsFor new t.events × IsKept t to

@@ -4,6 +4,9 @@ pub mod Begins
 pub mod Takes
 pub mod Accepted
 pub mod Going
+pub mod Leading
+pub mod Tables
+pub mod Tasks
 pub mod Bounds
 pub mod Ranges
 pub mod Readings

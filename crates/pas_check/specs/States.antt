@@ -3,6 +3,7 @@ use Rattle.std.specs.Prelude.{ℕ, ◌==◌, if◌then◌else◌, List, [], ◌�
 use Rattle.pas_profile.specs.declared.directory.Directory.{Directory}
 use Rattle.pas_profile.specs.declared.event.Event.{Event}
 use Rattle.pas_profile.specs.declared.name.Name.{Name}
+use Rattle.pas_report.specs.declared.record.Record.{Record}
 use Rattle.pas_trace.specs.Plans.{ops_of}
 use Rattle.pas_trace.specs.declared.plan.Plan.{Plan}
 use Rattle.pas_trace.specs.Acts.{Act, acts_of}
@@ -10,15 +11,17 @@ use Rattle.pas_trace.specs.Named.{Named}
 use Rattle.pas_trace.specs.declared.item.Request.{Request}
 
 -- ---- what is due
--- What the next lines are to answer. `Writes`: just this line. `Frees`: the line of an entry of thread k's log. `Serves`: those of a request of thread k, which
--- are deeds and backs, as many as there are, and then a give or a refusal. `Examines`: the outcomes of a pass on pages after this one, as many as there
--- are. `Shows`: the line of a page of this directory in the report.
+-- What the next lines are to answer. `Writes`: the line of just this record. `Frees`: the line of an entry of thread k's log. `Serves`: those of a request of
+-- thread k, which are deeds and backs, as many as there are, and then a give or a refusal. `Examines`: the outcomes of a pass on pages after this one, as many
+-- as there are. The report: its head, the line of each page with a deed, which has this directory, and the line of the totals.
 pub data Due : Type 0 where
-  Writes : List ℕ → Due
+  Writes : Record → Due
   Frees : ℕ → Name → Due
   Serves : ℕ → Request → Due
   Examines : ℕ → Due
+  Heads : Due
   Shows : ℕ → Directory → Due
+  Totals : Due
 
 -- what is to be begun once nothing is due: an act of the plan, or the report
 pub data Task : Type 0 where

@@ -1,5 +1,5 @@
 -- Which line may come next, by what stands before it, and what follows from it.
-use Rattle.std.specs.Prelude.{ℕ, ◌+◌, ◌*◌, ◌-◌, ◌/◌, ◌%◌, ◌^◌, ◌<◌, ◌≡◌, ◌≢◌, ◌⊎◌, true, false, not, List, [], ◌∷◌, None, Some}
+use Rattle.std.specs.Prelude.{ℕ, ◌+◌, ◌*◌, ◌-◌, ◌/◌, ◌%◌, ◌^◌, ◌<◌, ◌≡◌, ◌≢◌, ◌⊎◌, true, false, not, List, [], ◌∷◌, None, Some, codes}
 use Rattle.pas_profile.specs.declared.directory.Directory.{Directory}
 use Rattle.pas_profile.specs.declared.event.Event.{Event}
 use Rattle.pas_profile.specs.declared.event.Outcome.{Outcome}
@@ -10,16 +10,18 @@ use Rattle.pas_profile.specs.declared.name.Block.{Block}
 use Rattle.pas_profile.specs.declared.profile.Profile.{Profile}
 use Rattle.pas_profile.specs.Profiles.{IsPage}
 use Rattle.pas_profile.specs.Requests.{room_in, directory_for}
-use Rattle.pas_profile.specs.Runs.{in_run, address_of, grain_of, length_of}
+use Rattle.pas_bits.specs.Runs.{in_run}
+use Rattle.pas_profile.specs.Blocks.{address_of, grain_of, length_of}
 use Rattle.pas_machine.specs.Machine.{Admits, IsReason}
 use Rattle.pas_machine.specs.State.{deed_in, backed_in, epoch_in}
 use Rattle.pas_steps.specs.Views.{usable_by_kind}
-use Rattle.pas_report.specs.Lines.{line_of_event, line_of_answer}
+use Rattle.pas_report.specs.Lines.{line_of, line_of_event, line_of_answer}
 use Rattle.pas_report.specs.Marks.{Marked}
-use Rattle.pas_report.specs.Reports.{is_covered, machine_page}
+use Rattle.pas_report.specs.Reports.{is_covered, machine_page, total_line}
+use Rattle.pas_report.specs.declared.record.Record.{Record}
 use Rattle.pas_report.specs.declared.record.Said.{Said}
 use Rattle.pas_trace.specs.declared.item.Request.{Request}
-use Rattle.pas_check.specs.States.{Due, Writes, Frees, Serves, Examines, Shows, Stand, with_due, with_one, with_name}
+use Rattle.pas_check.specs.States.{Due, Writes, Frees, Serves, Examines, Heads, Shows, Totals, Stand, with_due, with_one, with_name}
 use Rattle.pas_check.specs.Begins.{ready}
 
 -- ---- an entry of a log
@@ -98,13 +100,17 @@ MayCome f s page (Young stamp) = (stamp ≡ epoch_in s.events page) × (s.epoch 
 MayCome f s page (InUse word value) = (word < 4) × (value < 2 ^ 64 - 1)
 MayCome f s page NotOffered = deed_in s.events page ≢ None
 
--- its line, and what follows
-abbrev pub line_of_outcome : ℕ → ℕ → Outcome → List ℕ
-line_of_outcome epoch page Unbacked = line_of_event (Event.Unback 0 page epoch)
-line_of_outcome epoch page Bare = line_of_answer 0 (Said.Bare page)
-line_of_outcome epoch page (Young stamp) = line_of_answer 0 (Said.Young page stamp)
-line_of_outcome epoch page (InUse word value) = line_of_answer 0 (Said.InUse page word value)
-line_of_outcome epoch page NotOffered = line_of_answer 0 (Said.NotOffered page)
+-- its record, and what follows
+abbrev pub record_of : ℕ → ℕ → Outcome → Record
+record_of epoch page Unbacked = Record.Event (Event.Unback 0 page epoch)
+record_of epoch page Bare = Record.Said 0 (Said.Bare page)
+record_of epoch page (Young stamp) = Record.Said 0 (Said.Young page stamp)
+record_of epoch page (InUse word value) = Record.Said 0 (Said.InUse page word value)
+record_of epoch page NotOffered = Record.Said 0 (Said.NotOffered page)
+
+-- a record of some outcome
+abbrev pub IsOutcome : Record → Type 0
+IsOutcome item = (epoch : ℕ) × (page : ℕ) × (outcome : Outcome) × (item ≡ record_of epoch page outcome)
 
 abbrev pub after_outcome : Stand → ℕ → Outcome → Stand
 after_outcome s page Unbacked = with_one s (Event.Unback 0 page s.epoch)
@@ -120,7 +126,7 @@ pub record TakesOutcome (f : Profile) (s : Stand) (last : ℕ) (more : List Due)
   pub of_region : IsPage f page
   pub outcome : Outcome
   pub may : MayCome f s page outcome
-  pub line_is : line ≡ line_of_outcome s.epoch page outcome
+  pub line_is : line ≡ line_of (record_of s.epoch page outcome)
   pub next_is : next ≡ with_due (after_outcome s page outcome) (Examines page ∷ more)
 
 -- ---- a page of the report
@@ -138,24 +144,37 @@ pub record TakesPage (s : Stand) (page : ℕ) (d : Directory) (more : List Due) 
   pub line_is : line ≡ machine_page s.events page (Some d) marks
   pub next_is : next ≡ with_due s more
 
+-- ---- lines of which no word is open
+-- it is just this line
+abbrev pub IsJust : Stand → List ℕ → List Due → List ℕ → Stand → Type 0
+IsJust s text more line next = (line ≡ text) × (next ≡ with_due s more)
+
+-- the first line of the report
+abbrev pub head_line : List ℕ
+head_line = codes "report\n"
+
 -- ---- any line
 -- the line answers what is due
 abbrev pub TakesDue : Profile → Stand → List Due → List ℕ → Stand → Type 0
 TakesDue f s [] line next = ⊥
-TakesDue f s (Writes text ∷ more) line next = (line ≡ text) × (next ≡ with_due s more)
+TakesDue f s (Writes item ∷ more) line next = IsJust s (line_of item) more line next
 TakesDue f s (Frees k name ∷ more) line next = TakesEntry f s k name more line next
 TakesDue f s (Serves k r ∷ more) line next = TakesRequest f s k r more line next
 TakesDue f s (Examines page ∷ more) line next = TakesOutcome f s page more line next
+TakesDue f s (Heads ∷ more) line next = IsJust s head_line more line next
 TakesDue f s (Shows page d ∷ more) line next = TakesPage s page d more line next
+TakesDue f s (Totals ∷ more) line next = IsJust s (total_line f s.events) more line next
 
 -- it is an outcome of the pass, where one may come
 abbrev pub TakesFirst : Profile → Stand → List Due → List ℕ → Stand → Type 0
 TakesFirst f s [] line next = ⊥
-TakesFirst f s (Writes text ∷ more) line next = ⊥
+TakesFirst f s (Writes item ∷ more) line next = ⊥
 TakesFirst f s (Frees k name ∷ more) line next = ⊥
 TakesFirst f s (Serves k r ∷ more) line next = ⊥
 TakesFirst f s (Examines page ∷ more) line next = TakesOutcome f s page more line next
+TakesFirst f s (Heads ∷ more) line next = ⊥
 TakesFirst f s (Shows page d ∷ more) line next = ⊥
+TakesFirst f s (Totals ∷ more) line next = ⊥
 
 -- THE NEXT LINE, and what follows from it
 abbrev pub Takes : Profile → Stand → List ℕ → Stand → Type 0

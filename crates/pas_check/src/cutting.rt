@@ -1,10 +1,19 @@
 //! The lines of a transcript, one by one.
-ghost use Rattle.std.specs.Prelude.{◌≡◌, ◌∷◌, [], take, drop, length, ◌≤◌, IfSome, IfNone};
+ghost use Rattle.std.specs.Prelude.{◌≡◌, ◌+◌, ◌<◌, ◌∷◌, [], take, drop, length, ◌≤◌, IfSome, IfNone};
+ghost use Rattle.pas_check.specs.Leading.{IsJustLine, IsWithin, lines_from};
 ghost use Rattle.pas_check.specs.Lines.{lines_in};
+
+/// How far a text is read: how many bytes and lines stand before this place.
+#[derive(Clone, Copy, Drop)]
+pub(crate) struct Cursor {
+    pub bytes: usize,
+    pub lines: u32,
+}
 
 /// How many bytes the first line of the text has, with its newline; a last line may lack it. None where the text is empty.
 pub(crate) fn first_line(text: &[u8]) -> Option<usize>
     ensures some { IfSome result (λ n. (n ≤ length text.now) × (lines_in text.now ≡ take n text.now ∷ lines_in (drop n text.now))) }
+    ensures front { IfSome result (λ n. 0 < n) }
     ensures none { IfNone result (lines_in text.now ≡ []) }
 {
     if text.len() == 0 {
@@ -16,4 +25,36 @@ pub(crate) fn first_line(text: &[u8]) -> Option<usize>
         }
     }
     Some(text.len())
+}
+
+/// The line at the cursor, with its newline, behind which the cursor stands from then on. None at the end of the text; the wanting line is counted too.
+pub(crate) fn next_line<'a>(text: &'a [u8], cursor: &mut Cursor) -> Option<&'a [u8]>
+    requires within { IsWithin text.now cursor.old }
+    requires short { length text.now ≤ 16777216 }
+    ensures some { IfSome result (λ line. lines_from text.now cursor.old ≡ line.now ∷ lines_from text.now cursor.new) }
+    ensures within { IfSome result (λ line. IsWithin text.now cursor.new) }
+    ensures moves { IfSome result (λ line. cursor.old.bytes < cursor.new.bytes) }
+    ensures none { IfNone result (lines_from text.now cursor.old ≡ []) }
+    ensures count { cursor.new.lines ≡ cursor.old.lines + 1 }
+{
+    let rest = &text[cursor.bytes..];
+    cursor.lines += 1;
+    let Some(count) = first_line(rest) else {
+        return None;
+    };
+    cursor.bytes += count;
+    Some(&rest[..count])
+}
+
+/// Takes the next line, and says whether it is just this one.
+pub(crate) fn take_line(text: &[u8], cursor: &mut Cursor, wanted: &[u8]) -> bool
+    requires within { IsWithin text.now cursor.old }
+    requires short { length text.now ≤ 16777216 }
+    ensures taken { IsJustLine text.now cursor.old cursor.new wanted.now result }
+    ensures count { cursor.new.lines ≡ cursor.old.lines + 1 }
+{
+    match next_line(text, cursor) {
+        Some(line) => line == wanted,
+        None => false,
+    }
 }

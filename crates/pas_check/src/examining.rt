@@ -1,12 +1,14 @@
 //! Lines of a pass: what came of its pages.
-ghost use Rattle.std.specs.Prelude.{ℕ, ◌≡◌, ◌≢◌, IfOk, MatchBool};
-ghost use Rattle.pas_profile.specs.Profiles.{IsPage};
+ghost use Rattle.std.specs.Prelude.{ℕ, ◌≡◌, ◌≢◌, ◌≤◌, length, IfOk, MatchBool};
+ghost use Rattle.pas_profile.specs.Profiles.{IsPage, IsValid};
 ghost use Rattle.pas_profile.specs.declared.event.Outcome.TheVariants as TheOutcome;
 ghost use Rattle.pas_machine.specs.Machines.{profile_of, StandsFor};
-ghost use Rattle.pas_check.specs.Calls.{outcome_in, outcome_in_event, outcome_in_said, IsExamined, OutcomeTaken};
+ghost use Rattle.pas_check.specs.Calls.{outcome_in, outcome_in_event, outcome_in_said, IsExamined, OutcomeTaken, OutcomesTaken};
+ghost use Rattle.pas_check.specs.Leading.{IsWithin};
 ghost use Rattle.pas_check.specs.States.{Stand};
 ghost use Rattle.pas_check.specs.Takes.{MayCome};
 
+use crate::cutting::{Cursor, next_line};
 use crate::reading::read_record;
 use crate::taking::step;
 use pas_machine::Machine;
@@ -122,5 +124,36 @@ pub(crate) fn take_outcome(
         Ok(true) => Ok(Some(examined.page)),
         Ok(false) => Ok(None),
         Err(NoMemory) => Err(NoMemory),
+    }
+}
+
+/// Takes the lines of the outcomes of a pass of this epoch, as many as there are. The cursor stays before the first line that is none.
+pub(crate) fn take_outcomes(
+    machine: &mut Machine,
+    text: &[u8],
+    cursor: &mut Cursor,
+    epoch: u64,
+) -> Result<(), NoMemory>
+    requires within { IsWithin text.now cursor.old }
+    requires short { length text.now ≤ 16777216 }
+    requires valid { IsValid (profile_of machine.old) }
+    ensures profile { profile_of machine.new ≡ profile_of machine.old }
+    ensures taken { IfOk result (λ done. OutcomesTaken machine.old machine.new text.now cursor.old cursor.new epoch) }
+    ensures within { IfOk result (λ done. IsWithin text.now cursor.new) }
+{
+    let mut last = 0;
+    'lines: loop {
+        let mut ahead = *cursor;
+        let Some(line) = next_line(text, &mut ahead) else {
+            return Ok(());
+        };
+        match take_outcome(machine, line, last, epoch) {
+            Ok(Some(page)) => {
+                last = page;
+                *cursor = ahead;
+            }
+            Ok(None) => return Ok(()),
+            Err(NoMemory) => return Err(NoMemory),
+        }
     }
 }

@@ -11,13 +11,14 @@ ghost use Rattle.pas_steps.specs.Kinds.{Kinds, Ticking, Only, apart};
 ghost use Rattle.pas_steps.specs.Lists.{Whole, word_after};
 ghost use Rattle.pas_steps.specs.declared.step.Made.{Made};
 ghost use Rattle.pas_check.specs.Lines.{lines_in};
-ghost use Rattle.pas_check.specs.States.{Due, Stand};
+ghost use Rattle.pas_check.specs.States.{Due, Stand, Task};
 ghost use Rattle.pas_check.specs.Takes.{NamesNoRoom, IsEventOf, Takes, TakesDue};
 ghost use Rattle.pas_trace.specs.declared.plan.Plan.{Plan};
 ghost use Rattle.pas_report.specs.Lines.{line_of, lines_of};
 ghost use Rattle.pas_report.specs.declared.record.Record.{Record};
 ghost use Rattle.pas_check.specs.Accepted.{IsDone, IsStopped, IsVerdict, IsWhole};
-ghost use Rattle.pas_check.specs.Bounds.{FitsFirst, IsSmall};
+ghost use Rattle.pas_check.specs.Begins.{after_task, past_outcomes, ready};
+ghost use Rattle.pas_check.specs.Bounds.{FitsFirst, FitsNext, IsSmall};
 ghost use Rattle.pas_check.specs.Going.{AreAlike, SoFar};
 ghost use Rattle.pas_check.specs.Ranges.{Fits, EachFits};
 ghost use Rattle.pas_check.specs.declared.verdict.Verdict.{Verdict};
@@ -55,12 +56,14 @@ pub fn ticks_alone_raise()
 {}
 
 /// How a check goes on and ends. Where a line may come and leads to one state, the check stands there; a state that no line tells from it will do as
-/// well. A line that can't be taken is the first that isn't allowed; and at the end of the lines the transcript is whole, or ends too early.
+/// well, as the one in which the next task is begun. A line that can't be taken is the first that isn't allowed; and at the end of the lines the
+/// transcript is whole, or ends too early.
 pub fn checks_go_on()
     ensures first { (f : Profile) (s : Stand) → SoFar f s [] s }
     ensures line { (f : Profile) (s next : Stand) (line : List ℕ) → Takes f s line next → ((other : Stand) → Takes f s line other → other ≡ next)
         → (start : Stand) (seen : List (List ℕ)) → SoFar f start seen s → SoFar f start (seen ++ line ∷ []) next }
     ensures none { (f : Profile) (start s t : Stand) (seen : List (List ℕ)) → AreAlike f s t → SoFar f start seen s → SoFar f start seen t }
+    ensures begun { (f : Profile) (s : Stand) (t : Task) (ts : List Task) → s.due ≡ [] → s.left ≡ t ∷ ts → AreAlike f s (after_task f s t ts) }
     ensures refused { (f : Profile) (start s : Stand) (seen : List (List ℕ)) (line : List ℕ) (rest : List (List ℕ)) → SoFar f start seen s
         → ((next : Stand) → Takes f s line next → ⊥) → IsStopped f start (seen ++ line ∷ rest) (length seen + 1) }
     ensures whole { (f : Profile) (start s : Stand) (lines : List (List ℕ)) → SoFar f start lines s → IsDone f s → IsWhole f start lines }
@@ -68,8 +71,12 @@ pub fn checks_go_on()
 {}
 
 /// A line that answers what is due leads to one state, where the events so far are a run of few blocks at small epochs, and the numbers of a request
-/// fit. So it is never open which of two answers a line gave.
-#[tactic(auto, using(crate::proofs::OneNext::one_next))]
+/// fit. So does a line that may come next, where what is due after the outcomes of a pass is no outcome, and its numbers fit: none has the line of what
+/// follows its pass. So it is never open which of two answers a line gave.
+#[tactic(auto, using(crate::proofs::OneNext::one_next, crate::proofs::Nexts::one_takes))]
 pub fn lines_lead_on()
-    ensures { (f : Profile) (s : Stand) → IsSmall f s → (due : List Due) → FitsFirst f due → (line : List ℕ) (a b : Stand) → TakesDue f s due line a → TakesDue f s due line b → a ≡ b }
+    ensures due { (f : Profile) (s : Stand) → IsSmall f s → (due : List Due) → FitsFirst f due
+        → (line : List ℕ) (a b : Stand) → TakesDue f s due line a → TakesDue f s due line b → a ≡ b }
+    ensures next { (f : Profile) (s : Stand) → IsSmall f s → IsSmall f (ready f s) → FitsNext f (ready f s).due → past_outcomes (ready f s).due ≡ (ready f s).due
+        → (line : List ℕ) (a b : Stand) → Takes f s line a → Takes f s line b → a ≡ b }
 {}

@@ -1,11 +1,17 @@
 //! The checker of transcripts: whether a transcript in the order of the text answers a plan, and the first line that doesn't.
 #![tactic(auto)]
 
+mod acting;
 mod cutting;
+mod emptying;
 mod examining;
+mod following;
 pub mod laws;
+mod logging;
+mod naming;
 mod numbers;
 pub mod reading;
+mod requesting;
 mod serving;
 mod taking;
 pub mod verdict;

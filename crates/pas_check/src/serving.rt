@@ -1,17 +1,20 @@
 //! Lines that end a request: a give, or a refusal.
 ghost use Rattle.std.specs.Prelude.{ℕ, ◌≡◌, ◌≢◌, ◌<◌, IfOk, List, MatchBool, Some};
+ghost use Rattle.pas_profile.specs.Directories.{IsKind};
+ghost use Rattle.pas_profile.specs.Profiles.{IsAdmitted, IsValid};
 ghost use Rattle.pas_profile.specs.declared.event.Event.{Event as TheEvent};
 ghost use Rattle.pas_machine.specs.State.{deed_in};
 ghost use Rattle.pas_machine.specs.Places.{IsEach};
 ghost use Rattle.pas_machine.specs.Machines.{profile_of, StandsFor};
 ghost use Rattle.pas_trace.specs.declared.item.Request.{Request};
-ghost use Rattle.pas_check.specs.Calls.{GiveTaken, IsFitting, IsGiven, IsWanted, LiesOn, RefusalSeen, RefusesBy};
+ghost use Rattle.pas_check.specs.Calls.{asked_for, GiveTaken, IsFitting, IsGiven, IsWanted, LiesOn, RefusalSeen, RefusesBy};
 ghost use Rattle.pas_check.specs.States.{Stand};
 
 use crate::reading::read_record;
 use crate::taking::{read_event, step};
+use pas_heap::HeapTable;
 use pas_machine::Machine;
-use pas_profile::{Block, Directory, Event, Name, NoMemory};
+use pas_profile::{Block, Directory, Event, Kind, Name, NoMemory, Profile, Route};
 use pas_report::{Record, Said};
 
 /// What a request asks for: a block for this name, of this room, at a multiple of this alignment, on pages of this directory.
@@ -21,6 +24,26 @@ pub(crate) struct Wanted {
     pub room: u32,
     pub align: u32,
     pub directory: Directory,
+}
+
+/// What is wanted by a request that the region may serve.
+pub(crate) fn wanted_for(profile: &Profile, name: u32, heap: u8, size: u32, align: u32) -> Wanted
+    requires valid { IsValid profile.now }
+    requires admitted { IsAdmitted profile.now size align heap }
+    ensures wanted { IsWanted profile.now (asked_for name heap size align) result }
+    ensures kind { IsKind result.directory.kind }
+{
+    let kind = match profile.route(size, align) {
+        Route::Class(class) => HeapTable::new(profile).kind_for(heap, class),
+        Route::Bitfit => Kind::Bitfit,
+        Route::Large => Kind::Large,
+    };
+    Wanted {
+        name,
+        room: profile.room_for(size, align),
+        align,
+        directory: Directory { heap, kind },
+    }
 }
 
 /// Whether the page has a deed of the directory.

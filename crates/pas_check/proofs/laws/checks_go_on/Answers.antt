@@ -1,4 +1,5 @@
 use Rattle.pas_check.proofs.Goings.{at_first, by_line, by_none, refused, ended_whole, ended_early}
+use Rattle.pas_check.proofs.Beginnings.{begun_alike}
 use Rattle.pas_check.proofs.laws.checks_go_on.Goals as goal
 
 pub returns-clause-first : goal.returns-clause-first
@@ -9,6 +10,9 @@ returns-clause-line c = by_line
 
 pub returns-clause-none : goal.returns-clause-none
 returns-clause-none c = by_none
+
+pub returns-clause-begun : goal.returns-clause-begun
+returns-clause-begun c = begun_alike
 
 pub returns-clause-refused : goal.returns-clause-refused
 returns-clause-refused c = refused

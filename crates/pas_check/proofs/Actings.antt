@@ -1,0 +1,506 @@
+-- Acts, done.
+use Rattle.std.proofs.Common.{◌≡◌, ◌≢◌, ℕ, ◌+◌, ◌/◌, ◌%◌, ◌^◌, ◌<◌, ◌≤◌, ◌==◌, if◌then◌else◌, nat_le, max, Bool, true, false, List, [], ◌∷◌, ◌++◌, Option, None, Some, length, get_or, set, inl, inr, refl, ap, sym, subst, ◌∙◌, arith, get_or-set_other, get_or-set_same, length-set}
+use Rattle.std.proofs.lemmas.Bool.{and_from, and_parts, cases_eq, eq-eqb, false_from_ne_true, le-leb, leb-true, lt-leb, ne_eqb}
+use Rattle.pas_profile.specs.Directories.{IsKind}
+use Rattle.pas_profile.specs.Profiles.{IsPage}
+use Rattle.pas_profile.specs.Blocks.{address_of}
+use Rattle.pas_profile.specs.declared.directory.Directory.{Directory}
+use Rattle.pas_profile.specs.declared.name.Name.{Name}
+use Rattle.pas_profile.specs.declared.profile.Profile.{Profile}
+use Rattle.pas_machine.specs.Machines.{profile_of, StandsFor}
+use Rattle.pas_machine.specs.declared.machine.Machine.{Machine}
+use Rattle.pas_report.specs.declared.record.Record.{Record}
+use Rattle.pas_report.specs.declared.record.Said.{Said}
+use Rattle.pas_trace.specs.Acts.{Act, MakesPass, MarksClose, MarksPhase, StopsIdle, Ticks, Wakes}
+use Rattle.pas_trace.specs.Named.{standing_for}
+use Rattle.pas_trace.specs.declared.item.Request.{Request}
+use Rattle.pas_check.specs.Begins.{after_task, begun_act, entries_due, flushing, freeing_at, freeing_named, is_aligned, is_page, logging, stopping, tells}
+use Rattle.pas_check.specs.Bounds.{FitsRequest, IsKept}
+use Rattle.pas_check.specs.Calls.{EntriesTaken, IsAsked, IsExamining, IsFollowed, IsWanted, OutcomesTaken, RequestTaken}
+use Rattle.pas_check.specs.Leading.{Fails, IsLed, IsWithin, Leads}
+use Rattle.pas_check.specs.States.{Due, Writes, Serves, Examines, Task, Does, Stand, with_at, with_due, with_name}
+use Rattle.pas_check.specs.Tables.{logged, logs_held, meant}
+use Rattle.pas_check.specs.Tasks.{ActTaken, Asks, FreesBlock, FreesNamed, IsNext, LogEmptied, PassTaken, Stands, emptying}
+use Rattle.pas_check.specs.declared.acting.Judge.{Judge}
+use Rattle.pas_check.specs.declared.cutting.Cursor.{Cursor}
+use Rattle.pas_check.specs.declared.logging.Logs.{Logs}
+use Rattle.pas_check.specs.declared.naming.Names.{Names}
+use Rattle.pas_check.specs.declared.serving.Wanted.{Wanted}
+use Rattle.pas_check.proofs.Beginnings.{begun_alike}
+use Rattle.pas_check.proofs.Kept.{kept_same}
+use Rattle.pas_check.proofs.Leads.{leads_alike, leads_fails, leads_on}
+
+-- further on
+later : {f : Profile} {j : Judge} {s : Stand} {from : Cursor} (to : Cursor) → from.lines ≤ to.lines → Stands f j s from → Stands f j s to
+later {f} {j} {s} {from} to more stands = record {
+  profile = stands.profile;
+  events = stands.events;
+  names = stands.names;
+  logs = stands.logs;
+  awake = stands.awake;
+  epoch = stands.epoch;
+  small = stands.small;
+  kept = kept_same s s from to refl refl more stands.kept;
+}
+
+-- ---- an act is begun without a line
+module _ (f : Profile) (text : List ℕ) (old : Judge) (from : Cursor) (act : Act) (within : IsWithin text from) where
+  begins : (s : Stand) (ts : List Task) → IsNext f old s from act ts → Leads f text s from (after_task f s (Does act) ts) from
+  begins s ts next = leads_alike f text s (after_task f s (Does act) ts) from within (begun_alike f s (Does act) ts next.due next.left)
+
+  -- it has one line
+  pub act_of_line : (new : Judge) (to : Cursor) (item : Record)
+      → ((s : Stand) (ts : List Task) → IsNext f old s from act ts → ((begun_act f s act).due ≡ Writes item ∷ []) × Stands f new (with_due (after_task f s (Does act) ts) []) from)
+      → (is : Bool) → ((s : Stand) (more : List Due) → s.due ≡ Writes item ∷ more → IsLed f text s from (with_due s more) to is) → ActTaken f text old from new to act is
+  act_of_line new to item begun true led = λ s ts next.
+      let b = begun s ts next in
+      let leads = led (after_task f s (Does act) ts) [] b.0 in
+      let count : from.lines ≤ to.lines = (let e = leads.count in omega (arith, e)) in
+      (with_due (after_task f s (Does act) ts) [], leads_on (begins s ts next) leads, later to count b.1, refl, refl)
+  act_of_line new to item begun false led = λ s ts next. leads_fails (begins s ts next) (led (after_task f s (Does act) ts) [] (begun s ts next).0)
+
+  -- it has none
+  pub act_of_none : (new : Judge) → ((s : Stand) (ts : List Task) → IsNext f old s from act ts
+      → ((begun_act f s act).due ≡ []) × Stands f new (after_task f s (Does act) ts) from) → ActTaken f text old from new from act true
+  act_of_none new begun = λ s ts next. (after_task f s (Does act) ts, begins s ts next, (begun s ts next).1, (begun s ts next).0, refl)
+
+-- ---- the marks
+module _ (f : Profile) (text : List ℕ) (judge : Judge) (from to : Cursor) (within : IsWithin text from) (is : Bool) where
+  same_judge : (s t : Stand) → t.events ≡ s.events → t.names ≡ s.names → ((k : ℕ) → t.logs k ≡ s.logs k) → ((k : ℕ) → t.idle_since k ≡ s.idle_since k)
+      → t.epoch ≡ s.epoch → Stands f judge s from → Stands f judge t from
+  same_judge s t events names logs idle epoch stands = record {
+    profile = stands.profile;
+    events = subst (λ es. StandsFor judge.machine es) (sym events) stands.events;
+    names = λ n. ap (λ ns. standing_for ns n) names ∙ stands.names n;
+    logs = λ k held. logs k ∙ stands.logs k held;
+    awake = λ k held. idle k ∙ stands.awake k held;
+    epoch = epoch ∙ stands.epoch;
+    small = stands.small;
+    kept = kept_same t s from from events epoch (omega arith) stands.kept;
+  }
+
+  pub phase_marked : (n : ℕ) → ((s : Stand) (more : List Due) → s.due ≡ Writes (Record.Phase n) ∷ more → IsLed f text s from (with_due s more) to is)
+      → ActTaken f text judge from judge to (MarksPhase n) is
+  phase_marked n led = act_of_line f text judge from (MarksPhase n) within judge to (Record.Phase n)
+      (λ s ts next. (refl, same_judge s (with_due (after_task f s (Does (MarksPhase n)) ts) []) refl refl (λ k. refl) (λ k. refl) refl next.stands)) is led
+
+  pub close_marked : ((s : Stand) (more : List Due) → s.due ≡ Writes Record.Close ∷ more → IsLed f text s from (with_due s more) to is)
+      → ActTaken f text judge from judge to MarksClose is
+  close_marked led = act_of_line f text judge from MarksClose within judge to Record.Close
+      (λ s ts next. (refl, same_judge s (with_due (after_task f s (Does MarksClose) ts) []) refl refl (λ k. refl) (λ k. refl) refl next.stands)) is led
+
+-- ---- a tick
+pub ticked : (f : Profile) (text : List ℕ) (old : Judge) (from to : Cursor) → IsWithin text from → (e n : ℕ) → n ≡ max old.epoch e → n < 2 ^ 64 → (is : Bool)
+    → ((s : Stand) (more : List Due) → s.due ≡ Writes (Record.Said 0 (Said.Tick n)) ∷ more → IsLed f text s from (with_due s more) to is)
+    → ActTaken f text old from (record old { epoch = n }) to (Ticks e) is
+ticked f text old from to within e n greater few is led = act_of_line f text old from (Ticks e) within (record old { epoch = n }) to (Record.Said 0 (Said.Tick n))
+    (λ s ts next.
+    let stands = next.stands in
+    let same : max s.epoch e ≡ n = ap (λ m. max m e) stands.epoch ∙ sym greater in (
+      ap (λ m. Writes (Record.Said 0 (Said.Tick m)) ∷ []) same,
+      record {
+        profile = stands.profile;
+        events = stands.events;
+        names = stands.names;
+        logs = stands.logs;
+        awake = stands.awake;
+        epoch = same;
+        small = few;
+        kept = record { few = stands.kept.few; ends = λ page. (let low = stands.kept.ends page in omega (arith, low)) };
+      },
+    )) is led
+
+-- ---- a thread wakes
+pub woken : (f : Profile) (text : List ℕ) (old new : Judge) (at : Cursor) → IsWithin text at → (k : ℕ) → k < length old.awake.items → new.machine ≡ old.machine
+    → new.names ≡ old.names → new.logs ≡ old.logs → new.epoch ≡ old.epoch
+    → new.awake.items ≡ set old.awake.items k old.epoch → ActTaken f text old at new at (Wakes k) true
+woken f text old new at within k held machine names logs epoch awake = act_of_none f text old at (Wakes k) within new
+    (λ s ts next.
+    let stands = next.stands in (
+      next.due,
+      record {
+        profile = ap (λ (m : Machine). profile_of m) machine ∙ stands.profile;
+        events = subst (λ (m : Machine). StandsFor m s.events) (sym machine) stands.events;
+        names = λ n. stands.names n ∙ ap (λ ns. meant ns n) (sym names);
+        logs = λ j has. stands.logs j (subst (λ (l : Logs). j < logs_held l) logs has) ∙ ap (λ (l : Logs). logged l j) (sym logs);
+        awake = λ j has. idle s stands j has;
+        epoch = stands.epoch ∙ sym epoch;
+        small = (let less = stands.small in omega (arith, epoch, less));
+        kept = kept_same (after_task f s (Does (Wakes k)) ts) s at at refl refl (omega arith) stands.kept;
+      },
+    ))
+  where
+    here : (s : Stand) (j : ℕ) → s.epoch ≡ old.epoch → j ≡ k → with_at s.idle_since k s.epoch j ≡ get_or new.awake.items j 0
+    here s j same is =
+        let t : (j == k) ≡ true = eq-eqb j k is in
+        ap (λ (x : Bool). if x then s.epoch else s.idle_since j) t ∙ same ∙ sym (get_or-set_same old.awake.items k old.epoch 0 held)
+        ∙ (λ i. get_or (sym awake i) (sym is i) 0)
+
+    idle : (s : Stand) → Stands f old s at → (j : ℕ) → j < length new.awake.items → with_at s.idle_since k s.epoch j ≡ get_or new.awake.items j 0
+    idle s stands j has = elim (cases_eq j k) [
+      | inl is ↦ here s j stands.epoch is
+      | inr other ↦
+          let t : (j == k) ≡ false = ne_eqb j k other in
+          let long : length new.awake.items ≡ length old.awake.items = ap length awake ∙ length-set old.awake.items k old.epoch in
+          ap (λ (x : Bool). if x then s.epoch else s.idle_since j) t ∙ stands.awake j (omega (arith, has, long)) ∙ sym (get_or-set_other old.awake.items k j old.epoch 0 other)
+          ∙ ap (λ xs. get_or xs j 0) (sym awake)
+    ]
+
+-- ---- a log is emptied
+module _ (f : Profile) (text : List ℕ) (old : Judge) (from to : Cursor) (k : ℕ) (log : List Name) (held : k < logs_held old.logs) where
+  begun_kept : (s : Stand) (more : List Due) (ts : List Task) → Stands f old s from → IsKept (emptying s k log more ts) from
+  begun_kept s more ts stands = kept_same (emptying s k log more ts) s from from refl refl (omega arith) stands.kept
+
+  begun_due : (s : Stand) (more : List Due) (ts : List Task) → Stands f old s from → (emptying s k log more ts).due ≡ entries_due k (logged old.logs k) ++ more
+  begun_due s more ts stands = ap (λ (names : List Name). entries_due k names ++ more) (stands.logs k held)
+
+  pub log_amiss : (machine : Machine) → EntriesTaken old.machine machine text from to k (logged old.logs k) [] old.epoch false → (new : Judge)
+      → LogEmptied f text old from new to k log false
+  log_amiss machine entries new = λ s more ts stands.
+      subst (λ g. Fails g text (emptying s k log more ts) from to.lines) stands.profile
+      (entries (emptying s k log more ts) more stands.events stands.epoch (begun_kept s more ts stands) (begun_due s more ts stands))
+
+  pub log_emptied : (machine : Machine) (logs : Logs) → profile_of machine ≡ profile_of old.machine → logged logs k ≡ log
+      → ((j : ℕ) → j ≢ k → logged logs j ≡ logged old.logs j) → logs_held logs ≡ logs_held old.logs
+      → EntriesTaken old.machine machine text from to k (logged old.logs k) [] old.epoch true
+      → LogEmptied f text old from (record old { machine = machine; logs = logs }) to k log true
+  log_emptied machine logs profile cleared others count entries = λ s more ts stands.
+      let b : Stand = emptying s k log more ts in
+      let end = entries b more stands.events stands.epoch (begun_kept s more ts stands) (begun_due s more ts stands) in
+      let t = end.0 in
+      let is : t ≡ record b { events = t.events; due = more } = end.2 in (
+        t,
+        subst (λ g. Leads g text b from t to) stands.profile end.1,
+        record {
+          profile = profile ∙ stands.profile;
+          events = end.3;
+          names = λ n. ap (λ (u : Stand). standing_for u.names n) is ∙ stands.names n;
+          logs = λ j has. ap (λ (u : Stand). u.logs j) is ∙ log_at s stands j (subst (λ m. j < m) count has);
+          awake = λ j has. ap (λ (u : Stand). u.idle_since j) is ∙ stands.awake j has;
+          epoch = ap (λ (u : Stand). u.epoch) is ∙ stands.epoch;
+          small = stands.small;
+          kept = end.4;
+        },
+        ap (λ (u : Stand). u.due) is,
+        ap (λ (u : Stand). u.left) is,
+      )
+    where
+      log_at : (s : Stand) → Stands f old s from → (j : ℕ) → j < logs_held old.logs → with_at s.logs k log j ≡ logged logs j
+      log_at s stands j has = elim (cases_eq j k) [
+        | inl is ↦ (let t : (j == k) ≡ true = eq-eqb j k is in ap (λ (x : Bool). if x then log else s.logs j) t ∙ sym cleared ∙ ap (logged logs) (sym is))
+        | inr other ↦ (let t : (j == k) ≡ false = ne_eqb j k other in ap (λ (x : Bool). if x then log else s.logs j) t ∙ stands.logs j has ∙ sym (others j other))
+      ]
+
+-- ---- acts that empty a log
+-- another list of what is due
+pub with_other_due : {f : Profile} {j : Judge} {s : Stand} {at : Cursor} (more : List Due) → Stands f j s at → Stands f j (with_due s more) at
+with_other_due {f} {j} {s} {at} more stands = record {
+  profile = stands.profile;
+  events = stands.events;
+  names = stands.names;
+  logs = stands.logs;
+  awake = stands.awake;
+  epoch = stands.epoch;
+  small = stands.small;
+  kept = kept_same (with_due s more) s at at refl refl (omega arith) stands.kept;
+}
+
+module _ (f : Profile) (text : List ℕ) (old new : Judge) (from to : Cursor) (k : ℕ) (within : IsWithin text from) where
+  -- a flush, a stop, a thread's end, and a free where the log is full
+  pub flushed : (act : Act) (log : List Name) → ((s : Stand) → Stands f old s from → begun_act f s act ≡ flushing s k log []) → (is : Bool)
+      → LogEmptied f text old from new to k log is → ActTaken f text old from new to act is
+  flushed act log flushes true emptied = λ s ts next.
+      let e = emptied s [] ts next.stands in
+      let same : after_task f s (Does act) ts ≡ emptying s k log [] ts = ap (λ (u : Stand). record u { left = ts }) (flushes s next.stands) in
+      (e.0, leads_on (begins f text old from act within s ts next) (subst (λ (u : Stand). Leads f text u from e.0 to) (sym same) e.1), e.2, e.3, e.4)
+  flushed act log flushes false emptied = λ s ts next.
+      let same : after_task f s (Does act) ts ≡ emptying s k log [] ts = ap (λ (u : Stand). record u { left = ts }) (flushes s next.stands) in
+      leads_fails (begins f text old from act within s ts next) (subst (λ (u : Stand). Fails f text u from to.lines) (sym same) (emptied s [] ts next.stands))
+
+  -- the stop of an idle thread
+  stop_same : (s : Stand) (n : ℕ) (ts : List Task) → nat_le (s.idle_since k + n) s.epoch ≡ true
+      → after_task f s (Does (StopsIdle k n)) ts ≡ emptying s k [] (Writes (Record.Said 0 (Said.Stopped k)) ∷ []) ts
+  stop_same s n ts idle = ap (λ (x : Bool). record (stopping x s k) { left = ts }) idle
+
+  pub stop_amiss : (n : ℕ) → ((s : Stand) → Stands f old s from → nat_le (s.idle_since k + n) s.epoch ≡ true) → LogEmptied f text old from new to k [] false
+      → ActTaken f text old from new to (StopsIdle k n) false
+  stop_amiss n idle emptied = λ s ts next.
+      leads_fails (begins f text old from (StopsIdle k n) within s ts next)
+      (subst (λ (u : Stand). Fails f text u from to.lines) (sym (stop_same s n ts (idle s next.stands))) (emptied s (Writes (Record.Said 0 (Said.Stopped k)) ∷ []) ts next.stands))
+
+  pub idle_stopped : (n : ℕ) (end : Cursor) → ((s : Stand) → Stands f old s from → nat_le (s.idle_since k + n) s.epoch ≡ true) → LogEmptied f text old from new to k [] true
+      → (is : Bool) → ((s : Stand) (more : List Due) → s.due ≡ Writes (Record.Said 0 (Said.Stopped k)) ∷ more → IsLed f text s to (with_due s more) end is)
+      → ActTaken f text old from new end (StopsIdle k n) is
+  idle_stopped n end idle emptied true led = λ s ts next.
+      let e = emptied s (Writes (Record.Said 0 (Said.Stopped k)) ∷ []) ts next.stands in
+      let first = leads_on (begins f text old from (StopsIdle k n) within s ts next)
+      (subst (λ (u : Stand). Leads f text u from e.0 to) (sym (stop_same s n ts (idle s next.stands))) e.1) in
+      let last = led e.0 [] e.3 in
+      let count : to.lines ≤ end.lines = (let c = last.count in omega (arith, c)) in
+      (with_due e.0 [], leads_on first last, with_other_due [] (later end count e.2), refl, e.4)
+  idle_stopped n end idle emptied false led = λ s ts next.
+      let e = emptied s (Writes (Record.Said 0 (Said.Stopped k)) ∷ []) ts next.stands in
+      let first = leads_on (begins f text old from (StopsIdle k n) within s ts next)
+      (subst (λ (u : Stand). Leads f text u from e.0 to) (sym (stop_same s n ts (idle s next.stands))) e.1) in
+      leads_fails first (led e.0 [] e.3)
+
+-- ---- an act that begins nothing
+-- the same tables stand for another list of what is due and left
+other_plan : {f : Profile} {j : Judge} {s : Stand} {at : Cursor} (due : List Due) (left : List Task) → Stands f j s at → Stands f j (record s { due = due; left = left }) at
+other_plan {f} {j} {s} {at} due left stands = record {
+  profile = stands.profile;
+  events = stands.events;
+  names = stands.names;
+  logs = stands.logs;
+  awake = stands.awake;
+  epoch = stands.epoch;
+  small = stands.small;
+  kept = kept_same (record s { due = due; left = left }) s at at refl refl (omega arith) stands.kept;
+}
+
+module _ (f : Profile) (text : List ℕ) (old : Judge) (from : Cursor) (act : Act) (within : IsWithin text from) where
+  pub nothing_begun : ((s : Stand) → Stands f old s from → begun_act f s act ≡ s) → ActTaken f text old from old from act true
+  nothing_begun nothing = act_of_none f text old from act within old
+      (λ s ts next.
+      let same = nothing s next.stands in (
+        ap (λ (u : Stand). u.due) same ∙ next.due,
+        subst (λ (u : Stand). Stands f old (record u { left = ts }) from) (sym same) (other_plan s.due ts next.stands),
+      ))
+
+-- a thread that isn't idle for so long
+pub not_idle : (f : Profile) (text : List ℕ) (old : Judge) (from : Cursor) (k n : ℕ) → IsWithin text from
+    → ((s : Stand) → Stands f old s from → nat_le (s.idle_since k + n) s.epoch ≡ false) → ActTaken f text old from old from (StopsIdle k n) true
+not_idle f text old from k n within busy = nothing_begun f text old from (StopsIdle k n) within (λ s stands. ap (λ (x : Bool). stopping x s k) (busy s stands))
+
+-- whether it is
+pub idle_long : (f : Profile) (j : Judge) (s : Stand) (at : Cursor) (k n since : ℕ) → Stands f j s at → k < length j.awake.items
+    → since ≡ get_or j.awake.items k 0 → since + n ≤ j.epoch → nat_le (s.idle_since k + n) s.epoch ≡ true
+idle_long f j s at k n since stands held is long =
+    let same = stands.awake k held in
+    let now = stands.epoch in
+    le-leb (s.idle_since k + n) s.epoch (omega (arith, same, now, is, long))
+
+pub idle_short : (f : Profile) (j : Judge) (s : Stand) (at : Cursor) (k n since : ℕ) → Stands f j s at → k < length j.awake.items
+    → since ≡ get_or j.awake.items k 0 → j.epoch < since + n → nat_le (s.idle_since k + n) s.epoch ≡ false
+idle_short f j s at k n since stands held is short =
+    let same = stands.awake k held in
+    let now = stands.epoch in
+    let low : s.epoch < s.idle_since k + n = omega (arith, same, now, is, short) in
+    lt-leb (s.idle_since k + n) s.epoch low
+
+-- ---- a pass
+module _ (f : Profile) (text : List ℕ) (old : Judge) (from : Cursor) (within : IsWithin text from) where
+  abbrev pub LedToOutcomes : Cursor → Bool → Type 0
+  LedToOutcomes to is = (s : Stand) (more : List Due) → s.due ≡ Writes (Record.Said 0 (Said.Pass old.epoch)) ∷ more → IsLed f text s from (with_due s more) to is
+
+  pass_due : (s : Stand) (ts : List Task) → IsNext f old s from MakesPass ts
+      → (after_task f s (Does MakesPass) ts).due ≡ Writes (Record.Said 0 (Said.Pass old.epoch)) ∷ Examines 0 ∷ []
+  pass_due s ts next = ap (λ n. Writes (Record.Said 0 (Said.Pass n)) ∷ Examines 0 ∷ []) next.stands.epoch
+
+  pub pass_amiss : (new : Judge) (to : Cursor) → LedToOutcomes to false → PassTaken f text old from new to false
+  pass_amiss new to led = λ s ts next followed.
+      leads_fails (begins f text old from MakesPass within s ts next) (led (after_task f s (Does MakesPass) ts) (Examines 0 ∷ []) (pass_due s ts next))
+
+  pub passed : (machine : Machine) (mid to : Cursor) → LedToOutcomes mid true → profile_of machine ≡ profile_of old.machine
+      → OutcomesTaken old.machine machine text mid to old.epoch → PassTaken f text old from (record old { machine = machine }) to true
+  passed machine mid to led profile outcomes = λ s ts next followed.
+      let stands = next.stands in
+      let b : Stand = after_task f s (Does MakesPass) ts in
+      let u : Stand = with_due b (Examines 0 ∷ []) in
+      let first = led b (Examines 0 ∷ []) (pass_due s ts next) in
+      let count : from.lines ≤ mid.lines = (let c = first.count in omega (arith, c)) in
+      let follows : IsFollowed f u = record { fits = followed.fits; no_pass = followed.no_pass; events = followed.events; epoch = followed.epoch } in
+      let there : IsExamining old.machine u mid 0 old.epoch = record {
+        stands = stands.events;
+        kept = kept_same u s from mid refl refl count stands.kept;
+        epoch = stands.epoch;
+        small = stands.small;
+        due = refl;
+        followed = subst (λ g. IsFollowed g u) (sym stands.profile) follows;
+      } in
+      let end = outcomes u there in
+      let t = end.0 in
+      let is : t ≡ record u { events = t.events; due = [] } = end.2 in (
+        t,
+        leads_on (begins f text old from MakesPass within s ts next) (leads_on first (subst (λ g. Leads g text u mid t to) stands.profile end.1)),
+        record {
+          profile = profile ∙ stands.profile;
+          events = end.3;
+          names = λ n. ap (λ (v : Stand). standing_for v.names n) is ∙ stands.names n;
+          logs = λ j has. ap (λ (v : Stand). v.logs j) is ∙ stands.logs j has;
+          awake = λ j has. ap (λ (v : Stand). v.idle_since j) is ∙ stands.awake j has;
+          epoch = ap (λ (v : Stand). v.epoch) is ∙ stands.epoch;
+          small = stands.small;
+          kept = end.4;
+        },
+        ap (λ (v : Stand). v.due) is,
+        ap (λ (v : Stand). v.left) is,
+      )
+
+-- ---- a request
+module _ (f : Profile) (text : List ℕ) (old : Judge) (from to : Cursor) (k : ℕ) (w : Wanted) (within : IsWithin text from) (few : k < 2 ^ 8)
+    (low : w.name < 2 ^ 32) (room : w.room < 2 ^ 32) (heap : w.directory.heap < 2 ^ 8)
+    (kind : IsKind w.directory.kind) (act : Act) (r : Request) (asks : Asks f act k r) (wants : IsWanted f r w) where
+  abbrev asking : Stand → List Task → Stand
+  asking s ts = record s { due = Serves k r ∷ []; left = ts }
+
+  asking_is : (s : Stand) (ts : List Task) → after_task f s (Does act) ts ≡ asking s ts
+  asking_is s ts = ap (λ (u : Stand). record u { left = ts }) (asks s)
+
+  request_fits : FitsRequest f k r
+  request_fits = record {
+    actor = few;
+    name = (let e = wants.name in omega (arith, e, low));
+    heap = (let e : r.heap ≡ w.directory.heap = ap (λ (d : Directory). d.heap) wants.directory in omega (arith, e, heap));
+    kind = subst (λ (d : Directory). IsKind d.kind) (sym wants.directory) kind;
+    room = (let e = wants.room in omega (arith, e, room));
+  }
+
+  asked_there : (s : Stand) (ts : List Task) → Stands f old s from → IsAsked old.machine (asking s ts) from k w r []
+  asked_there s ts stands = record {
+    wants = subst (λ g. IsWanted g r w) (sym stands.profile) wants;
+    stands = stands.events;
+    kept = kept_same (asking s ts) s from from refl refl (omega arith) stands.kept;
+    fits = subst (λ g. FitsRequest g k r) (sym stands.profile) request_fits;
+    epoch = (let e = stands.epoch in let less = stands.small in omega (arith, e, less));
+    due = refl;
+  }
+
+  pub request_amiss : (machine : Machine) (new : Judge) → RequestTaken old.machine machine text from to k w None → ActTaken f text old from new to act false
+  request_amiss machine new taken = λ s ts next.
+      leads_fails (begins f text old from act within s ts next) (subst (λ (u : Stand). Fails f text u from to.lines) (sym (asking_is s ts))
+      (subst (λ g. Fails g text (asking s ts) from to.lines) next.stands.profile (taken (asking s ts) r [] (asked_there s ts next.stands))))
+
+  pub requested : (machine : Machine) (names : Names) (block : Option Name) → profile_of machine ≡ profile_of old.machine
+      → ((n : ℕ) → meant names n ≡ (if w.name == n then Some block else meant old.names n))
+      → RequestTaken old.machine machine text from to k w (Some block) → ActTaken f text old from (record old { machine = machine; names = names }) to act true
+  requested machine names block profile sets taken = λ s ts next.
+      let stands = next.stands in
+      let end = taken (asking s ts) r [] (asked_there s ts stands) in
+      let t = end.0 in
+      let is : t ≡ with_due (with_name (record (asking s ts) { events = t.events }) r.name block) [] = end.2 in (
+        t,
+        leads_on (begins f text old from act within s ts next)
+            (subst (λ (u : Stand). Leads f text u from t to) (sym (asking_is s ts)) (subst (λ g. Leads g text (asking s ts) from t to) stands.profile end.1)),
+        record {
+          profile = profile ∙ stands.profile;
+          events = end.3;
+          names = λ n. ap (λ (v : Stand). standing_for v.names n) is ∙ (λ i. if wants.name i == n then Some block else stands.names n i) ∙ sym (sets n);
+          logs = λ j has. ap (λ (v : Stand). v.logs j) is ∙ stands.logs j has;
+          awake = λ j has. ap (λ (v : Stand). v.idle_since j) is ∙ stands.awake j has;
+          epoch = ap (λ (v : Stand). v.epoch) is ∙ stands.epoch;
+          small = stands.small;
+          kept = end.4;
+        },
+        ap (λ (v : Stand). v.due) is,
+        ap (λ (v : Stand). v.left) is,
+      )
+
+-- ---- a free
+pub is_outside : (f g : Profile) (page : ℕ) → g ≡ f → (IsPage g page → ⊥) → is_page f page ≡ false
+is_outside f g page same none = false_from_ne_true (is_page f page)
+    (λ is.
+    let both = and_parts (nat_le 1 page) (nat_le page f.pages) is in
+    none (subst (λ h. IsPage h page) (sym same) (leb-true 1 page both.0, leb-true page f.pages both.1)))
+
+pub is_inside : (f g : Profile) (page : ℕ) → g ≡ f → IsPage g page → is_page f page ≡ true
+is_inside f g page same is =
+    let here = subst (λ h. IsPage h page) same is in
+    and_from (nat_le 1 page) (nat_le page f.pages) (le-leb 1 page here.0) (le-leb page f.pages here.1)
+
+module _ (f : Profile) (text : List ℕ) (old : Judge) (from : Cursor) (k : ℕ) (within : IsWithin text from) (act : Act) where
+  -- it is said, and not logged
+  spoken : (said : Said) → ((s : Stand) → Stands f old s from → begun_act f s act ≡ tells s k said) → (to : Cursor) (is : Bool)
+      → ((s : Stand) (more : List Due) → s.due ≡ Writes (Record.Said k said) ∷ more → IsLed f text s from (with_due s more) to is) → ActTaken f text old from old to act is
+  spoken said tells_it to is led = act_of_line f text old from act within old to (Record.Said k said)
+      (λ s ts next.
+      let same = tells_it s next.stands in (
+        ap (λ (u : Stand). u.due) same,
+        subst (λ (u : Stand). Stands f old (with_due (record u { left = ts }) []) from) (sym same) (other_plan [] ts next.stands),
+      )) is led
+
+module _ (f : Profile) (text : List ℕ) (old : Judge) (from : Cursor) (k : ℕ) (block : Name) (within : IsWithin text from) (act : Act)
+    (frees : FreesBlock f old from act k block) where
+  pub freed_outside : (IsPage (profile_of old.machine) (address_of block / 4096) → ⊥) → (to : Cursor) (is : Bool)
+      → ((s : Stand) (more : List Due) → s.due ≡ Writes (Record.Said k (Said.Outside block)) ∷ more → IsLed f text s from (with_due s more) to is)
+      → ActTaken f text old from old to act is
+  freed_outside none to is led =
+      spoken f text old from k within act (Said.Outside block)
+      (λ s stands. frees s stands ∙ ap (λ (x : Bool). freeing_at x (is_aligned block) s k block)
+      (is_outside f (profile_of old.machine) (address_of block / 4096) stands.profile none)) to is led
+
+  module _ (inside : IsPage (profile_of old.machine) (address_of block / 4096)) where
+    pub freed_unaligned : address_of block % 16 ≢ 0 → (to : Cursor) (is : Bool)
+        → ((s : Stand) (more : List Due) → s.due ≡ Writes (Record.Said k (Said.Unaligned block)) ∷ more → IsLed f text s from (with_due s more) to is)
+        → ActTaken f text old from old to act is
+    freed_unaligned odd to is led =
+        spoken f text old from k within act (Said.Unaligned block)
+        (λ s stands. frees s stands ∙ (λ i. freeing_at (is_inside f (profile_of old.machine) (address_of block / 4096) stands.profile inside i)
+        (ne_eqb (address_of block % 16) 0 odd i) s k block)) to is led
+
+    module _ (even : address_of block % 16 ≡ 0) (held : k < logs_held old.logs) where
+      logs_it : (full : Bool) → full ≡ nat_le 64 (length (logged old.logs k)) → (s : Stand) → Stands f old s from → begun_act f s act ≡ logging full s k block
+      logs_it full is s stands =
+          frees s stands ∙ (λ i. freeing_at (is_inside f (profile_of old.machine) (address_of block / 4096) stands.profile inside i)
+          (eq-eqb (address_of block % 16) 0 even i) s k block)
+          ∙ ap (λ (x : Bool). logging x s k block) (ap (λ (log : List Name). nat_le 64 (length log)) (stands.logs k held) ∙ sym is)
+
+      -- the log is full
+      pub freed_full : true ≡ nat_le 64 (length (logged old.logs k)) → (new : Judge) (to : Cursor) (is : Bool)
+          → LogEmptied f text old from new to k (block ∷ []) is → ActTaken f text old from new to act is
+      freed_full full new to is emptied = flushed f text old new from to k within act (block ∷ []) (logs_it true full) is emptied
+
+      -- it isn't
+      pub freed_logged : false ≡ nat_le 64 (length (logged old.logs k)) → (logs : Logs) → logged logs k ≡ logged old.logs k ++ block ∷ []
+          → ((j : ℕ) → j ≢ k → logged logs j ≡ logged old.logs j) → logs_held logs ≡ logs_held old.logs
+          → ActTaken f text old from (record old { logs = logs }) from act true
+      freed_logged room logs added others count = act_of_none f text old from act within (record old { logs = logs })
+          (λ s ts next.
+          let stands = next.stands in
+          let same = logs_it false room s stands in (
+            ap (λ (u : Stand). u.due) same ∙ next.due,
+            subst (λ (u : Stand). Stands f (record old { logs = logs }) (record u { left = ts }) from) (sym same) (record {
+              profile = stands.profile;
+              events = stands.events;
+              names = stands.names;
+              logs = λ j has. log_at s stands j (subst (λ m. j < m) count has);
+              awake = stands.awake;
+              epoch = stands.epoch;
+              small = stands.small;
+              kept = kept_same (record s { logs = with_at s.logs k (s.logs k ++ block ∷ []); left = ts }) s from from refl refl (omega arith) stands.kept;
+            }),
+          ))
+        where
+          log_at : (s : Stand) → Stands f old s from → (j : ℕ) → j < logs_held old.logs → with_at s.logs k (s.logs k ++ block ∷ []) j ≡ logged logs j
+          log_at s stands j has = elim (cases_eq j k) [
+            | inl is ↦
+                let t : (j == k) ≡ true = eq-eqb j k is in
+                ap (λ (x : Bool). if x then s.logs k ++ block ∷ [] else s.logs j) t ∙ ap (λ (log : List Name). log ++ block ∷ []) (stands.logs k held)
+                ∙ sym added ∙ ap (logged logs) (sym is)
+            | inr other ↦
+                let t : (j == k) ≡ false = ne_eqb j k other in
+                ap (λ (x : Bool). if x then s.logs k ++ block ∷ [] else s.logs j) t ∙ stands.logs j has ∙ sym (others j other)
+          ]
+
+-- ---- a free of what a name stands for
+module _ (f : Profile) (text : List ℕ) (old : Judge) (from : Cursor) (k name : ℕ) (within : IsWithin text from) (act : Act) (frees : FreesNamed f act k name) where
+  named_as : (block : Option (Option Name)) → block ≡ meant old.names name → (s : Stand) → Stands f old s from → begun_act f s act ≡ freeing_named f s k name block
+  named_as block is s stands = frees s ∙ ap (freeing_named f s k name) (stands.names name ∙ sym is)
+
+  pub unasked_freed : None ≡ meant old.names name → ActTaken f text old from old from act true
+  unasked_freed is = nothing_begun f text old from act within (named_as None is)
+
+  pub refused_freed : Some None ≡ meant old.names name → (to : Cursor) (is : Bool)
+      → ((s : Stand) (more : List Due) → s.due ≡ Writes (Record.Said k (Said.Skipped name)) ∷ more → IsLed f text s from (with_due s more) to is)
+      → ActTaken f text old from old to act is
+  refused_freed is to taken led = spoken f text old from k within act (Said.Skipped name) (named_as (Some None) is) to taken led
+
+  pub given_freed : (block : Name) → Some (Some block) ≡ meant old.names name → FreesBlock f old from act k block
+  given_freed block is = named_as (Some (Some block)) is
+
+-- ---- an operation
+-- what holds of the judge's own profile holds of each that it stands in
+pub of_profile : (f : Profile) (text : List ℕ) (old new : Judge) (from to : Cursor) (act : Act) (taken : Bool)
+    → (profile_of old.machine ≡ f → ActTaken f text old from new to act taken) → ActTaken f text old from new to act taken
+of_profile f text old new from to act true done = λ s ts next. done next.stands.profile s ts next
+of_profile f text old new from to act false done = λ s ts next. done next.stands.profile s ts next

@@ -1,0 +1,98 @@
+-- A task is begun without a line: what may come then is what might before.
+use Rattle.std.proofs.Common.{◌≡◌, ℕ, ◌+◌, ◌/◌, nat_le, Bool, true, false, List, [], ◌∷◌, ◌++◌, length, Option, None, Some, inl, inr, refl, ap, sym, subst, ◌∙◌}
+use Rattle.pas_profile.specs.Blocks.{address_of}
+use Rattle.pas_profile.specs.declared.name.Name.{Name}
+use Rattle.pas_profile.specs.declared.profile.Profile.{Profile}
+use Rattle.pas_trace.specs.Acts.{Operates, Settles, ReadsEpoch, StopsIdle, Wakes, Ends}
+use Rattle.pas_trace.specs.Named.{standing_for}
+use Rattle.pas_trace.specs.declared.plan.What.{What}
+use Rattle.pas_trace.specs.declared.plan.What.TheVariants.{Alloc, Free, Raw, Flush, Stop, Tick, Pass, Idle}
+use Rattle.pas_check.specs.Begins.{after_task, begun, begun_from, begun_what, entries_due, freeing, freeing_at, freeing_named, is_aligned, is_page, logging, past_outcomes, ready, ready_with, settled_with, stopping}
+use Rattle.pas_check.specs.Going.{AreAlike}
+use Rattle.pas_check.specs.States.{Due, Task, Does, Stand, with_due}
+use Rattle.pas_check.specs.Takes.{Takes, TakesDue, TakesFirst}
+use Rattle.pas_check.proofs.Leads.{first_none}
+
+-- no outcome of a pass is due first
+abbrev pub BeginsNoPass : List Due → Type 0
+BeginsNoPass due = past_outcomes due ≡ due
+
+entries_no_pass : (k : ℕ) (log : List Name) (more : List Due) → BeginsNoPass more → BeginsNoPass (entries_due k log ++ more)
+entries_no_pass k [] more no_pass = no_pass
+entries_no_pass k (name ∷ log) more no_pass = refl
+
+logging_no_pass : (full : Bool) (s : Stand) (k : ℕ) (name : Name) → BeginsNoPass s.due → BeginsNoPass (logging full s k name).due
+logging_no_pass true s k name no_pass = entries_no_pass k (s.logs k) [] refl
+logging_no_pass false s k name no_pass = no_pass
+
+freeing_at_no_pass : (inside aligned : Bool) (s : Stand) (k : ℕ) (name : Name) → BeginsNoPass s.due → BeginsNoPass (freeing_at inside aligned s k name).due
+freeing_at_no_pass false aligned s k name no_pass = refl
+freeing_at_no_pass true false s k name no_pass = refl
+freeing_at_no_pass true true s k name no_pass = logging_no_pass (nat_le 64 (length (s.logs k))) s k name no_pass
+
+freeing_no_pass : (f : Profile) (s : Stand) (k : ℕ) (name : Name) → BeginsNoPass s.due → BeginsNoPass (freeing f s k name).due
+freeing_no_pass f s k name no_pass = freeing_at_no_pass (is_page f (address_of name / 4096)) (is_aligned name) s k name no_pass
+
+named_no_pass : (f : Profile) (s : Stand) (k name : ℕ) (block : Option (Option Name)) → BeginsNoPass s.due → BeginsNoPass (freeing_named f s k name block).due
+named_no_pass f s k name None no_pass = no_pass
+named_no_pass f s k name (Some None) no_pass = refl
+named_no_pass f s k name (Some (Some block)) no_pass = freeing_no_pass f s k block no_pass
+
+what_no_pass : (f : Profile) (s : Stand) (k : ℕ) (what : What) → BeginsNoPass s.due → BeginsNoPass (begun_what f s k what).due
+what_no_pass f s k (Alloc name heap size align) no_pass = refl
+what_no_pass f s k (Free name) no_pass = named_no_pass f s k name (standing_for s.names name) no_pass
+what_no_pass f s k (Raw block) no_pass = freeing_no_pass f s k block no_pass
+what_no_pass f s k Flush no_pass = entries_no_pass k (s.logs k) [] refl
+what_no_pass f s k Stop no_pass = entries_no_pass k (s.logs k) [] refl
+what_no_pass f s k (Tick e) no_pass = no_pass
+what_no_pass f s k Pass no_pass = no_pass
+what_no_pass f s k (Idle n) no_pass = no_pass
+
+stopping_no_pass : (idle : Bool) (s : Stand) (k : ℕ) → BeginsNoPass s.due → BeginsNoPass (stopping idle s k).due
+stopping_no_pass true s k no_pass = entries_no_pass k (s.logs k) _ refl
+stopping_no_pass false s k no_pass = no_pass
+
+pub begins_no_pass : (f : Profile) (s : Stand) (t : Task) → BeginsNoPass s.due → BeginsNoPass (begun f s t).due
+begins_no_pass f s (Does (Operates op)) no_pass = what_no_pass f s op.actor op.what no_pass
+begins_no_pass f s (Does (StopsIdle k n)) no_pass = stopping_no_pass (nat_le (s.idle_since k + n) s.epoch) s k no_pass
+begins_no_pass f s (Does (Ends k)) no_pass = entries_no_pass k (s.logs k) [] refl
+begins_no_pass f s (Does (Settles k)) no_pass = no_pass
+begins_no_pass f s (Does (Wakes k)) no_pass = no_pass
+begins_no_pass f s (Does ReadsEpoch) no_pass = no_pass
+begins_no_pass f s t no_pass = refl
+
+-- ---- what is due then
+settles : (f : Profile) (b : Stand) (due : List Due) → b.due ≡ due → BeginsNoPass due → settled_with due b (begun_from f b b.left) ≡ ready_with f b (past_outcomes due)
+settles f b [] is no_pass = ap (λ (u : Stand). begun_from f u b.left) (ap (with_due b) is)
+settles f b (d ∷ more) is no_pass = ap (with_due b) is ∙ sym (ap (ready_with f b) no_pass)
+
+no_first : (f : Profile) (s : Stand) (due : List Due) → BeginsNoPass due → (line : List ℕ) (next : Stand) → TakesFirst f s due line next → ⊥
+no_first f s [] no_pass line next takes = takes
+no_first f s (d ∷ more) no_pass line next takes = first_none f s d more no_pass line next takes
+
+module _ (f : Profile) (s : Stand) (t : Task) (ts : List Task) (due : s.due ≡ []) (left : s.left ≡ t ∷ ts) where
+  no_pass_before : BeginsNoPass s.due
+  no_pass_before = subst BeginsNoPass (sym due) refl
+
+  no_pass_then : BeginsNoPass (after_task f s t ts).due
+  no_pass_then = begins_no_pass f s t no_pass_before
+
+  same_ready : ready f s ≡ ready f (after_task f s t ts)
+  same_ready =
+      ap (λ ds. ready_with f s (past_outcomes ds)) due ∙ (λ i. begun_from f (with_due s (sym due i)) (left i))
+      ∙ settles f (after_task f s t ts) (after_task f s t ts).due refl no_pass_then
+
+  -- THE BEGINNING of a task
+  pub begun_alike : AreAlike f s (after_task f s t ts)
+  begun_alike = record {
+    takes = λ line next. (there line next, back line next);
+    done = (λ done. subst (λ (u : Stand). u.due ≡ []) same_ready done, λ done. subst (λ (u : Stand). u.due ≡ []) (sym same_ready) done);
+  }
+    where
+      there : (line : List ℕ) (next : Stand) → Takes f s line next → Takes f (after_task f s t ts) line next
+      there line next (inl x) = absurd (no_first f s s.due no_pass_before line next x)
+      there line next (inr y) = inr (subst (λ (u : Stand). TakesDue f u u.due line next) same_ready y)
+
+      back : (line : List ℕ) (next : Stand) → Takes f (after_task f s t ts) line next → Takes f s line next
+      back line next (inl x) = absurd (no_first f (after_task f s t ts) (after_task f s t ts).due no_pass_then line next x)
+      back line next (inr y) = inr (subst (λ (u : Stand). TakesDue f u u.due line next) (sym same_ready) y)

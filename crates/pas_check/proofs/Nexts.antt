@@ -1,0 +1,144 @@
+-- A line that may come next leads to one state: no outcome of a pass has the line of what follows the pass.
+use Rattle.std.proofs.Common.{◌≡◌, ◌≢◌, ℕ, suc, ◌^◌, ◌<◌, List, [], ◌∷◌, ◌++◌, length, codes, inl, inr, refl, ap, sym, subst, ◌∙◌, arith}
+use Rattle.std.specs.Fmt.{decimal}
+use Rattle.pas_profile.specs.declared.event.Event.{Event}
+use Rattle.pas_profile.specs.declared.event.Outcome.{Outcome}
+use Rattle.pas_profile.specs.declared.event.Outcome.TheVariants.{Unbacked, Bare, Young, InUse, NotOffered}
+use Rattle.pas_profile.specs.declared.name.Block.{Block}
+use Rattle.pas_profile.specs.declared.name.Name.{Name}
+use Rattle.pas_profile.specs.declared.profile.Profile.{Profile}
+use Rattle.pas_report.specs.Lines.{hex_digits, line_of}
+use Rattle.pas_report.specs.declared.record.Record.{Record}
+use Rattle.pas_report.specs.declared.record.Said.{Said}
+use Rattle.pas_trace.specs.declared.item.Request.{Request}
+use Rattle.pas_check.specs.Begins.{past_outcomes, ready}
+use Rattle.pas_check.specs.Bounds.{FitsFirst, FitsNext, IsSmall}
+use Rattle.pas_check.specs.Ranges.{Fits, FitsEvent, FitsName}
+use Rattle.pas_check.specs.Readings.{byte_at, past_digits}
+use Rattle.pas_check.specs.States.{Due, Writes, Frees, Serves, Examines, Heads, Shows, Totals, Stand}
+use Rattle.pas_check.specs.Takes.{IsEventOf, IsOutcome, IsPreparing, IsRefusal, Takes, TakesDue, TakesFirst, TakesOutcome, directory_of, record_of}
+use Rattle.pas_check.proofs.Digits.{past_number}
+use Rattle.pas_check.proofs.OneNext.{gives_fits, one_next, one_outcome, outcome_fits, prepares_fits, refusal_fits, same_record}
+use Rattle.pas_check.proofs.Takings.{plain_fits}
+
+-- ---- the lines of outcomes begin with a number
+behind_actor : (epoch page : ℕ) (o : Outcome) → byte_at 0 (past_digits (line_of (record_of epoch page o))) ≡ 32
+behind_actor epoch page Unbacked = ap (byte_at 0)
+    (past_number 0 32 (codes "unback page " ++ (decimal page ++ (codes " epoch " ++ (decimal epoch ++ codes "\n")))) (omega arith) refl)
+behind_actor epoch page Bare = ap (byte_at 0) (past_number 0 32 (codes "bare page " ++ (decimal page ++ codes "\n")) (omega arith) refl)
+behind_actor epoch page (Young stamp) = ap (byte_at 0)
+    (past_number 0 32 (codes "young page " ++ (decimal page ++ (codes " stamp " ++ (decimal stamp ++ codes "\n")))) (omega arith) refl)
+behind_actor epoch page (InUse word value) =
+    ap (byte_at 0) (past_number 0 32 (codes "in-use page " ++ (decimal page ++ (codes " word "
+    ++ (decimal word ++ (codes " value 0x" ++ (hex_digits 16 value ++ codes "\n")))))) (omega arith) refl)
+behind_actor epoch page NotOffered = ap (byte_at 0) (past_number 0 32 (codes "not-offered page " ++ (decimal page ++ codes "\n")) (omega arith) refl)
+
+-- ---- what is no record of an outcome
+event_of_outcome : (e : Event) (epoch page : ℕ) (o : Outcome) → Record.Event e ≡ record_of epoch page o → e ≡ Event.Unback 0 page epoch
+event_of_outcome e epoch page Unbacked same = cc
+event_of_outcome e epoch page Bare same = absurd (cc)
+event_of_outcome e epoch page (Young stamp) same = absurd (cc)
+event_of_outcome e epoch page (InUse word value) same = absurd (cc)
+event_of_outcome e epoch page NotOffered same = absurd (cc)
+
+no_entry : (s : Stand) (k : ℕ) (name : Name) (e : Event) → IsEventOf s k name e → IsOutcome (Record.Event e) → ⊥
+no_entry s k name e (inl is) out = let same = event_of_outcome e out.0 out.1 out.2 out.3 in let here = is.3 in absurd (cc (same, here))
+no_entry s k name e (inr is) out = let same = event_of_outcome e out.0 out.1 out.2 out.3 in let here = is.1 in absurd (cc (same, here))
+
+no_give : (k : ℕ) (e : Event) → (block : Block) → e ≡ Event.Give k block → IsOutcome (Record.Event e) → ⊥
+no_give k e block is out = let same = event_of_outcome e out.0 out.1 out.2 out.3 in absurd (cc (same, is))
+
+module _ (f : Profile) (s : Stand) (k : ℕ) where
+  no_preparing : (r : Request) (e : Event) → IsPreparing k (directory_of f r) e → IsOutcome (Record.Event e) → ⊥
+  no_preparing r e (inl is) out = let same = event_of_outcome e out.0 out.1 out.2 out.3 in let here = is.1 in absurd (cc (same, here))
+  no_preparing r e (inr is) out = let same = event_of_outcome e out.0 out.1 out.2 out.3 in let here = is.1 in absurd (cc (same, here))
+
+  no_space : (name epoch page : ℕ) (o : Outcome) → Record.Said k (Said.NoSpace name) ≡ record_of epoch page o → ⊥
+  no_space name epoch page Unbacked same = absurd (cc)
+  no_space name epoch page Bare same = absurd (cc)
+  no_space name epoch page (Young stamp) same = absurd (cc)
+  no_space name epoch page (InUse word value) same = absurd (cc)
+  no_space name epoch page NotOffered same = absurd (cc)
+
+  no_held : (held name epoch page : ℕ) (o : Outcome) → Record.Said k (Said.Held held name) ≡ record_of epoch page o → ⊥
+  no_held held name epoch page Unbacked same = absurd (cc)
+  no_held held name epoch page Bare same = absurd (cc)
+  no_held held name epoch page (Young stamp) same = absurd (cc)
+  no_held held name epoch page (InUse word value) same = absurd (cc)
+  no_held held name epoch page NotOffered same = absurd (cc)
+
+  no_refusal : (r : Request) (said : Said) → IsRefusal f s r said → IsOutcome (Record.Said k said) → ⊥
+  no_refusal r said (inl is) out = no_space r.name out.0 out.1 out.2 (ap (Record.Said k) (sym is) ∙ out.3)
+  no_refusal r said (inr is) out = no_held is.0 r.name out.0 out.1 out.2 (ap (Record.Said k) (sym is.2) ∙ out.3)
+
+entry_fits : (s : Stand) (k : ℕ) (name : Name) (e : Event) → k < 2 ^ 8 → FitsName name → s.epoch < 2 ^ 64 → IsEventOf s k name e → FitsEvent e
+entry_fits s k name e few fits small (inl is) = subst FitsEvent (sym is.3) (few, fits, plain_fits is.0 is.1)
+entry_fits s k name e few fits small (inr is) = subst FitsEvent (sym is.1) (few, fits, small)
+
+-- ---- the line of an outcome answers nothing else that is due
+module _ (f : Profile) (s : Stand) (small : IsSmall f s) (last : ℕ) (rest : List Due) (line : List ℕ) (a : Stand) (x : TakesOutcome f s last rest line a) where
+  no_record : (q : Record) → Fits q → (IsOutcome q → ⊥) → line ≡ line_of q → ⊥
+  no_record q fits none has = none (
+    s.epoch,
+    x.page,
+    x.outcome,
+    same_record line q (record_of s.epoch x.page x.outcome) fits (outcome_fits f s small x.page x.outcome x.of_region x.may) has x.line_is,
+  )
+
+  no_text : (text : List ℕ) → byte_at 0 (past_digits text) ≢ 32 → line ≡ text → ⊥
+  no_text text other has = other (ap (λ l. byte_at 0 (past_digits l)) (sym has ∙ x.line_is) ∙ behind_actor s.epoch x.page x.outcome)
+
+  pub outcome_apart : (t : Stand) → IsSmall f t → (due : List Due) → FitsNext f due → past_outcomes due ≡ due → (b : Stand) → TakesDue f t due line b → ⊥
+  outcome_apart t new [] fits no_pass b y = y
+  outcome_apart t new (Writes item ∷ more) fits no_pass b y = no_record item fits.0 fits.1 y.0
+  outcome_apart t new (Frees k name ∷ more) fits no_pass b y =
+      no_record (Record.Event y.event) (entry_fits t k name y.event fits.0 fits.1 new.epoch y.of_entry) (no_entry t k name y.event y.of_entry) y.line_is
+  outcome_apart t new (Serves k r ∷ more) fits no_pass b (inl y) =
+      no_record (Record.Event y.event) (prepares_fits f t new k r fits y.event y.prepares y.admitted) (no_preparing f t k r y.event y.prepares) y.line_is
+  outcome_apart t new (Serves k r ∷ more) fits no_pass b (inr (inl y)) =
+      no_record (Record.Event (Event.Give k y.block)) (gives_fits f t new k r fits y.block y.is_for y.admitted) (no_give k (Event.Give k y.block) y.block refl) y.line_is
+  outcome_apart t new (Serves k r ∷ more) fits no_pass b (inr (inr y)) =
+      no_record (Record.Said k y.said) (fits.actor, refusal_fits f t new k r fits y.said y.refuses) (no_refusal f t k r y.said y.refuses) y.line_is
+  outcome_apart t new (Examines page ∷ more) fits no_pass b y = let e : length more ≡ suc (length more) = ap length no_pass in absurd (omega (arith, e))
+  outcome_apart t new (Heads ∷ more) fits no_pass b y = no_text _ (λ e. omega (arith, e)) y.0
+  outcome_apart t new (Shows page d ∷ more) fits no_pass b y = no_text _ (λ e. omega (arith, e)) y.line_is
+  outcome_apart t new (Totals ∷ more) fits no_pass b y = no_text _ (λ e. omega (arith, e)) y.0
+
+-- ---- THE NEXT STATE is one
+fits_first : (f : Profile) (due : List Due) → FitsNext f due → FitsFirst f due
+fits_first f [] fits = fits
+fits_first f (Writes item ∷ more) fits = tt
+fits_first f (Frees k name ∷ more) fits = tt
+fits_first f (Serves k r ∷ more) fits = fits
+fits_first f (Examines page ∷ more) fits = fits
+fits_first f (Heads ∷ more) fits = fits
+fits_first f (Shows page d ∷ more) fits = fits
+fits_first f (Totals ∷ more) fits = fits
+
+module _ (f : Profile) (s : Stand) (small : IsSmall f s) where
+  one_first : (due : List Due) (line : List ℕ) (a b : Stand) → TakesFirst f s due line a → TakesFirst f s due line b → a ≡ b
+  one_first [] line a b x y = absurd x
+  one_first (Writes item ∷ more) line a b x y = absurd x
+  one_first (Frees k name ∷ more) line a b x y = absurd x
+  one_first (Serves k r ∷ more) line a b x y = absurd x
+  one_first (Examines page ∷ more) line a b x y = one_outcome f s small page more line a b x y
+  one_first (Heads ∷ more) line a b x y = absurd x
+  one_first (Shows page d ∷ more) line a b x y = absurd x
+  one_first (Totals ∷ more) line a b x y = absurd x
+
+  module _ (new : IsSmall f (ready f s)) (fits : FitsNext f (ready f s).due) (no_pass : past_outcomes (ready f s).due ≡ (ready f s).due) where
+    first_apart : (due : List Due) (line : List ℕ) (a b : Stand) → TakesFirst f s due line a → TakesDue f (ready f s) (ready f s).due line b → ⊥
+    first_apart [] line a b x y = x
+    first_apart (Writes item ∷ more) line a b x y = x
+    first_apart (Frees k name ∷ more) line a b x y = x
+    first_apart (Serves k r ∷ more) line a b x y = x
+    first_apart (Examines page ∷ more) line a b x y = outcome_apart f s small page more line a x (ready f s) new (ready f s).due fits no_pass b y
+    first_apart (Heads ∷ more) line a b x y = x
+    first_apart (Shows page d ∷ more) line a b x y = x
+    first_apart (Totals ∷ more) line a b x y = x
+
+    pub one_takes : (line : List ℕ) (a b : Stand) → Takes f s line a → Takes f s line b → a ≡ b
+    one_takes line a b (inl x) (inl y) = one_first s.due line a b x y
+    one_takes line a b (inl x) (inr y) = absurd (first_apart s.due line a b x y)
+    one_takes line a b (inr x) (inl y) = absurd (first_apart s.due line b a y x)
+    one_takes line a b (inr x) (inr y) = one_next f (ready f s) new (ready f s).due (fits_first f (ready f s).due fits) line a b x y

@@ -1,0 +1,53 @@
+use Rattle.std.proofs.Common.{◌≡◌, ◌⊎◌, ◌∙◌, ℕ, Bool, inl, inr, ap, subst}
+use Rattle.pas_profile.specs.declared.profile.Profile.{Profile}
+use Rattle.pas_trace.specs.Acts.{Act, Operates}
+use Rattle.pas_trace.specs.declared.item.Request.{Request}
+use Rattle.pas_trace.specs.declared.plan.What.{What}
+use Rattle.pas_trace.specs.declared.plan.What.TheVariants.{Tick, Pass, Idle}
+use Rattle.pas_check.specs.Begins.{begun_what}
+use Rattle.pas_check.specs.Calls.{IsWanted, asked_for}
+use Rattle.pas_check.specs.States.{Stand}
+use Rattle.pas_check.specs.Tasks.{ActTaken, Asks, FreesBlock, FreesNamed}
+use Rattle.pas_check.proofs.Actings.{nothing_begun, of_profile}
+use Rattle.pas_check.proofs.Takings.{if_ok}
+use Rattle.pas_check.proofs.acting.operate.Goals as goal
+
+-- an operation of the scavenger
+chore_begun : (f : Profile) (s : Stand) (k : ℕ) (what : What) → ((e : ℕ) × (what ≡ Tick e)) ⊎ ((what ≡ Pass) ⊎ ((n : ℕ) × (what ≡ Idle n))) → begun_what f s k what ≡ s
+chore_begun f s k what (inl is) = ap (λ (w : What). begun_what f s k w) is.1
+chore_begun f s k what (inr (inl is)) = ap (λ (w : What). begun_what f s k w) is
+chore_begun f s k what (inr (inr is)) = ap (λ (w : What). begun_what f s k w) is.1
+
+pub returns-in-Alloc-clause-taken : goal.returns-in-Alloc-clause-taken
+returns-in-Alloc-clause-taken c =
+    if_ok c.request.result
+    (λ (taken : Bool). (f : Profile) (act : Act) (r : Request) → Asks f act c.args.op.actor r → IsWanted f r c.wanted_for-wanted.result
+    → ActTaken f c.args.text.now c.args.judge.now c.args.cursor.now c.request.new.judge c.request.new.cursor act taken)
+    (λ (taken : Bool). (f : Profile) → ActTaken f c.args.text.now c.args.judge.now c.args.cursor.now c.request.new.judge c.request.new.cursor (Operates c.args.op) taken)
+    (λ taken asked f. of_profile f c.args.text.now c.args.judge.now c.request.new.judge c.args.cursor.now c.request.new.cursor (Operates c.args.op) taken
+    (λ same. asked f (Operates c.args.op) (asked_for c.in-Alloc.name c.in-Alloc.heap c.in-Alloc.size c.in-Alloc.align)
+    (λ s. ap (λ (w : What). begun_what f s c.args.op.actor w) c.in-Alloc.is)
+    (subst (λ g. IsWanted g (asked_for c.in-Alloc.name c.in-Alloc.heap c.in-Alloc.size c.in-Alloc.align) c.wanted_for-wanted.result)
+    (c.profile.ensures ∙ same) c.wanted_for-wanted.ensures.wanted)))
+    c.request.ensures.taken
+
+pub returns-in-Free-clause-taken : goal.returns-in-Free-clause-taken
+returns-in-Free-clause-taken c =
+    if_ok c.free_named.result
+    (λ (taken : Bool). (f : Profile) (act : Act) → FreesNamed f act c.args.op.actor c.in-Free.name
+    → ActTaken f c.args.text.now c.args.judge.now c.args.cursor.now c.free_named.new.judge c.free_named.new.cursor act taken)
+    (λ (taken : Bool). (f : Profile) → ActTaken f c.args.text.now c.args.judge.now c.args.cursor.now c.free_named.new.judge c.free_named.new.cursor (Operates c.args.op) taken)
+    (λ taken freed f. freed f (Operates c.args.op) (λ s. ap (λ (w : What). begun_what f s c.args.op.actor w) c.in-Free.is)) c.free_named.ensures.taken
+
+pub returns-in-Raw-clause-taken : goal.returns-in-Raw-clause-taken
+returns-in-Raw-clause-taken c =
+    if_ok c.free_block.result
+    (λ (taken : Bool). (f : Profile) (act : Act) → FreesBlock f c.args.judge.now c.args.cursor.now act c.args.op.actor c.in-Raw.block
+    → ActTaken f c.args.text.now c.args.judge.now c.args.cursor.now c.free_block.new.judge c.free_block.new.cursor act taken)
+    (λ (taken : Bool). (f : Profile) → ActTaken f c.args.text.now c.args.judge.now c.args.cursor.now c.free_block.new.judge c.free_block.new.cursor (Operates c.args.op) taken)
+    (λ taken freed f. freed f (Operates c.args.op) (λ s stands. ap (λ (w : What). begun_what f s c.args.op.actor w) c.in-Raw.is)) c.free_block.ensures.taken
+
+pub returns-in-Tick-clause-taken : goal.returns-in-Tick-clause-taken
+returns-in-Tick-clause-taken c = λ f.
+    nothing_begun f c.args.text.now c.args.judge.now c.args.cursor.now (Operates c.args.op) c.requires.within
+    (λ s stands. chore_begun f s c.args.op.actor c.args.op.what c.in-Tick.is)

@@ -1,0 +1,11 @@
+use Rattle.pas_check.proofs.Actings.{pass_amiss, passed}
+use Rattle.pas_check.proofs.acting.pass.Goals as goal
+
+pub returns-then-not-take_record-clause-taken : goal.returns-then-not-take_record-clause-taken
+returns-then-not-take_record-clause-taken c = λ f.
+    pass_amiss f c.args.text.now c.args.judge.now c.args.cursor.now c.requires.within c.args.judge.now c.take_record.new.cursor (c.if-not-take_record.ensures.led f)
+
+pub returns-in-Ok-clause-taken : goal.returns-in-Ok-clause-taken
+returns-in-Ok-clause-taken c = λ f.
+    passed f c.args.text.now c.args.judge.now c.args.cursor.now c.requires.within c.take_outcomes.new.machine c.take_record.new.cursor c.take_outcomes.new.cursor
+    (c.if-not-take_record.ensures.led f) c.in-Ok.ensures.profile c.in-Ok.ensures.taken

@@ -1,0 +1,15 @@
+use Rattle.std.proofs.Common.{◌≡◌, ◌-◌, length}
+use Rattle.pas_machine.specs.Machines.{profile_of}
+use Rattle.pas_check.specs.Calls.{OutcomesGo}
+use Rattle.pas_check.specs.Leading.{IsWithin}
+use Rattle.pas_check.proofs.examining.take_outcomes.Given as goal
+
+abbrev pub invariant-lines : goal.invariant-lines
+invariant-lines l = record {
+  profile : profile_of l.machine ≡ profile_of l.fn.machine;
+  within : IsWithin l.text l.cursor;
+  goes : OutcomesGo l.fn.machine l.machine l.text l.fn.cursor l.cursor l.last l.epoch;
+}
+
+abbrev pub decreases-lines : goal.decreases-lines
+decreases-lines l = length l.text - l.cursor.bytes

@@ -1,0 +1,327 @@
+//! The acts of a replay, each with the lines that answer it.
+ghost use Rattle.std.specs.Prelude.{ℕ, ◌≡◌, ◌≢◌, ◌%◌, ◌+◌, ◌<◌, ◌≤◌, true, List, [], ◌∷◌, length, slice_index, IfOk, MatchBool};
+ghost use Rattle.pas_profile.specs.Directories.{IsKind};
+ghost use Rattle.pas_profile.specs.Profiles.{IsValid};
+ghost use Rattle.pas_profile.specs.Blocks.{address_of};
+ghost use Rattle.pas_profile.specs.declared.profile.Profile.{Profile};
+ghost use Rattle.pas_machine.specs.Machines.{profile_of};
+ghost use Rattle.pas_trace.specs.Acts.{Act, MarksClose, MarksPhase, Operates, StopsIdle, Ticks, Wakes};
+ghost use Rattle.pas_trace.specs.EveryPlan.{IsBelow, IsSoundWhat};
+ghost use Rattle.pas_trace.specs.declared.item.Request.{Request};
+ghost use Rattle.pas_check.specs.Calls.{IsWanted};
+ghost use Rattle.pas_check.specs.Leading.{IsWithin, StaysWithin};
+ghost use Rattle.pas_check.specs.Tables.{logs_held, names_held};
+ghost use Rattle.pas_check.specs.Tasks.{ActTaken, Asks, Flushes, FreesBlock, FreesNamed, LogEmptied, PassTaken};
+ghost use Rattle.pas_check.specs.declared.cutting.Cursor.{Cursor as TheCursor};
+
+use crate::cutting::Cursor;
+use crate::emptying::take_entries;
+use crate::examining::take_outcomes;
+use crate::following::take_record;
+use crate::logging::Logs;
+use crate::naming::Names;
+use crate::requesting::take_request;
+use crate::serving::{Wanted, wanted_for};
+use pas_machine::Machine;
+use pas_profile::{Name, NoMemory};
+use pas_report::{Record, Said};
+use pas_trace::{Op, What};
+
+/// What a check knows of the lines before: the machine, what the names of the trace stand for, the log of each thread, the epoch that each thread read when it
+/// woke last, and the greatest tick. Threads stand at their numbers.
+#[derive(Drop)]
+pub(crate) struct Judge {
+    pub machine: Machine,
+    pub names: Names,
+    pub logs: Logs,
+    pub awake: Vec<u64>,
+    pub epoch: u64,
+}
+
+/// The thread wakes, and reads the epoch. It has no line.
+pub(crate) fn wake(judge: &mut Judge, k: u8)
+    requires { k < length judge.old.awake.items }
+    ensures { (f : Profile) (text : List ℕ) (at : TheCursor) → IsWithin text at → ActTaken f text judge.old at judge.new at (Wakes k) true }
+{
+    judge.awake[k as usize] = judge.epoch;
+}
+
+/// Takes the mark of a phase from the second on.
+pub(crate) fn mark_phase(judge: &Judge, text: &[u8], cursor: &mut Cursor, number: u32) -> bool
+    requires within { IsWithin text.now cursor.old }
+    requires short { length text.now ≤ 16777216 }
+    ensures taken { (f : Profile) → ActTaken f text.now judge.now cursor.old judge.now cursor.new (MarksPhase number) result }
+    ensures within { StaysWithin text.now cursor.new result }
+{
+    take_record(text, cursor, &Record::Phase(number))
+}
+
+/// Takes the mark of the close.
+pub(crate) fn mark_close(judge: &Judge, text: &[u8], cursor: &mut Cursor) -> bool
+    requires within { IsWithin text.now cursor.old }
+    requires short { length text.now ≤ 16777216 }
+    ensures taken { (f : Profile) → ActTaken f text.now judge.now cursor.old judge.now cursor.new MarksClose result }
+    ensures within { StaysWithin text.now cursor.new result }
+{
+    take_record(text, cursor, &Record::Close)
+}
+
+/// Takes the line of a tick, which tells the greater of the epoch and its argument.
+pub(crate) fn tick(judge: &mut Judge, text: &[u8], cursor: &mut Cursor, epoch: u64) -> bool
+    requires within { IsWithin text.now cursor.old }
+    requires short { length text.now ≤ 16777216 }
+    ensures taken { (f : Profile) → ActTaken f text.now judge.old cursor.old judge.new cursor.new (Ticks epoch) result }
+    ensures within { StaysWithin text.now cursor.new result }
+{
+    judge.epoch = judge.epoch.max(epoch);
+    take_record(text, cursor, &Record::Said(0, Said::Tick(judge.epoch)))
+}
+
+/// Takes the lines of the entries of the thread's log, which is empty from then on.
+fn empty_log(judge: &mut Judge, text: &[u8], cursor: &mut Cursor, k: u8) -> Result<bool, NoMemory>
+    requires within { IsWithin text.now cursor.old }
+    requires short { length text.now ≤ 16777216 }
+    requires held { k < logs_held judge.old.logs }
+    ensures taken { IfOk result (λ taken. (f : Profile) → LogEmptied f text.now judge.old cursor.old judge.new cursor.new k [] taken) }
+    ensures within { IfOk result (StaysWithin text.now cursor.new) }
+{
+    match take_entries(
+        &mut judge.machine,
+        text,
+        cursor,
+        k,
+        judge.logs.log(k),
+        judge.epoch,
+    ) {
+        Ok(true) => {
+            judge.logs.clear(k);
+            Ok(true)
+        }
+        Ok(false) => Ok(false),
+        Err(NoMemory) => Err(NoMemory),
+    }
+}
+
+/// Takes the lines of the entries of the thread's log, which has just this name from then on.
+fn refill_log(
+    judge: &mut Judge,
+    text: &[u8],
+    cursor: &mut Cursor,
+    k: u8,
+    block: Name,
+) -> Result<bool, NoMemory>
+    requires within { IsWithin text.now cursor.old }
+    requires short { length text.now ≤ 16777216 }
+    requires held { k < logs_held judge.old.logs }
+    ensures taken { IfOk result (λ taken. (f : Profile) → LogEmptied f text.now judge.old cursor.old judge.new cursor.new k (block ∷ []) taken) }
+    ensures within { IfOk result (StaysWithin text.now cursor.new) }
+{
+    match take_entries(
+        &mut judge.machine,
+        text,
+        cursor,
+        k,
+        judge.logs.log(k),
+        judge.epoch,
+    ) {
+        Ok(true) => {
+            judge.logs.clear(k);
+            judge.logs.add(k, block);
+            Ok(true)
+        }
+        Ok(false) => Ok(false),
+        Err(NoMemory) => Err(NoMemory),
+    }
+}
+
+/// Whether the name's address is that of a grain.
+fn is_at_grain(block: Name) -> bool
+    ensures { MatchBool result (address_of block % 16 ≡ 0) (address_of block % 16 ≢ 0) }
+{
+    block.address.0 % 16 == 0
+}
+
+/// Takes the lines of an act that frees the block: what is said of a name outside of the region or at no grain, or the lines of a full log that is emptied
+/// before the name is logged; otherwise there are none.
+pub(crate) fn free_block(
+    judge: &mut Judge,
+    text: &[u8],
+    cursor: &mut Cursor,
+    k: u8,
+    block: Name,
+) -> Result<bool, NoMemory>
+    requires within { IsWithin text.now cursor.old }
+    requires short { length text.now ≤ 16777216 }
+    requires held { k < logs_held judge.old.logs }
+    ensures taken { IfOk result (λ taken. (f : Profile) (act : Act) → FreesBlock f judge.old cursor.old act k block
+        → ActTaken f text.now judge.old cursor.old judge.new cursor.new act taken) }
+    ensures within { IfOk result (StaysWithin text.now cursor.new) }
+{
+    if !judge.machine.has_page(block.address.0 / 4096) {
+        let outside = take_record(text, cursor, &Record::Said(k, Said::Outside { block }));
+        return Ok(outside);
+    }
+    if !is_at_grain(block) {
+        let unaligned = take_record(text, cursor, &Record::Said(k, Said::Unaligned { block }));
+        return Ok(unaligned);
+    }
+    if judge.logs.is_full(k) {
+        return refill_log(judge, text, cursor, k, block);
+    }
+    judge.logs.add(k, block);
+    Ok(true)
+}
+
+/// Takes the lines of an act that frees what the name of the trace stands for: those of a free of its block, or what is said of a name whose request was
+/// refused. Where no request had the name there are none.
+pub(crate) fn free_named(
+    judge: &mut Judge,
+    text: &[u8],
+    cursor: &mut Cursor,
+    k: u8,
+    name: u32,
+) -> Result<bool, NoMemory>
+    requires within { IsWithin text.now cursor.old }
+    requires short { length text.now ≤ 16777216 }
+    requires held { k < logs_held judge.old.logs }
+    ensures taken { IfOk result (λ taken. (f : Profile) (act : Act) → FreesNamed f act k name → ActTaken f text.now judge.old cursor.old judge.new cursor.new act taken) }
+    ensures within { IfOk result (StaysWithin text.now cursor.new) }
+{
+    match judge.names.get(name) {
+        None => Ok(true),
+        Some(None) => {
+            let skipped = take_record(text, cursor, &Record::Said(k, Said::Skipped { name }));
+            Ok(skipped)
+        }
+        Some(Some(block)) => free_block(judge, text, cursor, k, block),
+    }
+}
+
+/// Takes the lines of an act that empties the thread's log: of a flush, of a stop, or of its end at the close.
+pub(crate) fn flush(
+    judge: &mut Judge,
+    text: &[u8],
+    cursor: &mut Cursor,
+    k: u8,
+) -> Result<bool, NoMemory>
+    requires within { IsWithin text.now cursor.old }
+    requires short { length text.now ≤ 16777216 }
+    requires held { k < logs_held judge.old.logs }
+    ensures taken { IfOk result (λ taken. (f : Profile) (act : Act) → Flushes f act k → ActTaken f text.now judge.old cursor.old judge.new cursor.new act taken) }
+    ensures within { IfOk result (StaysWithin text.now cursor.new) }
+{
+    empty_log(judge, text, cursor, k)
+}
+
+/// Whether the thread read the epoch last at least so many epochs ago.
+fn is_idle(judge: &Judge, k: u8, epochs: u64) -> bool
+    requires { k < length judge.now.awake.items }
+    ensures { MatchBool result (slice_index judge.now.awake.items k + epochs ≤ judge.now.epoch) (judge.now.epoch < slice_index judge.now.awake.items k + epochs) }
+{
+    let since = judge.awake[k as usize];
+    judge.epoch >= epochs && judge.epoch - epochs >= since
+}
+
+/// Takes the lines of the stop of a thread that is idle for so many epochs; where it isn't, there are none.
+pub(crate) fn stop_idle(
+    judge: &mut Judge,
+    text: &[u8],
+    cursor: &mut Cursor,
+    k: u8,
+    epochs: u64,
+) -> Result<bool, NoMemory>
+    requires within { IsWithin text.now cursor.old }
+    requires short { length text.now ≤ 16777216 }
+    requires held { k < logs_held judge.old.logs }
+    requires known { k < length judge.old.awake.items }
+    ensures taken { IfOk result (λ taken. (f : Profile) → ActTaken f text.now judge.old cursor.old judge.new cursor.new (StopsIdle k epochs) taken) }
+    ensures within { IfOk result (StaysWithin text.now cursor.new) }
+{
+    if !is_idle(judge, k, epochs) {
+        return Ok(true);
+    }
+    match empty_log(judge, text, cursor, k) {
+        Ok(true) => Ok(take_record(text, cursor, &Record::Said(0, Said::Stopped(k)))),
+        Ok(false) => Ok(false),
+        Err(NoMemory) => Err(NoMemory),
+    }
+}
+
+/// Takes the lines of a pass: its own, and those of its outcomes, as many as there are.
+pub(crate) fn pass(judge: &mut Judge, text: &[u8], cursor: &mut Cursor) -> Result<bool, NoMemory>
+    requires within { IsWithin text.now cursor.old }
+    requires short { length text.now ≤ 16777216 }
+    requires valid { IsValid (profile_of judge.old.machine) }
+    ensures taken { IfOk result (λ taken. (f : Profile) → PassTaken f text.now judge.old cursor.old judge.new cursor.new taken) }
+    ensures within { IfOk result (StaysWithin text.now cursor.new) }
+{
+    if !take_record(text, cursor, &Record::Said(0, Said::Pass(judge.epoch))) {
+        return Ok(false);
+    }
+    match take_outcomes(&mut judge.machine, text, cursor, judge.epoch) {
+        Ok(()) => Ok(true),
+        Err(NoMemory) => Err(NoMemory),
+    }
+}
+
+/// Takes the lines of an act that asks for what is wanted, after which its name stands for the block, or for nothing.
+pub(crate) fn request(
+    judge: &mut Judge,
+    text: &[u8],
+    cursor: &mut Cursor,
+    k: u8,
+    wanted: Wanted,
+) -> Result<bool, NoMemory>
+    requires within { IsWithin text.now cursor.old }
+    requires short { length text.now ≤ 16777216 }
+    requires valid { IsValid (profile_of judge.old.machine) }
+    requires kind { IsKind wanted.directory.kind }
+    requires align { 0 < wanted.align }
+    requires named { wanted.name < names_held judge.old.names }
+    ensures taken { IfOk result (λ taken. (f : Profile) (act : Act) (r : Request) → Asks f act k r → IsWanted f r wanted
+        → ActTaken f text.now judge.old cursor.old judge.new cursor.new act taken) }
+    ensures within { IfOk result (StaysWithin text.now cursor.new) }
+{
+    match take_request(&mut judge.machine, text, cursor, k, &wanted) {
+        Ok(Some(block)) => {
+            judge.names.set(wanted.name, block);
+            Ok(true)
+        }
+        Ok(None) => Ok(false),
+        Err(NoMemory) => Err(NoMemory),
+    }
+}
+
+/// Takes the lines of a thread's operation. Those of the scavenger are other acts, and begin nothing as operations of a thread.
+pub(crate) fn operate(
+    judge: &mut Judge,
+    text: &[u8],
+    cursor: &mut Cursor,
+    op: Op,
+) -> Result<bool, NoMemory>
+    requires within { IsWithin text.now cursor.old }
+    requires short { length text.now ≤ 16777216 }
+    requires held { op.actor < logs_held judge.old.logs }
+    requires valid { IsValid (profile_of judge.old.machine) }
+    requires sound { (asked : List ℕ) × IsSoundWhat (profile_of judge.old.machine) asked op.what }
+    requires named { IsBelow (names_held judge.old.names) op.what }
+    ensures taken { IfOk result (λ taken. (f : Profile) → ActTaken f text.now judge.old cursor.old judge.new cursor.new (Operates op) taken) }
+    ensures within { IfOk result (StaysWithin text.now cursor.new) }
+{
+    let k = op.actor;
+    match op.what {
+        What::Alloc {
+            name,
+            heap,
+            size,
+            align,
+        } => {
+            let wanted = wanted_for(&judge.machine.profile(), name, heap, size, align);
+            request(judge, text, cursor, k, wanted)
+        }
+        What::Free { name } => free_named(judge, text, cursor, k, name),
+        What::Raw { block } => free_block(judge, text, cursor, k, block),
+        What::Flush | What::Stop => flush(judge, text, cursor, k),
+        What::Tick(_) | What::Pass | What::Idle(_) => Ok(true),
+    }
+}

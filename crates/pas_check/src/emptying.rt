@@ -1,0 +1,39 @@
+//! The lines of a log that is emptied.
+ghost use Rattle.std.specs.Prelude.{◌≡◌, ◌≤◌, [], length, IfOk};
+ghost use Rattle.pas_machine.specs.Machines.{profile_of};
+ghost use Rattle.pas_check.specs.Calls.{EntriesTaken};
+ghost use Rattle.pas_check.specs.Leading.{IsWithin, StaysWithin};
+
+use crate::cutting::{Cursor, next_line};
+use crate::taking::take_entry;
+use pas_machine::Machine;
+use pas_profile::{Name, NoMemory};
+
+/// Takes the lines of the entries of the actor's log, one for each in order, and says whether all are there. After false the cursor has counted the line that
+/// isn't its entry's, or that is wanting.
+pub(crate) fn take_entries(
+    machine: &mut Machine,
+    text: &[u8],
+    cursor: &mut Cursor,
+    actor: u8,
+    log: &[Name],
+    epoch: u64,
+) -> Result<bool, NoMemory>
+    requires within { IsWithin text.now cursor.old }
+    requires short { length text.now ≤ 16777216 }
+    ensures profile { profile_of machine.new ≡ profile_of machine.old }
+    ensures taken { IfOk result (λ taken. EntriesTaken machine.old machine.new text.now cursor.old cursor.new actor log.now [] epoch taken) }
+    ensures within { IfOk result (StaysWithin text.now cursor.new) }
+{
+    for name in log {
+        let Some(line) = next_line(text, cursor) else {
+            return Ok(false);
+        };
+        match take_entry(machine, line, actor, *name, epoch) {
+            Ok(true) => {}
+            Ok(false) => return Ok(false),
+            Err(NoMemory) => return Err(NoMemory),
+        }
+    }
+    Ok(true)
+}

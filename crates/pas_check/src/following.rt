@@ -1,0 +1,46 @@
+//! Lines of which no word is open: what stands before fixes them.
+ghost use Rattle.std.specs.Prelude.{◌≡◌, ◌+◌, ◌≤◌, ◌∷◌, List, length};
+ghost use Rattle.pas_profile.specs.declared.profile.Profile.{Profile};
+ghost use Rattle.pas_report.specs.Lines.{CanShow, line_of};
+ghost use Rattle.pas_check.specs.Leading.{IsJustLine, IsLed, IsWithin, StaysWithin};
+ghost use Rattle.pas_check.specs.States.{Due, Heads, Stand, Writes, with_due};
+
+use crate::cutting::{Cursor, next_line, take_line};
+use crate::reading::is_line;
+use pas_report::Record;
+
+/// Reads the next line, and says whether it is the record's.
+fn is_next(text: &[u8], cursor: &mut Cursor, item: &Record) -> bool
+    requires within { IsWithin text.now cursor.old }
+    requires short { length text.now ≤ 16777216 }
+    requires shown { CanShow item.now }
+    ensures taken { IsJustLine text.now cursor.old cursor.new (line_of item.now) result }
+    ensures within { StaysWithin text.now cursor.new result }
+    ensures count { cursor.new.lines ≡ cursor.old.lines + 1 }
+{
+    match next_line(text, cursor) {
+        Some(line) => is_line(line, item),
+        None => false,
+    }
+}
+
+/// Takes the next line where it is just the record's, and says whether it is. After false the cursor has counted the line that isn't, or that is wanting.
+pub(crate) fn take_record(text: &[u8], cursor: &mut Cursor, item: &Record) -> bool
+    requires within { IsWithin text.now cursor.old }
+    requires short { length text.now ≤ 16777216 }
+    requires shown { CanShow item.now }
+    ensures led { (f : Profile) (s : Stand) (more : List Due) → s.due ≡ Writes item.now ∷ more → IsLed f text.now s cursor.old (with_due s more) cursor.new result }
+    ensures within { StaysWithin text.now cursor.new result }
+{
+    is_next(text, cursor, item)
+}
+
+/// Takes the head of the report, and says whether it is the next line.
+pub(crate) fn take_head(text: &[u8], cursor: &mut Cursor) -> bool
+    requires within { IsWithin text.now cursor.old }
+    requires short { length text.now ≤ 16777216 }
+    ensures led { (f : Profile) (s : Stand) (more : List Due) → s.due ≡ Heads ∷ more → IsLed f text.now s cursor.old (with_due s more) cursor.new result }
+    ensures within { StaysWithin text.now cursor.new result }
+{
+    take_line(text, cursor, b"report\n")
+}
