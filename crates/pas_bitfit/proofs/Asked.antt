@@ -1,7 +1,7 @@
 -- A block of the room and the alignment that were asked for.
 use Rattle.std.proofs.Common.{◌≡◌, ℕ, ◌%◌, ◌≤◌, Bool, List, Ok, Err, Result, ap, ◌∙◌, arith, MatchResult}
 use Rattle.pas_profile.specs.Classes.{IsAlignment}
-use Rattle.pas_profile.specs.Runs.{address_of}
+use Rattle.pas_profile.specs.Blocks.{address_of}
 use Rattle.pas_profile.specs.declared.directory.Directory.{Directory}
 use Rattle.pas_profile.specs.declared.event.NoRoom.{NoRoom}
 use Rattle.pas_profile.specs.declared.name.Block.{Block}

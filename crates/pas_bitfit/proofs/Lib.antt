@@ -1,4 +1,4 @@
 pub mod Aligned
-pub mod EndBits
-pub mod Lowest
-pub mod Asked
+mod EndBits
+mod Lowest
+mod Asked

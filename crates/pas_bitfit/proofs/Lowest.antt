@@ -1,8 +1,8 @@
 -- The lowest place of a mask as the lowest run that fits.
 use Rattle.std.proofs.Common.{◌≡◌, ℕ, arith, sym, ◌∙◌, true≢false}
 use Rattle.pas_lanes.specs.Rows.{IsEmpty}
-use Rattle.pas_profile.specs.Runs.{in_run}
-use Rattle.pas_profile.proofs.Runs.{run_of, first_of_run}
+use Rattle.pas_bits.specs.Runs.{in_run}
+use Rattle.pas_bits.proofs.Runs.{run_of, first_of_run}
 use Rattle.pas_bits.specs.declared.mask.Mask4.{Mask4}
 use Rattle.pas_bits.specs.Masks.{is_set, IsPlace, HasNoPlace, IsLowestPlace}
 use Rattle.pas_choice.specs.Choices.{IsUnfit, IsChosen}

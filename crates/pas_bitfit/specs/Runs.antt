@@ -1,6 +1,6 @@
 -- Runs of free grains of a page.
 use Rattle.std.specs.Prelude.{ℕ, ◌+◌, ◌%◌, ◌<◌, ◌≤◌, ◌≡◌, refl}
-use Rattle.pas_profile.specs.Runs.{in_run}
+use Rattle.pas_bits.specs.Runs.{in_run}
 use Rattle.pas_profile.specs.declared.directory.Kind.TheVariants as Kind
 use Rattle.pas_steps.specs.Evidence.{Readings, IsAntitone}
 use Rattle.pas_rights.specs.Looks.{AllFree}

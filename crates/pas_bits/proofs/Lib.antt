@@ -1,3 +1,5 @@
+pub mod Runs
+pub mod Counts
 pub mod Words
 mod Masks
 pub mod MovedMasks

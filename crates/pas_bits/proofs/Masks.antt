@@ -2,22 +2,21 @@
 use Rattle.std.proofs.Common.{◌≡◌, ◌≢◌, ℕ, ◌+◌, ◌-◌, ◌/◌, ◌%◌, ◌^◌, ◌<◌, ◌≤◌, ◌==◌, true, false, inl, inr, ap, sym, ◌∙◌, arith, ◌*◌, ◌⊎◌, ◌&&◌, ◌↔◌, IsTrue, not, min, Bool, length, slice_index, lit<, bit_and, subst, refl, Option, None, Some, MatchBool, MatchOption}
 use Rattle.std.specs.Int.{bit_at, w64, trailing_zeros}
 use Rattle.std.proofs.lemmas.Bool.{cases_lt, and_parts, not-false, not-true}
-use Rattle.std.proofs.lemmas.Nat.{shr-shr, shr_le, pow_pos, and_le_l, same_from_place, mod-mul-add}
+use Rattle.std.proofs.lemmas.Nat.{shr-shr, shr_le, pow_pos, and_le_l, same_from_place, mod-mul-add, div-add-mod'}
 use Rattle.std.proofs.lemmas.Nat.Bits.{bit_at-trailing_zeros, bit_at_above, bit_at_mask_inside, bit_at_mask_below, bit_at_mask_above, ones_shr}
-use Rattle.pas_profile.specs.Classes.{has_bit}
+use Rattle.pas_bits.specs.Bits.{has_bit, count_below}
 use Rattle.pas_bits.proofs.Words.{none_of_zero, is_one, bit_of_and, by_word, at_word, set_within, WordsFit}
 use Rattle.std.proofs.Math.Nat.{pow-le-pow_right}
 use Rattle.std.proofs.lemmas.Bool.Decides.{nat_tests}
-use Rattle.pas_profile.specs.Runs.{in_run, count_below}
-use Rattle.pas_profile.proofs.Runs.{run_of, to_run, run_below, run_above}
+use Rattle.pas_bits.specs.Runs.{in_run}
+use Rattle.pas_bits.proofs.Runs.{run_of, to_run, run_below, run_above}
 use Rattle.pas_bits.specs.declared.mask.Mask4.{Mask4}
 use Rattle.pas_bits.specs.Masks.{is_set, AreSet, AreApart, set_count, AllSetBelow, AreClear, IsLowestSet, IsLowestClear, IsEmpty, HasMember, IsRunEnd, IsPlace, HasNoPlace, IsLowestPlace}
 use Rattle.std.proofs.Math.Bool.{and-true}
 use Rattle.std.specs.Int.RustNames.{count_ones}
-use Rattle.pas_profile.proofs.Counts.{count_same, count_add, ones_counted}
+use Rattle.pas_bits.proofs.Counts.{count_same, count_add, ones_counted}
 use Rattle.std.specs.Option.{is_some}
 use Rattle.std.proofs.lemmas.Grind.{div_ceil_times}
-use Rattle.pas_profile.proofs.ClassFacts.{multiple}
 
 -- ==== The lowest set bit of a word from a place on.
 
@@ -217,6 +216,9 @@ lowest_clear mask others other (Some g) low = record {
 }
 
 -- ---- places
+multiple : (k g : ℕ) → g % k ≡ 0 → g ≡ g / k * k + 0
+multiple k g e = omega (arith, e, div-add-mod' g k)
+
 -- the next multiple is k away
 next_multiple : (k a b : ℕ) → a % k ≡ 0 → b % k ≡ 0 → a < b → a + k ≤ b
 next_multiple k a b ea eb lt = elim (cases_lt b (a + k)) [

@@ -6,7 +6,7 @@ use Rattle.std.proofs.lemmas.Bool.Decides.{nat_tests}
 use Rattle.std.proofs.lemmas.List.{get_or_past}
 use Rattle.std.proofs.lemmas.Nat.{div-add-mod', shr-shr, pow_pos}
 use Rattle.std.proofs.lemmas.Nat.Bits.{bit_at-zero, bit_at_above, bit_at_cat_low, bit_at_cat_high}
-use Rattle.pas_profile.specs.Classes.{has_bit}
+use Rattle.pas_bits.specs.Bits.{has_bit}
 use Rattle.pas_bits.specs.declared.mask.Mask4.{Mask4}
 use Rattle.pas_bits.specs.Masks.{is_set, AreSet, IsNear, bit_of_two}
 use Rattle.pas_bits.proofs.Words.{is_zero, none_of_zero, bit_of_or, at_word, none_past, four_words}

@@ -4,7 +4,7 @@ use Rattle.std.specs.Int.{bit_not, w64, trailing_zeros}
 use Rattle.std.proofs.lemmas.Nat.{pow_below}
 use Rattle.std.proofs.lemmas.Nat.Bits.{bit_at-pow_same, bit_at-pow_other}
 use Rattle.std.proofs.lemmas.Bool.{eqb-true, eqb-false, eq-eqb, ne_eqb, cases_eq}
-use Rattle.pas_profile.specs.Classes.{has_bit}
+use Rattle.pas_bits.specs.Bits.{has_bit}
 use Rattle.pas_bits.specs.PageVectors.{page_mask, is_in_word, HasNoPage, IsLowestPage}
 use Rattle.pas_bits.proofs.Masks.{none_from, lowest_from}
 use Rattle.pas_bits.proofs.Words.{bit_of_or, bit_cleared}

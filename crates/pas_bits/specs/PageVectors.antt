@@ -1,6 +1,6 @@
 -- Page vectors: page p stands in bit p % 64 of word p / 64.
 use Rattle.std.specs.Prelude.{ℕ, ◌*◌, ◌/◌, ◌%◌, ◌^◌, ◌<◌, ◌≤◌, ◌≡◌, Bool, true, false}
-use Rattle.pas_profile.specs.Classes.{has_bit}
+use Rattle.pas_bits.specs.Bits.{has_bit}
 
 -- the page's bit in its word
 abbrev pub page_mask : ℕ → ℕ

@@ -1,3 +1,3 @@
-pub mod Parts
-pub mod Allocated
+mod Parts
+mod Allocated
 pub mod Alone

@@ -12,7 +12,8 @@ use Rattle.pas_profile.specs.declared.directory.Directory.{Directory}
 use Rattle.pas_profile.specs.declared.name.Name.{Name}
 use Rattle.pas_profile.specs.declared.word.Word.{Word}
 use Rattle.pas_profile.proofs.Codecs.{kind_number_lt, deed_word_of-positive, is_live-live_word, grains_of-live_word}
-use Rattle.pas_profile.specs.Runs.{in_run, meets_page, address_of, grain_of, length_of}
+use Rattle.pas_bits.specs.Runs.{in_run, meets_page}
+use Rattle.pas_profile.specs.Blocks.{address_of, grain_of, length_of}
 use Rattle.pas_machine.specs.State.{Live, live_in, deed_in, backed_in, gives_in, ends_in}
 use Rattle.pas_machine.specs.Machine.{Bears, Run}
 use Rattle.pas_steps.specs.Effects.{life_word_at, target, free_word_at}
@@ -25,7 +26,7 @@ use Rattle.pas_core.specs.Good.{word_of_deed, IsLifeOf, Held, is_free, is_covere
 use Rattle.pas_core.proofs.Deeds.{deed_kept, known_is, deed_words, deed_of, directory_is_of, backed_of}
 use Rattle.pas_core.proofs.Stamps.{IsFound, end_finds, epoch_known, epoch_small, stamp_small, stamp_known}
 use Rattle.pas_core.proofs.MachineRuns.{lists_borne, runs, one_backed}
-use Rattle.pas_profile.proofs.Runs.{IsMet, met, first_of_run}
+use Rattle.pas_bits.proofs.Runs.{IsMet, met, first_of_run}
 use Rattle.pas_profile.specs.declared.name.Block.{Block}
 use Rattle.pas_profile.specs.declared.event.Event.{Event}
 use Rattle.pas_steps.specs.Events.{event_of, with_event}
@@ -33,7 +34,7 @@ use Rattle.pas_core.specs.Given.{WasGiven}
 use Rattle.pas_core.proofs.Lives.{look_is, word_is, life_of, life_is_known, live_is_live, one_more, turn_small}
 use Rattle.std.proofs.lemmas.Option.{same_Some}
 use Rattle.pas_steps.proofs.Flags.{was_set}
-use Rattle.pas_profile.specs.Classes.{has_bit}
+use Rattle.pas_bits.specs.Bits.{has_bit}
 use Rattle.pas_core.proofs.Grains.{is_held_by-true, placed_once}
 use Rattle.pas_core.specs.Rights.{parked_bit, empty_bit, eligible_bit}
 use Rattle.pas_core.proofs.Rights.{deeds_known, backed_small, backed_known, right_not_offered, right_not_parked, offered_is_known, offered_page, parked_page, hinted_page, free_known}

@@ -4,14 +4,15 @@ use Rattle.std.specs.Int.{bit_not, w64}
 use Rattle.std.proofs.lemmas.Nat.Bits.{bit_at_ones}
 use Rattle.std.proofs.lemmas.Bool.{eqb-true, and_parts, le-leb, lt-leb, cond_both}
 use Rattle.std.proofs.lemmas.Bool.Decides.{nat_tests}
-use Rattle.pas_profile.specs.Classes.{has_bit}
+use Rattle.pas_bits.specs.Bits.{has_bit}
 use Rattle.pas_profile.specs.Layouts.{same_word}
 use Rattle.pas_profile.specs.Lives.{live_word, is_live, grains_of}
 use Rattle.pas_profile.specs.Profiles.{IsValid}
 use Rattle.pas_profile.specs.declared.profile.Profile.{Profile}
 use Rattle.pas_profile.specs.declared.name.Block.{Block}
 use Rattle.pas_profile.specs.declared.word.Word.{Word}
-use Rattle.pas_profile.specs.Runs.{in_run, address_of, grain_of, length_of}
+use Rattle.pas_bits.specs.Runs.{in_run}
+use Rattle.pas_profile.specs.Blocks.{address_of, grain_of, length_of}
 use Rattle.pas_steps.specs.Effects.{free_word_at, life_word_at, in_mask, target, new_value}
 use Rattle.pas_steps.specs.Views.{Move, Stays, Gets, Puts, Gives, Ends, grain_move, held_after, holds, epoch_of}
 use Rattle.pas_steps.specs.Allowed.{Allowed, IsStepOf}
@@ -20,7 +21,7 @@ use Rattle.pas_steps.specs.declared.step.Step.{Step}
 use Rattle.pas_steps.specs.declared.step.Step.TheVariants.{Look, Take, Put, Give, End, EndSized}
 use Rattle.pas_core.specs.Good.{Place, IsFree, Held, Covered, is_free, is_held_by, is_covered_by, covers, IsPlacedOnce}
 use Rattle.pas_bits.proofs.Words.{bit_cleared, bit_of_or}
-use Rattle.pas_profile.proofs.Runs.{first_of_run}
+use Rattle.pas_bits.proofs.Runs.{first_of_run}
 use Rattle.pas_core.proofs.Deeds.{looked}
 use Rattle.pas_steps.proofs.Targets.{guess_fits}
 

@@ -10,7 +10,8 @@ use Rattle.pas_profile.specs.declared.name.Name.{Name}
 use Rattle.pas_profile.specs.declared.word.Word.{Word}
 use Rattle.pas_profile.specs.declared.event.Event.{Event}
 use Rattle.pas_profile.specs.declared.event.Why.{Why}
-use Rattle.pas_profile.specs.Runs.{in_run, address_of, grain_of, length_of}
+use Rattle.pas_bits.specs.Runs.{in_run}
+use Rattle.pas_profile.specs.Blocks.{address_of, grain_of, length_of}
 use Rattle.pas_machine.specs.State.{Live, live_in, gives_in, ends_in}
 use Rattle.pas_steps.specs.Effects.{life_word_at, target, new_value}
 use Rattle.pas_steps.specs.Views.{View, Move, Stays, Gets, Gives, Ends, grain_move, held_after, holds, epoch_of, looks_at_life, life_after, known_life, given_after, given_count}
@@ -23,7 +24,7 @@ use Rattle.pas_core.specs.Good.{Place, IsFree, Held, Covered, is_held_by, is_cov
 use Rattle.pas_core.proofs.Grains.{life_same, give_short, Fits, is_held_by-true, covers_live, some_grain, step_fits, placed_once}
 use Rattle.std.proofs.lemmas.Option.{same_Some, none-some}
 use Rattle.pas_core.proofs.Deeds.{event_if, end_if, looked}
-use Rattle.pas_profile.proofs.Runs.{first_of_run}
+use Rattle.pas_bits.proofs.Runs.{first_of_run}
 use Rattle.std.proofs.lemmas.Bool.Decides.{nat_tests}
 use Rattle.pas_machine.specs.Machine.{Admits, Run}
 use Rattle.pas_core.specs.Given.{WasGiven}

@@ -13,7 +13,8 @@ use Rattle.pas_profile.specs.declared.name.Name.{Name}
 use Rattle.pas_profile.specs.declared.word.Word.{Word}
 use Rattle.pas_profile.specs.declared.event.Event.{Event}
 use Rattle.pas_profile.specs.declared.event.Why.{Why}
-use Rattle.pas_profile.specs.Runs.{in_run, meets_page, address_of, grain_of, length_of}
+use Rattle.pas_bits.specs.Runs.{in_run, meets_page}
+use Rattle.pas_profile.specs.Blocks.{address_of, grain_of, length_of}
 use Rattle.pas_machine.specs.State.{Live, deed_in, backed_in, live_in, gives_in, ends_in, touches, epoch_in}
 use Rattle.pas_machine.specs.Machine.{IsPlace, Bears, IsClear, IsLive, MayGive, IsReason, Admits, Run}
 use Rattle.pas_steps.specs.Effects.{life_word_at, target, free_word_at, in_mask}
@@ -30,8 +31,8 @@ use Rattle.pas_core.proofs.Rights.{deeds_known, backed_known}
 use Rattle.pas_core.proofs.Lives.{life_is_known, block_of_word, turn_is, live_is_live, no_block, dead_while_held, life_of, life_at, bare_of, live_of, live_is_aligned}
 use Rattle.pas_core.proofs.Stamps.{stamp_known, ends_before, moved_held}
 use Rattle.pas_profile.proofs.Codecs.{kind_number_lt}
-use Rattle.pas_profile.proofs.Runs.{run_of, first_of_run, IsMet, met}
-use Rattle.pas_profile.specs.Classes.{has_bit}
+use Rattle.pas_bits.proofs.Runs.{run_of, first_of_run, IsMet, met}
+use Rattle.pas_bits.specs.Bits.{has_bit}
 use Rattle.pas_machine.specs.Laws.{AreBorne, AreApart}
 use Rattle.pas_machine.proofs.LiveBlocks.{all_borne, live_apart}
 use Rattle.std.proofs.lemmas.Nat.Bits.{bit_at_ones}

@@ -1,7 +1,7 @@
 -- Laws of one actor alone, in a list that is legal as a whole: what its steps leave as it was, which grains are free and where rights are before and
 -- after them, and what its search finds.
 use Rattle.std.proofs.Common.{◌≡◌, ℕ, ◌/◌, true, false, if◌then◌else◌, List, [], ◌∷◌, ◌++◌, refl, ap, ◌∙◌, true≢false, ◌≢◌, ◌+◌, ◌*◌, ◌%◌, ◌<◌, ◌==◌, Bool, ◌&&◌, ◌||◌, sym, arith, inl, inr, None, Some, subst, Result, Ok, Err}
-use Rattle.pas_profile.specs.Classes.{has_bit}
+use Rattle.pas_bits.specs.Bits.{has_bit}
 use Rattle.pas_profile.specs.Directories.{number_of, deed_word_of, deed_word_numbered}
 use Rattle.pas_profile.specs.Layouts.{same_word}
 use Rattle.pas_profile.specs.declared.word.Word.{Word}

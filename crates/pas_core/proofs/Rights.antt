@@ -2,7 +2,7 @@
 -- of backed pages is true.
 use Rattle.std.proofs.Common.{◌≡◌, ◌≢◌, ℕ, ◌/◌, ◌%◌, ◌==◌, Bool, true, false, ◌&&◌, if◌then◌else◌, [], ◌∷◌, refl, ap, sym, ◌∙◌, subst, inl, inr, arith, ◌^◌, ◌<◌, not, ◌||◌, bit_and, bit_or, ◌+◌, ◌*◌, ◌≤◌}
 use Rattle.std.proofs.lemmas.Bool.{false≢true, eqb-true, and_parts, cond_both, eqb-false, eq-eqb, or_left, or_cases, false_from_ne_true, cases_eq}
-use Rattle.pas_profile.specs.Classes.{has_bit}
+use Rattle.pas_bits.specs.Bits.{has_bit}
 use Rattle.pas_profile.specs.Directories.{number_of, deed_word_of, deed_word_numbered, IsKind}
 use Rattle.pas_profile.specs.Layouts.{same_word}
 use Rattle.pas_profile.specs.declared.profile.Profile.{Profile}

@@ -9,7 +9,8 @@ use Rattle.pas_profile.specs.Profiles.{IsValid, IsDirectoryOf}
 use Rattle.pas_profile.specs.declared.profile.Profile.{Profile}
 use Rattle.pas_profile.specs.declared.directory.Directory.{Directory}
 use Rattle.pas_profile.specs.declared.word.Word.{Word}
-use Rattle.pas_profile.specs.Runs.{address_of, length_of, grain_of, in_run, meets_page}
+use Rattle.pas_bits.specs.Runs.{in_run, meets_page}
+use Rattle.pas_profile.specs.Blocks.{address_of, length_of, grain_of}
 use Rattle.pas_steps.specs.Effects.{target, new_value, life_word_at, in_mask}
 use Rattle.pas_bits.specs.PageVectors.{page_mask}
 use Rattle.pas_steps.specs.Views.{epoch_after, known_epoch, or_zero, epoch_of, View, Move, Stays, Gets, Puts, Gives, Ends, held_after, holds, holds_all, stamp_after, known_stamp, unstamped_after, is_unstamped, ends_on}
@@ -27,7 +28,7 @@ use Rattle.pas_machine.specs.State.{Live, live_in, gives_in, ends_in, touches, e
 use Rattle.pas_core.specs.Good.{IsLifeOf}
 use Rattle.pas_core.proofs.Lives.{life_at}
 use Rattle.pas_steps.proofs.Targets.{guess_fits}
-use Rattle.pas_profile.specs.Classes.{has_bit}
+use Rattle.pas_bits.specs.Bits.{has_bit}
 use Rattle.pas_profile.specs.declared.name.Block.{Block}
 use Rattle.pas_profile.specs.declared.event.Event.{Event}
 use Rattle.pas_steps.specs.Events.{event_of, with_event, reason_of, sized_reason}
@@ -35,7 +36,7 @@ use Rattle.pas_steps.specs.Desks.{made}
 use Rattle.pas_core.specs.Stamps.{IsSoAtEnd, EachEnd, IsStampedOr, KeepsToEnds, AllKeepToEnds}
 use Rattle.pas_steps.proofs.Bits.{all_below-at}
 use Rattle.pas_steps.proofs.Flags.{stays_set, was_set}
-use Rattle.pas_profile.proofs.Runs.{IsMet, met}
+use Rattle.pas_bits.proofs.Runs.{IsMet, met}
 use Rattle.pas_steps.proofs.Parts.{each_part}
 
 -- ==== The epoch only grows, every word fits 64 bits, and epochs and stamps are below 2 ^ 40.

@@ -1,6 +1,6 @@
 //! What an actor may rely on after every legal list of steps, whoever made them. Each law is the contract of an empty function.
 ghost use Rattle.std.specs.Prelude.{ℕ, ◌≡◌, ◌≢◌, ◌≤◌, ◌/◌, ◌%◌, true, Some};
-ghost use Rattle.pas_profile.specs.Classes.{has_bit};
+ghost use Rattle.pas_bits.specs.Bits.{has_bit};
 ghost use Rattle.pas_profile.specs.Profiles.{IsValid};
 ghost use Rattle.pas_profile.specs.declared.profile.Profile.{Profile};
 ghost use Rattle.pas_profile.specs.declared.word.Word.TheVariants as Word;

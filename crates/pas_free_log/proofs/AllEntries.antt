@@ -6,7 +6,7 @@ use Rattle.std.proofs.lemmas.List.{length-map, length-reverse, append-nil, flat_
 use Rattle.pas_profile.specs.Directories.{deed_word_of, directory_read}
 use Rattle.pas_profile.specs.declared.name.Name.{Name}
 use Rattle.pas_profile.specs.declared.word.Word.TheVariants as Word
-use Rattle.pas_profile.specs.Runs.{address_of, grain_of}
+use Rattle.pas_profile.specs.Blocks.{address_of, grain_of}
 use Rattle.pas_steps.specs.Desks.{made, Standing}
 use Rattle.pas_steps.specs.declared.step.Made.{Made}
 use Rattle.pas_steps.specs.declared.step.Step.TheVariants.{Look, Stamp}

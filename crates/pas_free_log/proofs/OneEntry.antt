@@ -15,8 +15,9 @@ use Rattle.pas_profile.specs.Profiles.{IsValid, IsDirectoryOf}
 use Rattle.pas_profile.specs.declared.directory.Directory.{Directory}
 use Rattle.pas_profile.specs.declared.profile.Profile.{Profile}
 use Rattle.pas_profile.specs.declared.word.Word.TheVariants as Word
-use Rattle.pas_profile.specs.Runs.{in_run, meets_page, address_of, grain_of}
-use Rattle.pas_profile.proofs.Runs.{to_run, run_of, run_above, met_by}
+use Rattle.pas_bits.specs.Runs.{in_run, meets_page}
+use Rattle.pas_profile.specs.Blocks.{address_of, grain_of}
+use Rattle.pas_bits.proofs.Runs.{to_run, run_of, run_above, met_by}
 use Rattle.pas_steps.specs.Allowed.{HoldsOn, IsEpochKnown, IsStepOf}
 use Rattle.pas_steps.specs.Agreement.{AgreesDeed, AgreesLife, AgreesEnd, Agrees}
 use Rattle.pas_steps.specs.Calls.{nothing, put, Does, Calls, Kept, Lost, now, Leads}

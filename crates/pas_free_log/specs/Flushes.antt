@@ -6,7 +6,7 @@ use Rattle.pas_profile.specs.declared.directory.Directory.{Directory}
 use Rattle.pas_profile.specs.declared.name.Name.{Name}
 use Rattle.pas_profile.specs.declared.word.Word.TheVariants as Word
 use Rattle.pas_profile.specs.declared.event.Event.{Event}
-use Rattle.pas_profile.specs.Runs.{grain_of}
+use Rattle.pas_profile.specs.Blocks.{grain_of}
 use Rattle.pas_steps.specs.Views.{View, known_epoch, epoch_of}
 use Rattle.pas_steps.specs.Events.{events_by}
 use Rattle.pas_steps.specs.Calls.{nothing, Does, Calls}

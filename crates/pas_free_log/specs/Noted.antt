@@ -4,7 +4,7 @@ use Rattle.pas_profile.specs.declared.directory.Directory.{Directory}
 use Rattle.pas_profile.specs.declared.directory.Kind.{Kind}
 use Rattle.pas_profile.specs.declared.event.Range.{Range}
 use Rattle.pas_profile.specs.declared.name.Name.{Name}
-use Rattle.pas_profile.specs.Runs.{address_of}
+use Rattle.pas_profile.specs.Blocks.{address_of}
 use Rattle.pas_free_log.specs.declared.noting.EndedRun.{EndedRun}
 use Rattle.pas_free_log.specs.declared.ending.Outcome.{Outcome}
 use Rattle.pas_free_log.specs.declared.ending.Outcome.TheVariants.{Ended, Refused}

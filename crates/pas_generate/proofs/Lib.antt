@@ -1,4 +1,4 @@
-pub mod Aligning
+mod Aligning
 pub mod Valid
 pub mod Operations
-pub mod Traces
+mod Traces

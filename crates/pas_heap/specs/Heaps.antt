@@ -1,6 +1,6 @@
 -- What a table of heaps means.
-use Rattle.std.specs.Prelude.{ℕ, Bool}
-use Rattle.pas_profile.specs.Classes.{has_bit}
+use Rattle.std.specs.Prelude.{ℕ, ◌==◌, Bool}
+use Rattle.std.specs.Int.{bit_at}
 use Rattle.pas_heap.specs.declared.table.HeapTable.{HeapTable}
 
 -- the marks of shared heaps, those of the profile that the table was made from
@@ -9,4 +9,4 @@ marks_of table = table.shared
 
 -- The heap is marked as shared. In a table of a profile that is `is_shared` of the profile, by computing.
 abbrev pub is_marked : HeapTable → ℕ → Bool
-is_marked table heap = has_bit (marks_of table) heap
+is_marked table heap = bit_at (marks_of table) heap == 1

@@ -5,15 +5,14 @@ use Rattle.std.proofs.lemmas.Bool.{cases_lt}
 use Rattle.std.proofs.lemmas.List.{get_or_past, get_or-map, length-map}
 use Rattle.std.proofs.lemmas.Nat.{and_le_l, le_or_l, le_or_r}
 use Rattle.std.proofs.lemmas.Nat.Bits.{bit_at-trailing_zeros}
-use Rattle.pas_profile.specs.Classes.{has_bit}
+use Rattle.pas_bits.specs.Bits.{has_bit, count_below}
 use Rattle.pas_bits.proofs.Words.{none_of_zero, bit_of_and, bit_of_not}
 use Rattle.pas_lanes.specs.Rows.{is_set, IsClearBelow, HasMember, IsLowestSet, IsWithinBelow, HasMemberOutside, set_count}
 use Rattle.std.specs.Simd.Lanes.{chunk, fold_l, zip2, sum_l}
 use Rattle.std.proofs.lemmas.Simd.{get_or-chunk, get_or-zip2, length-chunk}
 use Rattle.std.specs.Int.RustNames.{count_ones}
 use Rattle.std.proofs.Math.Seq.{drop-cons}
-use Rattle.pas_profile.specs.Runs.{count_below}
-use Rattle.pas_profile.proofs.Counts.{count_same, count_add, count_suc, ones_counted}
+use Rattle.pas_bits.proofs.Counts.{count_same, count_add, count_suc, ones_counted}
 
 -- ==== Words of a row, and rows of which so many words were read.
 

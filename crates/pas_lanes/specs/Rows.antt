@@ -1,7 +1,6 @@
 -- Rows of words as sets of numbers: number n stands in bit n % 64 of word n / 64.
 use Rattle.std.specs.Prelude.{ℕ, ◌*◌, ◌/◌, ◌%◌, ◌<◌, ◌≡◌, Bool, true, false, List, length, slice_index}
-use Rattle.pas_profile.specs.Classes.{has_bit}
-use Rattle.pas_profile.specs.Runs.{count_below}
+use Rattle.pas_bits.specs.Bits.{has_bit, count_below}
 
 -- the bit of number n is set. A row has no bits behind its last word
 abbrev pub is_set : List ℕ → ℕ → Bool

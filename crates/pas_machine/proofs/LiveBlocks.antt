@@ -5,8 +5,9 @@ use Rattle.pas_profile.specs.declared.profile.Profile.{Profile}
 use Rattle.pas_profile.specs.declared.directory.Directory.{Directory}
 use Rattle.pas_profile.specs.declared.name.Block.{Block}
 use Rattle.pas_profile.specs.declared.event.Event.{Event}
-use Rattle.pas_profile.specs.Runs.{in_run, meets_page, address_of, grain_of, length_of}
-use Rattle.pas_profile.proofs.Runs.{first_of_run, run_meets}
+use Rattle.pas_bits.specs.Runs.{in_run, meets_page}
+use Rattle.pas_profile.specs.Blocks.{address_of, grain_of, length_of}
+use Rattle.pas_bits.proofs.Runs.{first_of_run, run_meets}
 use Rattle.pas_machine.specs.State.{Live, live_in, gives_in, ends_in, deed_in, backed_in, touches}
 use Rattle.pas_machine.specs.Machine.{Run, MayGive, Bears}
 use Rattle.pas_machine.specs.Laws.{AreApart, IsWhere, IsCounted, AreCounted, AreBorne}

@@ -9,8 +9,9 @@ use Rattle.pas_profile.specs.declared.name.Block.{Block}
 use Rattle.pas_profile.specs.declared.event.Event.{Event}
 use Rattle.pas_profile.specs.declared.event.Why.{Why}
 use Rattle.pas_profile.specs.Profiles.{IsPage}
-use Rattle.pas_profile.specs.Runs.{in_run, address_of, grain_of, length_of, meets_page}
-use Rattle.pas_profile.proofs.Runs.{first_of_run, run_of, to_run, run_meets, met, to_meet, at_place, IsMet}
+use Rattle.pas_bits.specs.Runs.{in_run, meets_page}
+use Rattle.pas_profile.specs.Blocks.{address_of, grain_of, length_of}
+use Rattle.pas_bits.proofs.Runs.{first_of_run, run_of, to_run, run_meets, met, to_meet, IsMet}
 use Rattle.pas_machine.specs.State.{Live, deed_in, backed_in, live_in, gives_in, ends_in, epoch_in, touches}
 use Rattle.pas_machine.specs.Machine.{Run, Admits, MayGive, Bears, IsLive, HasOtherRoom, IsReason, IsPlace}
 use Rattle.pas_machine.specs.Reasons.{reason_number, Applies, IsFirst, IsVerdict, IsOutside, IsNoPlace, IsNoRun, IsGrainOf, HasDeedOf, Covers}
@@ -27,6 +28,10 @@ use Rattle.pas_machine.specs.declared.places.Place.{Place}
 use Rattle.pas_machine.proofs.LiveBlocks.{lives_where, live_long, all_counted, all_borne, live_apart, no_block}
 
 -- ==== That a reason applies exactly where an event may not come next, and that there is one first reason.
+
+-- an address of whole grains is that of its first grain
+at_place : (a : ℕ) → a % 16 ≡ 0 → 16 * (a / 16) ≡ a
+at_place a h = omega (arith, h)
 
 -- ---- what isn't otherwise
 equal_of : (a b : ℕ) → (a ≢ b → ⊥) → a ≡ b

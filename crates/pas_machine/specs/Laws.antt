@@ -2,7 +2,8 @@
 use Rattle.std.specs.Prelude.{ℕ, ◌+◌, ◌/◌, ◌≡◌, ◌≢◌, true, false, List, Option, None, Some}
 use Rattle.pas_profile.specs.declared.profile.Profile.{Profile}
 use Rattle.pas_profile.specs.declared.event.Event.{Event}
-use Rattle.pas_profile.specs.Runs.{in_run, address_of, length_of}
+use Rattle.pas_bits.specs.Runs.{in_run}
+use Rattle.pas_profile.specs.Blocks.{address_of, length_of}
 use Rattle.pas_machine.specs.State.{Live, live_in, gives_in, ends_in}
 use Rattle.pas_machine.specs.Machine.{Bears}
 

@@ -2,7 +2,7 @@
 use Rattle.std.specs.Prelude.{◌-◌, ◌^◌, ◌≡◌, List, ◌∷◌, Result, Ok, Err}
 use Rattle.pas_profile.specs.declared.profile.Profile.{Profile}
 use Rattle.pas_profile.specs.declared.event.Event.{Event}
-use Rattle.pas_profile.specs.Runs.{address_of}
+use Rattle.pas_profile.specs.Blocks.{address_of}
 use Rattle.pas_machine.specs.State.{gives_in}
 use Rattle.pas_machine.specs.Machine.{Admits}
 use Rattle.pas_machine.specs.Reasons.{IsFirst}

@@ -5,7 +5,8 @@ use Rattle.std.specs.Prelude.{ℕ, ◌+◌, ◌/◌, ◌==◌, max, Bool, true, 
 use Rattle.pas_profile.specs.declared.directory.Directory.{Directory}
 use Rattle.pas_profile.specs.declared.name.Block.{Block}
 use Rattle.pas_profile.specs.declared.event.Event.{Event}
-use Rattle.pas_profile.specs.Runs.{meets_page, address_of, length_of}
+use Rattle.pas_bits.specs.Runs.{meets_page}
+use Rattle.pas_profile.specs.Blocks.{address_of, length_of}
 
 -- a live block, beside the address that it is found by
 pub record Live : Type 0 where

@@ -1,7 +1,7 @@
 //! The first reason why an event may not come next, if there is one, in the order of the reasons.
 ghost use Rattle.std.specs.Prelude.{ℕ, ◌≡◌, ◌+◌, ◌<◌, ◌≤◌, MatchBool, MatchOption, IfOk, IfErr, List, None};
 ghost use Rattle.pas_profile.specs.Profiles.{IsPage};
-ghost use Rattle.pas_profile.specs.Runs.{address_of, grain_of, length_of};
+ghost use Rattle.pas_profile.specs.Blocks.{address_of, grain_of, length_of};
 ghost use Rattle.pas_profile.specs.declared.event.Event.{Event as TheEvent};
 ghost use Rattle.pas_machine.specs.State.{ends_in};
 ghost use Rattle.pas_machine.specs.Machine.{IsPlace, IsLive, HasOtherRoom};

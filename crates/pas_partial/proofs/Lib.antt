@@ -1,2 +1,2 @@
-pub mod LowestRow
-pub mod Refilled
+mod LowestRow
+mod Refilled

@@ -2,8 +2,8 @@
 use Rattle.std.proofs.Common.{◌≡◌, ℕ, zero, suc, ◌+◌, ◌-◌, ◌*◌, ◌<◌, ◌≤◌, ◌↔◌, IsTrue, nat_le, Bool, true, ◌&&◌, ◌||◌, ap, sym, ◌∙◌, subst, arith, inl, inr, ◌⊎◌, true≢false}
 use Rattle.std.proofs.Math.Nat.{suc-mul, zero-mul}
 use Rattle.std.proofs.lemmas.Bool.{and_from, and_parts, or_cases, leb-true, le-leb, cases_lt}
-use Rattle.pas_profile.specs.Runs.{in_run}
-use Rattle.pas_profile.proofs.Runs.{run_of, to_run}
+use Rattle.pas_bits.specs.Runs.{in_run}
+use Rattle.pas_bits.proofs.Runs.{run_of, to_run}
 use Rattle.pas_bits.specs.declared.mask.Mask4.{Mask4}
 use Rattle.pas_bits.specs.Masks.{is_set, AreSet, AreClear, IsLowestSet}
 use Rattle.pas_partial.specs.Rows.{IsInRow, IsFreeSlot, rows}

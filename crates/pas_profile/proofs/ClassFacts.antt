@@ -49,11 +49,8 @@ first_slot class h = record {
   within = omega (arith, class_grains_le class h, usable_grains_ge class h);
 }
 
-pub multiple : (k g : ℕ) → g % k ≡ 0 → g ≡ g / k * k + 0
-multiple k g e = omega (arith, e, div-add-mod' g k)
-
 scaled : (k g : ℕ) → g % k ≡ 0 → g / k * (16 * k) ≡ g * 16
-scaled k g e = omega (arith, multiple k g e)
+scaled k g e = omega (arith, e, div-add-mod' g k)
 
 -- every slot of the class begins at a multiple of each alignment that divides the class's size
 pub slot_aligned : (class grain page align : ℕ) → IsClass class → IsSlotStart class grain → 4096 % align ≡ 0 → class_size class % align ≡ 0 → (page * 4096 + grain * 16) % align ≡ 0

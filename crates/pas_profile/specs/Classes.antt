@@ -1,10 +1,5 @@
 -- Classes of small blocks, their slots, and grains. Numbers of grains, where masks are only how the code holds them.
 use Rattle.std.specs.Prelude.{ℕ, ◌+◌, ◌*◌, ◌/◌, ◌%◌, ◌<◌, ◌≤◌, ◌≡◌, ◌==◌, nat_lt, Bool, ◌||◌, IsTrue, List, [], ◌∷◌, take, slice_index}
-use Rattle.std.specs.Int.{bit_at}
-
--- bit b of the number is set
-abbrev pub has_bit : ℕ → ℕ → Bool
-has_bit n b = bit_at n b == 1
 
 -- the sizes of the classes, in bytes
 abbrev pub class_sizes : List ℕ

@@ -5,6 +5,6 @@ pub mod Lives
 pub mod Profiles
 pub mod Layouts
 pub mod Rooms
-pub mod Runs
+pub mod Blocks
 pub mod Refusals
 pub mod Requests

@@ -1,6 +1,6 @@
 -- The directory of a request: of which kind the pages are that serve it.
-use Rattle.std.specs.Prelude.{ℕ, Bool, true, false}
-use Rattle.pas_profile.specs.Classes.{has_bit}
+use Rattle.std.specs.Prelude.{ℕ, ◌==◌, Bool, true, false}
+use Rattle.std.specs.Int.{bit_at}
 use Rattle.pas_profile.specs.Routes.{route_of, room_of}
 use Rattle.pas_profile.specs.declared.directory.Directory.{Directory}
 use Rattle.pas_profile.specs.declared.directory.Kind.{Kind}
@@ -15,9 +15,9 @@ route_in f size align = route_of f.classes size align
 abbrev pub room_in : Profile → ℕ → ℕ → ℕ
 room_in f size align = room_of f.classes size align
 
--- the heap is declared as shared
+-- the heap is declared as shared: its bit is set
 abbrev pub is_shared : Profile → ℕ → Bool
-is_shared f heap = has_bit f.shared heap
+is_shared f heap = bit_at f.shared heap == 1
 
 -- the kind of the pages for a class, in a shared heap or in another
 abbrev pub kind_of_class : Bool → ℕ → Kind

@@ -1,6 +1,7 @@
 //! The classes of small blocks, and the grains that their slots cover.
-ghost use Rattle.std.specs.Prelude.{◌≡◌, ◌<◌, ℕ, ◌/◌, ◌%◌, length, slice_index, Bool};
-ghost use Rattle.pas_profile.specs.Classes.{IsClass, class_size as size_of_class, usable_grains, has_bit, is_usable};
+ghost use Rattle.std.specs.Prelude.{◌≡◌, ◌==◌, ◌<◌, ℕ, ◌/◌, ◌%◌, length, slice_index, Bool};
+ghost use Rattle.pas_profile.specs.Classes.{IsClass, class_size as size_of_class, usable_grains, is_usable};
+ghost use Rattle.std.specs.Int.{bit_at};
 
 use crate::limits::{GRAIN_BYTES, PAGE_BYTES, PAGE_GRAINS};
 
@@ -20,7 +21,7 @@ pub fn class_size(class: u8) -> u32
 /// The grains that the slots of the class cover, as a mask of 256 bits: bit g is bit `g % 64` of word `g / 64`.
 pub fn slot_mask(class: u8) -> [u64; 4]
     requires { IsClass class }
-    ensures { (g : ℕ) → g < 256 → has_bit (slice_index result (g / 64)) (g % 64) ≡ is_usable class g }
+    ensures { (g : ℕ) → g < 256 → (bit_at (slice_index result (g / 64)) (g % 64) == 1) ≡ is_usable class g }
 {
     let size = class_size(class);
     let usable = PAGE_BYTES / size * (size / GRAIN_BYTES);

@@ -45,7 +45,7 @@ impl Address {
 
 impl Block {
     ghost use Rattle.std.specs.Prelude.{◌≡◌};
-    ghost use Rattle.pas_profile.specs.Runs.{length_of};
+    ghost use Rattle.pas_profile.specs.Blocks.{length_of};
 
     /// The number of its grains.
     #[inline]

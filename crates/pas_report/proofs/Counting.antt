@@ -3,9 +3,8 @@ use Rattle.std.proofs.Common.{◌≡◌, ℕ, zero, suc, ◌+◌, ◌/◌, ◌%�
 use Rattle.pas_report.specs.Reports.{grains_that}
 use Rattle.pas_lanes.specs.Rows.{set_count}
 use Rattle.pas_lanes.proofs.Rows.{set_most}
-use Rattle.pas_profile.specs.Classes.{has_bit}
-use Rattle.pas_profile.specs.Runs.{count_below}
-use Rattle.pas_profile.proofs.Counts.{count_suc, count_same}
+use Rattle.pas_bits.specs.Bits.{has_bit, count_below}
+use Rattle.pas_bits.proofs.Counts.{count_suc, count_same}
 use Rattle.pas_machine.specs.Totals.{sum_below}
 
 -- ---- one more

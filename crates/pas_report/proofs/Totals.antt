@@ -11,7 +11,7 @@ use Rattle.pas_steps.specs.declared.state.State.{State}
 use Rattle.pas_report.specs.Reports.{totals_text, total_line}
 use Rattle.pas_report.specs.Counts.{pages_of, grains_in, life_of_grain, deeds_counted, backed_counted, live_counted, ended_counted, given_counted, totals_by_words}
 use Rattle.pas_report.proofs.Counting.{sum_same, sum_and_count}
-use Rattle.pas_profile.proofs.Counts.{count_same}
+use Rattle.pas_bits.proofs.Counts.{count_same}
 
 -- what the life word of a grain says of the machine at its address: whether a block lives there, how many ended and how many were given
 pub record IsLifeWord (word : ℕ) (lives : Bool) (gives ends : ℕ) : Type 0 where

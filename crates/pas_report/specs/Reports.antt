@@ -4,7 +4,9 @@ use Rattle.std.specs.Fmt.{decimal}
 use Rattle.pas_profile.specs.declared.profile.Profile.{Profile}
 use Rattle.pas_profile.specs.declared.directory.Directory.{Directory}
 use Rattle.pas_profile.specs.declared.event.Event.{Event}
-use Rattle.pas_profile.specs.Runs.{in_run, length_of, count_below}
+use Rattle.pas_bits.specs.Bits.{count_below}
+use Rattle.pas_bits.specs.Runs.{in_run}
+use Rattle.pas_profile.specs.Blocks.{length_of}
 use Rattle.pas_machine.specs.State.{Live, deed_in, live_in, epoch_in}
 use Rattle.pas_machine.specs.Totals.{has_block, deeds_total, backed_total, live_total, given_total, ended_total}
 use Rattle.pas_report.specs.Lines.{kind_text}

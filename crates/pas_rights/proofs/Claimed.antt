@@ -1,6 +1,6 @@
 -- What a claim comes to.
 use Rattle.std.proofs.Common.{◌≡◌, ℕ, ◌%◌, Bool, true, false, if◌then◌else◌, [], ◌∷◌, refl, sym}
-use Rattle.pas_profile.specs.Classes.{has_bit}
+use Rattle.pas_bits.specs.Bits.{has_bit}
 use Rattle.pas_profile.specs.Directories.{number_of}
 use Rattle.pas_profile.specs.declared.directory.Directory.{Directory}
 use Rattle.pas_steps.specs.Calls.{Kept, Gained, now}

@@ -3,12 +3,13 @@ use Rattle.std.proofs.Common.{◌≡◌, ℕ, ◌+◌, ◌*◌, ◌/◌, ◌%◌
 use Rattle.std.proofs.lemmas.Bool.{eq-eqb, and_from}
 use Rattle.pas_profile.specs.Lives.{turn_of}
 use Rattle.pas_profile.specs.Profiles.{IsPage, IsDirectoryOf}
-use Rattle.pas_profile.specs.Runs.{in_run, grain_of, length_of}
+use Rattle.pas_bits.specs.Runs.{in_run}
+use Rattle.pas_profile.specs.Blocks.{grain_of, length_of}
 use Rattle.pas_profile.specs.declared.directory.Directory.{Directory}
 use Rattle.pas_profile.specs.declared.name.Block.{Block}
 use Rattle.pas_profile.specs.declared.profile.Profile.{Profile}
 use Rattle.pas_profile.specs.declared.word.Word.TheVariants as Word
-use Rattle.pas_profile.proofs.Runs.{run_of, first_of_run}
+use Rattle.pas_bits.proofs.Runs.{run_of, first_of_run}
 use Rattle.pas_steps.specs.Agreement.{Agreed}
 use Rattle.pas_steps.specs.Allowed.{IsBlockOf, KnowsBearing, MayGiveNow}
 use Rattle.pas_steps.specs.Calls.{Kept, Lost, later, grain_fate, freed}

@@ -1,7 +1,7 @@
 -- A page is hinted only after looks that read it as backed, and each of its grains as free; and grains are put only after they were taken.
 use Rattle.std.proofs.Common.{◌≡◌, ℕ, zero, suc, ◌+◌, ◌*◌, ◌<◌, Bool, true, false, List, [], ◌∷◌, ◌++◌, Option, None, Some, inl, inr, refl, ap, sym, ◌∙◌, subst, arith, append_assoc, true≢false, MatchBool}
 use Rattle.std.proofs.lemmas.Bool.{cases_eq}
-use Rattle.pas_profile.specs.Classes.{has_bit}
+use Rattle.pas_bits.specs.Bits.{has_bit}
 use Rattle.pas_profile.specs.declared.directory.Directory.{Directory}
 use Rattle.pas_profile.specs.declared.word.Word.TheVariants as Word
 use Rattle.pas_bits.specs.declared.mask.Mask4.{Mask4}

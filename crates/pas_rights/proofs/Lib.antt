@@ -6,6 +6,6 @@ pub mod Orders
 pub mod Debts
 pub mod Ends
 pub mod Hints
-pub mod Claimed
+mod Claimed
 pub mod PutsBack
 pub mod Gives

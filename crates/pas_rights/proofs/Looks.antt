@@ -1,7 +1,8 @@
 -- Looks at the free words of a page, and what they show.
 use Rattle.std.proofs.Common.{◌≡◌, ◌≢◌, ℕ, zero, suc, ◌+◌, ◌-◌, ◌*◌, ◌/◌, ◌%◌, ◌^◌, ◌<◌, ◌≤◌, ◌==◌, Bool, true, false, not, ◌&&◌, if◌then◌else◌, List, [], ◌∷◌, ◌++◌, length, refl, ap, sym, ◌∙◌, subst, arith, inl, inr, ◌⊎◌, slice_index, MatchBool}
 use Rattle.std.proofs.lemmas.Bool.{cases_eq, eq-eqb, and_from, and_parts, not_from_false, true≢false, false_from_ne_true, lt-ltb}
-use Rattle.pas_profile.specs.Classes.{has_bit, usable_grains}
+use Rattle.pas_profile.specs.Classes.{usable_grains}
+use Rattle.pas_bits.specs.Bits.{has_bit}
 use Rattle.pas_profile.specs.Directories.{IsKind, IsDirectory, deed_word_of, directory_read}
 use Rattle.pas_profile.specs.declared.directory.Directory.{Directory}
 use Rattle.pas_profile.specs.declared.directory.Kind.{Kind}

@@ -1,6 +1,6 @@
 -- An actor asks for the right of an offered page.
 use Rattle.std.specs.Prelude.{ℕ, ◌%◌, ◌≡◌, Bool, if◌then◌else◌, [], ◌∷◌}
-use Rattle.pas_profile.specs.Classes.{has_bit}
+use Rattle.pas_bits.specs.Bits.{has_bit}
 use Rattle.pas_profile.specs.declared.directory.Directory.{Directory}
 use Rattle.pas_steps.specs.Calls.{Calls, Does, Kept, Gained, on_page}
 use Rattle.pas_steps.specs.Desks.{Standing, made}

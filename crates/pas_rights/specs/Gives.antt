@@ -1,7 +1,7 @@
 -- A run of grains is given as a block.
 use Rattle.std.specs.Prelude.{ℕ, ◌+◌, ◌*◌, ◌/◌, ◌^◌, ◌<◌, ◌≡◌, true, false, List, [], ◌∷◌}
 use Rattle.pas_profile.specs.Lives.{turn_of}
-use Rattle.pas_profile.specs.Runs.{in_run}
+use Rattle.pas_bits.specs.Runs.{in_run}
 use Rattle.pas_profile.specs.declared.name.Block.{Block}
 use Rattle.pas_profile.specs.declared.profile.Profile.{Profile}
 use Rattle.pas_profile.specs.declared.word.Word.TheVariants as Word

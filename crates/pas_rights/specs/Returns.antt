@@ -1,6 +1,6 @@
 -- What an actor does after it put grains back. `Returned` is what `returned` promises.
 use Rattle.std.specs.Prelude.{ℕ, ◌%◌, ◌≤◌, ◌≡◌, true, false, ◌⊎◌, List, [], ◌∷◌, ◌++◌, Option, length}
-use Rattle.pas_profile.specs.Classes.{has_bit}
+use Rattle.pas_bits.specs.Bits.{has_bit}
 use Rattle.pas_profile.specs.declared.directory.Directory.{Directory}
 use Rattle.pas_steps.specs.Calls.{Calls, Does, Fate, Kept, on_page}
 use Rattle.pas_steps.specs.Clear.{OwesNothing, IsClearOn}

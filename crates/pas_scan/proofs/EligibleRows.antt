@@ -3,7 +3,7 @@ use Rattle.std.proofs.Common.{◌≡◌, ℕ, ◌/◌, ◌%◌, ◌<◌, ◌==�
 use Rattle.std.proofs.Math.ListN.{set, get_or}
 use Rattle.std.proofs.lemmas.List.{get_or-replicate, get_or_past}
 use Rattle.std.proofs.lemmas.Bool.{cases_lt, cases_eq, ne_eqb, cases_Bool, false_from_ne_true, eq-eqb, lt-ltb, le-ltb, ltb-true, ltb-false, and_parts, not-true}
-use Rattle.pas_profile.specs.Classes.{has_bit}
+use Rattle.pas_bits.specs.Bits.{has_bit}
 use Rattle.pas_bits.specs.PageVectors.{is_in_word}
 use Rattle.pas_bits.proofs.Words.{none_of_zero, is_zero, is_one, bit_cleared}
 use Rattle.pas_scan.specs.Marks.{is_marked}

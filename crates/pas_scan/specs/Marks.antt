@@ -1,6 +1,6 @@
 -- Sets of pages, as page vectors.
 use Rattle.std.specs.Prelude.{ℕ, ◌/◌, ◌%◌, Bool, List, slice_index}
-use Rattle.pas_profile.specs.Classes.{has_bit}
+use Rattle.pas_bits.specs.Bits.{has_bit}
 
 -- the page is in the set of these words
 abbrev pub is_marked : List ℕ → ℕ → Bool

@@ -1,7 +1,7 @@
 -- What shows that a page is usable for a large block of a heap, and what shows that it isn't. Each reading is said of a step and of the steps of
 -- the call before it, the newest first.
 use Rattle.std.specs.Prelude.{ℕ, ◌+◌, ◌*◌, ◌<◌, ◌≡◌, ◌≢◌, ◌/◌, ◌⊎◌, true, false, ◌||◌, List}
-use Rattle.pas_profile.specs.Classes.{has_bit}
+use Rattle.pas_bits.specs.Bits.{has_bit}
 use Rattle.pas_profile.specs.Directories.{deed_word_of}
 use Rattle.pas_profile.specs.declared.directory.Directory.{Directory}
 use Rattle.pas_steps.specs.Views.{holds, has_right}

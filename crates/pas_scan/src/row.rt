@@ -1,6 +1,6 @@
 //! Rows of eligible words: up to eight are read before any of them is searched.
 ghost use Rattle.std.specs.Prelude.{ℕ, ◌≡◌, ◌≤◌, ◌<◌, ◌+◌, ◌*◌, ◌/◌, ◌^◌, nat_lt, MatchOption};
-ghost use Rattle.pas_profile.specs.Classes.{has_bit};
+ghost use Rattle.pas_bits.specs.Bits.{has_bit};
 ghost use Rattle.pas_profile.specs.Profiles.{IsDirectoryOf};
 ghost use Rattle.pas_steps.specs.Desks.{AnyView, CanCall};
 ghost use Rattle.pas_scan.specs.Rows.{ReadsRow, ShowsNone, IsLowestShown};

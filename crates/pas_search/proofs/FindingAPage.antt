@@ -19,7 +19,7 @@ use Rattle.pas_search.specs.Searches.{search_steps, Searching, AllAccounted, IsR
 use Rattle.pas_search.proofs.PagesThatServe.{no_deeds, served_search, deeds_serves, AreVain, reads_vain, vain_lacks, vain_search, searched, vain_searching, ready, got_search, finds}
 use Rattle.pas_search.proofs.ForBackEnds.{events_quiet, room_kept}
 use Rattle.pas_steps.proofs.Frames.{right_own, events_append, lacks_now}
-use Rattle.pas_profile.specs.Classes.{has_bit}
+use Rattle.pas_bits.specs.Bits.{has_bit}
 use Rattle.pas_profile.specs.Directories.{deed_word_of, deed_word_numbered, number_of}
 use Rattle.pas_profile.specs.Profiles.{IsValid, IsPage, IsDirectoryOf}
 use Rattle.pas_profile.specs.declared.word.Word.TheVariants as Word

@@ -1,7 +1,7 @@
 -- What takes and puts leave: the takes of the page, and grains that aren't held. And slots that are given up.
 use Rattle.std.proofs.Common.{◌≡◌, ℕ, zero, suc, ◌/◌, ◌%◌, ◌==◌, Bool, true, false, if◌then◌else◌, List, [], ◌∷◌, ◌++◌, refl, ap, sym, ◌∙◌, subst, arith, inl, append_assoc, length-append, ◌&&◌}
 use Rattle.std.proofs.lemmas.Bool.{eq-eqb, and_from, cond_both}
-use Rattle.pas_profile.specs.Classes.{has_bit}
+use Rattle.pas_bits.specs.Bits.{has_bit}
 use Rattle.pas_profile.specs.declared.directory.Directory.{Directory}
 use Rattle.pas_bits.specs.declared.mask.Mask4.{Mask4}
 use Rattle.pas_rights.specs.Leaves.{MayLeave, Leaves}

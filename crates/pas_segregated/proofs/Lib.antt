@@ -1,5 +1,5 @@
 pub mod Starts
-pub mod GivenUp
+mod GivenUp
 mod WholeSlots
-pub mod Serve
+mod Serve
 pub mod Alone

@@ -3,7 +3,8 @@ use Rattle.std.proofs.Common.{◌≡◌, ℕ, ◌+◌, ◌-◌, ◌*◌, ◌/◌
 use Rattle.std.proofs.lemmas.Bool.{agree_below, agree_below_at, and_parts, and_from, eqb-true, eq-eqb, leb-true, le-leb, lt-leb, cases_lt, and_right, false_from_ne_true}
 use Rattle.std.proofs.lemmas.Nat.{div-add-mod', same_from_place}
 use Rattle.std.proofs.Math.Nat.{mod-lt}
-use Rattle.pas_profile.specs.Classes.{has_bit, IsClass, class_grains, usable_grains, IsSlotStart}
+use Rattle.pas_profile.specs.Classes.{IsClass, class_grains, usable_grains, IsSlotStart}
+use Rattle.pas_bits.specs.Bits.{has_bit}
 use Rattle.pas_profile.proofs.Sizes.{of_each_class, class_passes}
 use Rattle.pas_profile.proofs.ClassFacts.{class_grains_positive, usable_grains_le, slot_end}
 use Rattle.pas_bits.specs.declared.mask.Mask4.{Mask4}

@@ -1,7 +1,8 @@
 -- The slots that the takes of a page got whole, and the grains that are put back.
 use Rattle.std.proofs.Common.{◌≡◌, ◌≢◌, ℕ, ◌+◌, ◌*◌, ◌/◌, ◌%◌, ◌<◌, ◌==◌, ◌↔◌, IsTrue, Bool, true, false, not, ◌&&◌, if◌then◌else◌, List, [], ◌∷◌, ◌++◌, refl, ap, sym, ◌∙◌, subst, arith, inl, inr, append_assoc, length-append, true≢false}
 use Rattle.std.proofs.lemmas.Bool.{cases_Bool, eq-eqb, and_parts, and_from, and_right, lt-ltb}
-use Rattle.pas_profile.specs.Classes.{has_bit, IsClass, class_grains, usable_grains, is_usable, IsSlotStart}
+use Rattle.pas_profile.specs.Classes.{IsClass, class_grains, usable_grains, is_usable, IsSlotStart}
+use Rattle.pas_bits.specs.Bits.{has_bit}
 use Rattle.pas_profile.specs.declared.directory.Directory.{Directory}
 use Rattle.pas_profile.proofs.ClassFacts.{class_grains_positive, usable_grains_le, usable_grains_ge, first_slot}
 use Rattle.pas_bits.specs.declared.mask.Mask4.{Mask4}

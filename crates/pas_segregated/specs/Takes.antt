@@ -1,6 +1,7 @@
 -- The slots of a page that are taken.
 use Rattle.std.specs.Prelude.{ℕ, ◌/◌, ◌%◌, ◌<◌, ◌≤◌, ◌≡◌, ◌==◌, ◌↔◌, IsTrue, Bool, true, not, ◌&&◌, if◌then◌else◌, List, [], ◌∷◌, ◌++◌, length}
-use Rattle.pas_profile.specs.Classes.{has_bit, is_usable, class_grains, IsSlotStart}
+use Rattle.pas_profile.specs.Classes.{is_usable, class_grains, IsSlotStart}
+use Rattle.pas_bits.specs.Bits.{has_bit}
 use Rattle.pas_profile.specs.declared.directory.Directory.{Directory}
 use Rattle.pas_profile.specs.declared.directory.Kind.TheVariants as Kind
 use Rattle.pas_bits.specs.declared.mask.Mask4.{Mask4}

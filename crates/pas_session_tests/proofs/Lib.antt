@@ -1,4 +1,4 @@
-pub mod Besides
-pub mod Riding
-pub mod Sharing
-pub mod Stormed
+mod Besides
+mod Riding
+mod Sharing
+mod Stormed

@@ -1,3 +1,3 @@
-pub mod Ruling
+mod Ruling
 pub mod Opened
 pub mod Pops

@@ -1,2 +1,2 @@
 pub mod Firsts
-pub mod Working
+mod Working

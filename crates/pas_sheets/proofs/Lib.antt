@@ -1,2 +1,2 @@
-pub mod Dealt
-pub mod Written
+mod Dealt
+mod Written

@@ -2,7 +2,7 @@
 use Rattle.std.proofs.Common.{ℕ, ◌+◌, ◌*◌, ◌/◌, ◌^◌, ◌<◌, ◌≤◌, arith, ◌%◌, ◌≡◌, Bool, true, false, if◌then◌else◌, List, length, ap, sym, ◌∙◌, subst}
 use Rattle.pas_profile.specs.Profiles.{IsValid, vector_words, IsWordOf, IsWordIn}
 use Rattle.pas_profile.specs.declared.profile.Profile.{Profile}
-use Rattle.pas_profile.specs.Runs.{address_of}
+use Rattle.pas_profile.specs.Blocks.{address_of}
 use Rattle.pas_steps.specs.Allowed.{IsStepOf, Allowed}
 use Rattle.pas_steps.specs.Ranges.{IsRanged}
 use Rattle.pas_steps.specs.declared.step.Step.{Step}

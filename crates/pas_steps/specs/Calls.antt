@@ -1,7 +1,8 @@
 -- What a call does to what its actor holds, has and owes. That it still knows each deed that it knew is a law of all steps, and no matter of calls.
 use Rattle.std.specs.Prelude.{ℕ, ◌/◌, ◌≡◌, ◌==◌, Bool, true, false, ◌&&◌, if◌then◌else◌, List, ◌++◌}
 use Rattle.pas_profile.specs.declared.profile.Profile.{Profile}
-use Rattle.pas_profile.specs.Runs.{meets_page, grain_of}
+use Rattle.pas_bits.specs.Runs.{meets_page}
+use Rattle.pas_profile.specs.Blocks.{grain_of}
 use Rattle.pas_steps.specs.Agreement.{Agreed}
 use Rattle.pas_steps.specs.Clear.{IsClearOn}
 use Rattle.pas_steps.specs.Desks.{Standing, Adds}

@@ -1,12 +1,12 @@
 -- What a step does to its one word.
 use Rattle.std.specs.Prelude.{ℕ, ◌+◌, ◌/◌, ◌%◌, ◌==◌, max, Bool, ◌&&◌, if◌then◌else◌, bit_and, bit_or}
 use Rattle.std.specs.Int.{bit_not, w64}
-use Rattle.pas_profile.specs.Classes.{has_bit}
+use Rattle.pas_bits.specs.Bits.{has_bit}
 use Rattle.pas_profile.specs.Directories.{deed_word_of, number_of}
 use Rattle.pas_profile.specs.Lives.{live_word}
 use Rattle.pas_profile.specs.declared.directory.Directory.{Directory}
 use Rattle.pas_profile.specs.declared.word.Word.{Word}
-use Rattle.pas_profile.specs.Runs.{grain_of, length_of}
+use Rattle.pas_profile.specs.Blocks.{grain_of, length_of}
 use Rattle.pas_bits.specs.PageVectors.{page_mask}
 use Rattle.pas_steps.specs.declared.step.Step.{Step}
 use Rattle.pas_steps.specs.declared.step.Step.TheVariants.{Look, Deed, Back, Take, Put, Give, End, EndSized, TakeRight, Offer, Park, Unpark, Stamp, Hint, Tick, Unback, Unhint}

@@ -1,13 +1,15 @@
 -- What an actor holds, has and knows. All of it follows from the list of the actor's own steps with their answers, the NEWEST FIRST:
 -- for each thing one table says what a step does to it, a kind of step a line, and the thing is the table applied step by step.
 use Rattle.std.specs.Prelude.{ℕ, zero, suc, ◌+◌, ◌-◌, ◌*◌, ◌/◌, ◌%◌, ◌^◌, ◌≡◌, ◌==◌, max, bit_and, Bool, true, false, not, ◌&&◌, ◌||◌, if◌then◌else◌, List, [], ◌∷◌, Option, None, Some}
-use Rattle.pas_profile.specs.Classes.{has_bit, is_usable}
+use Rattle.pas_profile.specs.Classes.{is_usable}
+use Rattle.pas_bits.specs.Bits.{has_bit}
 use Rattle.pas_profile.specs.declared.directory.Directory.{Directory}
 use Rattle.pas_profile.specs.declared.directory.Kind.{Kind}
 use Rattle.pas_profile.specs.Directories.{deed_word_of, deed_word_numbered, directory_read, number_of}
 use Rattle.pas_profile.specs.Lives.{is_live, turn_of, grains_of}
 use Rattle.pas_profile.specs.declared.word.Word.{Word}
-use Rattle.pas_profile.specs.Runs.{in_run, meets_page, grain_of, length_of}
+use Rattle.pas_bits.specs.Runs.{in_run, meets_page}
+use Rattle.pas_profile.specs.Blocks.{grain_of, length_of}
 use Rattle.pas_steps.specs.Effects.{in_mask, succeeds}
 use Rattle.pas_steps.specs.Past.{Once}
 use Rattle.pas_steps.specs.declared.step.Step.{Step}

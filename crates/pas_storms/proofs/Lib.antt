@@ -1,3 +1,3 @@
 pub mod Going
-pub mod Kept
-pub mod Unfinished
+mod Kept
+mod Unfinished

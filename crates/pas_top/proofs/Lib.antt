@@ -1,3 +1,3 @@
-pub mod Statuses
-pub mod Headline
-pub mod Summing
+mod Statuses
+mod Headline
+mod Summing

@@ -1,8 +1,8 @@
-pub mod Bringing
-pub mod Found
-pub mod Fills
-pub mod Borrowed
-pub mod Ageing
-pub mod Intruding
-pub mod Borrowing
-pub mod ByRooms
+mod Bringing
+mod Found
+mod Fills
+mod Borrowed
+mod Ageing
+mod Intruding
+mod Borrowing
+mod ByRooms

@@ -1,6 +1,6 @@
 //! A thread takes blocks from its cache and gives them up again.
 ghost use Rattle.std.specs.Prelude.{ℕ, ◌≡◌, ◌+◌, ◌-◌, ◌^◌, ◌<◌, ◌≤◌, [], false, MatchResult};
-ghost use Rattle.pas_profile.specs.Classes.{has_bit};
+ghost use Rattle.pas_bits.specs.Bits.{has_bit};
 ghost use Rattle.pas_steps.specs.Desks.{AnyView, CanCall};
 ghost use Rattle.pas_cache.specs.Caches.{cached, AtRest};
 ghost use Rattle.pas_steps.specs.Unknown.{unknown_pages};

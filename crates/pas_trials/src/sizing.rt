@@ -1,6 +1,6 @@
 //! A thread takes a block from its cache, and ends it by its room.
 ghost use Rattle.std.specs.Prelude.{◌≡◌, ◌+◌, ◌≤◌, false};
-ghost use Rattle.pas_profile.specs.Classes.{has_bit};
+ghost use Rattle.pas_bits.specs.Bits.{has_bit};
 ghost use Rattle.pas_steps.specs.Desks.{AnyView, CanCall};
 ghost use Rattle.pas_cache.specs.Caches.{cached, AtRest};
 ghost use Rattle.pas_steps.specs.Unknown.{unknown_pages};

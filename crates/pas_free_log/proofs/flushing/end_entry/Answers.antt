@@ -1,6 +1,6 @@
 use Rattle.std.proofs.Common.{List, length, ap, sym, subst}
 use Rattle.pas_profile.specs.declared.event.Event.{Event}
-use Rattle.pas_profile.specs.Runs.{grain_of}
+use Rattle.pas_profile.specs.Blocks.{grain_of}
 use Rattle.pas_steps.proofs.Called.{next_call}
 use Rattle.pas_free_log.specs.Conditions.{MayEnd, IsRun}
 use Rattle.pas_free_log.specs.declared.ending.Outcome.TheVariants.{Ended, Refused}

@@ -7,7 +7,7 @@ use Rattle.pas_profile.specs.declared.name.Block.{Block}
 use Rattle.pas_profile.specs.declared.name.Name.{Name}
 use Rattle.pas_profile.specs.declared.profile.Profile.{Profile}
 use Rattle.pas_profile.specs.declared.word.Word.TheVariants as Word
-use Rattle.pas_profile.specs.Runs.{in_run}
+use Rattle.pas_bits.specs.Runs.{in_run}
 use Rattle.pas_steps.specs.Allowed.{Allowed, KnowsBearing}
 use Rattle.pas_steps.specs.Desks.{made, Makes}
 use Rattle.pas_steps.specs.Views.{View, any_below, holds, has_right, known_deed, knows_backed, known_life}

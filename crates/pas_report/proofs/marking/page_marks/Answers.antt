@@ -1,5 +1,5 @@
 use Rattle.std.proofs.Common.{ℕ, ◌%◌, ◌==◌, Bool, ap, ◌∙◌}
-use Rattle.pas_profile.specs.Classes.{has_bit}
+use Rattle.pas_bits.specs.Bits.{has_bit}
 use Rattle.pas_report.specs.Counts.{marked_in}
 use Rattle.pas_report.proofs.MarkBits.{with_bit, bits_set}
 use Rattle.pas_report.proofs.marking.page_marks.Goals as goal

@@ -1,5 +1,5 @@
 use Rattle.std.proofs.Common.{◌∙◌, ap, arith}
-use Rattle.pas_profile.specs.Classes.{has_bit}
+use Rattle.pas_bits.specs.Bits.{has_bit}
 use Rattle.pas_profile.specs.declared.profile.Profile.{Profile}
 use Rattle.pas_session_tests.proofs.Stormed.{may_begin}
 use Rattle.pas_session_tests.proofs.cache_tests.a_region_of_twenty_classes_serves_each.Goals as goal

@@ -1,5 +1,5 @@
 use Rattle.std.proofs.Common.{◌≡◌, ◌+◌, ◌-◌, ◌*◌, ◌≤◌, false, sym, subst, arith}
-use Rattle.pas_profile.specs.Classes.{has_bit}
+use Rattle.pas_bits.specs.Bits.{has_bit}
 use Rattle.pas_steps.specs.Desks.{Seat}
 use Rattle.pas_session_tests.proofs.Stormed.{fewer}
 use Rattle.pas_session_tests.proofs.cache_tests.serves_each_class.Goals as goal

@@ -1,6 +1,6 @@
 use Rattle.std.proofs.Common.{◌≡◌, true, false, sym, ◌∙◌, arith}
 use Rattle.std.proofs.lemmas.Bool.{false≢true}
-use Rattle.pas_profile.specs.Runs.{address_of}
+use Rattle.pas_profile.specs.Blocks.{address_of}
 use Rattle.pas_machine.specs.Places.{IsOfHeap}
 use Rattle.pas_machine.specs.declared.places.Page.{Page}
 use Rattle.pas_machine.proofs.Verdicts.{inside_never, give_before, number_below, gives_are, place_at, some_page, each_page, some_lives, none_lives}
