@@ -15,8 +15,8 @@ MOST_JOBS = 4
 TIME_WITH_JOBS = {1: 1.0, 2: 0.8, 3: 0.72, 4: 0.65}
 # The time of a crate that the table of times doesn't have.
 USUAL_SECONDS = 40.0
-# What these crates take by the clock beyond their proofs, with one process at work.
-MORE_SECONDS = {"pas_top": 120.0, "pas": 140.0}
+# What these crates take by the clock beyond their proofs, with one process at work: a program is compiled twice.
+MORE_SECONDS = {"pas": 85.0}
 
 
 @dataclass
@@ -42,7 +42,7 @@ class Crate:
 
     def is_built(self) -> bool:
         """Whether nothing in the folder is younger than what was built: a guess, for the estimate alone."""
-        built = self.folder / (f"out/{self.name}.stamp" if self.is_program else "out/rlib/stamp")
+        built = self.folder / "out/rlib/stamp"
         files = [file for part in ("src", "specs", "proofs") for file in (self.folder / part).rglob("*")]
         return built.is_file() and all(file.stat().st_mtime <= built.stat().st_mtime for file in files)
 
@@ -71,8 +71,9 @@ def read_crates(top: str) -> dict[str, Crate]:
     return wanted
 
 
-def set_seconds(crates: dict[str, Crate]) -> None:
-    """Gives each crate its time by the table in docs/GATE.md, as this machine would take it, and that of its chain."""
+def set_seconds(crates: dict[str, Crate], anew: bool) -> None:
+    """Gives each crate its time by the table in docs/GATE.md, as this machine would take it, and that of its chain: from
+    nothing, or over the libraries that are built."""
     text = (ROOT / "docs/GATE.md").read_text()
     text = text.partition("<!-- times by crate -->")[2].partition("<!-- end -->")[0]
     there = re.search(r"compares\s+machines\s+takes\s+([\d.]+)\s+seconds", text)
@@ -80,7 +81,7 @@ def set_seconds(crates: dict[str, Crate]) -> None:
     times = dict(re.findall(r"(?m)^\| `(\w+)` \| (\d+) ", text))
     changed: set[str] = set()
     for crate in crates.values():
-        if crate.is_built() and not crate.below & changed:
+        if not anew and crate.is_built() and not crate.below & changed:
             crate.seconds = 1.0
         else:
             changed.add(crate.name)

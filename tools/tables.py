@@ -28,6 +28,7 @@ TYPES = {
     "Step": "pas_steps/src/step.rt",
     "StepKind": "pas_steps/specs/Kinds.antt",
     "Item": "pas_trace/src/item.rt",
+    "Wish": "pas_trace/src/item.rt",
     "What": "pas_trace/src/plan.rt",
     "Act": "pas_trace/specs/Acts.antt",
     "Event": "pas_profile/src/event.rt",
@@ -36,8 +37,6 @@ TYPES = {
     "Kind": "pas_profile/src/directory.rt",
     "Route": "pas_profile/src/directory.rt",
 }
-# The modules that hand a type on.
-HANDED_ON = {"Act": ("Rattle.pas_answers.specs.Acts",)}
 WIDTH = 120
 BEGIN, END = "<!-- tables of ", "<!-- end of tables -->"
 LIST = re.compile(rf"{BEGIN}(\w+) -->\n(?:(?!{BEGIN}).)*?{END}", re.S)
@@ -102,7 +101,7 @@ def type_of(name):
         module, variants = stem, re.findall(r"(?m)^\s+([\w'-]+) :", body)
     if not variants:
         sys.exit(f"tables.py: crates/{file} has no type {name}")
-    return Type(name, file, (f"Rattle.{crate}.specs.{module}", *HANDED_ON.get(name, ())), variants)
+    return Type(name, file, (f"Rattle.{crate}.specs.{module}",), variants)
 
 
 def words_for(kind, text, file):
