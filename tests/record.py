@@ -5,8 +5,9 @@ Tests the recorder of tools/record and tools/trace_of.py with the program `pas`.
 should. A program whose threads race, whose children fork and which is killed (tests/racing_requests.c) says how many calls it made, and its logs
 have each of them, in an order in which no address is given twice without a free between. Three programs of this machine, one with threads, are
 recorded, and their traces, with one heap and several, with and without the scavenger's lines, are replayed by `order` and by `run`: none has a fault,
-nothing is refused, and as many blocks live at the end as the log says. Where there is no gcc nothing is recorded, and that is said. Prints what was
-checked; the status is 1 where something was wrong."""
+nothing is refused, and as many blocks live at the end as the log says. So do their traces of versions 2 to 4, with sized frees and, in version 4, a
+line for each realloc, by a second reading of the format (versions.py); and by the program, where it reads such a version. Where there is no gcc
+nothing is recorded, and that is said. Prints what was checked; the status is 1 where something was wrong."""
 
 import os
 import pathlib
@@ -26,6 +27,9 @@ ROOT = pathlib.Path(__file__).resolve().parent.parent
 sys.dont_write_bytecode = True
 sys.path.insert(0, str(ROOT / "tools"))
 import trace_text
+
+sys.path.insert(0, str(ROOT / "tests"))
+import versions
 
 RECORD, TRACE_OF, RACE = ROOT / "tools/record/record", ROOT / "tools/trace_of.py", ROOT / "tests/racing_requests.c"
 HEAD, RECORD_SHAPE, HEAD_ROOM = "<8sQQII1024s", "<QQQQIBB2x", 4096
@@ -58,6 +62,9 @@ WAYS = [
     ["--heaps", "site", "--tick", "500", "--pass", "5000", "--idle", "1500"],
     ["--heaps", "size", "--tick", "1000", "--threads", "2", "--pages", "3000"],
 ]
+
+LATER_WAYS = [["--version", "2", "--sized"], ["--version", "3", "--sized", "--heaps", "size", "--pass", "5000"], ["--version", "4"],
+              ["--version", "4", "--sized", "--heaps", "site", "--tick", "500", "--threads", "2"]]
 
 checks, wrong = 0, []
 
@@ -155,12 +162,22 @@ BY_HAND = {
 }
 
 
+def second_reading(what, text):
+    """The second reading of a trace, in which each line frees and moves what lives."""
+    try:
+        return versions.read(text)
+    except (versions.Fault, versions.Wrong) as fault:
+        check(False, f"{what}: by a second reading {fault}")
+        return None
+
+
 def test_by_hand(program, room):
     for what, (records, options, lines, cuts) in BY_HAND.items():
         made = trace_of(write_log(room / "hand.log", records), *options)
         check(made.returncode == 0 and made.stdout == "".join(line + "\n" for line in lines), f"{what}: status {made.returncode}\n{made.stdout}{made.stderr}")
         said = [line for line in made.stderr.splitlines() if "cut:" in line]
         check(len(said) == len(cuts) and all(cut in line for cut, line in zip(cuts, said)), f"{what}: not these cuts: {said}")
+        second_reading(what, made.stdout)
         if lines[0].startswith("pas 1"):
             run = called_with(program, "order", made.stdout)
             check(run.returncode == 0, f"{what}: the program finds a fault: {run.stdout}")
@@ -169,6 +186,30 @@ def test_by_hand(program, room):
 
 def called_with(program, word, text):
     return subprocess.run([program, word], input=text, stdout=subprocess.PIPE, stderr=subprocess.PIPE, text=True, timeout=MOST_SECONDS)
+
+
+MOVES = "pas 4 pages 2 threads 2 heaps 1 age 2\na 1 1 0 24 16\nm 1 2 1 32 16\nm 1 3 2 33 16\n"
+# What the second reading says of texts with a fault, or with a line that frees or moves what it shouldn't.
+SPOILT = {
+    "pas 5 pages 2 threads 1 heaps 1 age 2\n": "line 1: BadHeader", "pas 2 pages 4097 threads 1 heaps 1 age 2\n": "line 1: BadHeader",
+    MOVES + "m 1 2 3 9 16\n": "line 5: NameTaken", MOVES + "m 1 4 9 9 16\n": "line 5: NameUnknown", MOVES + "m 2 4 3 9 16\n": "line 5: TooEarly",
+    MOVES.replace("pas 4", "pas 3"): "line 3: BadWord", MOVES + "fs 1 3 24\n": "line 5: BadWord", MOVES + "fs 1 3 x 16\n": "line 5: BadNumber",
+    MOVES + "m 3 4 3 9 16\n": "line 5: BadThread", MOVES + "m 1 4 3 8193 16\n": "line 5: BadSize", MOVES + "fs 1 3 9 24\n": "line 5: BadAlign",
+    MOVES + "fs 1 3 49 16\n": "line 5: the block has 48 bytes", MOVES + "f 1 1\n": "line 5: the block has ended before",
+    MOVES + "f 1 3\nm 1 4 3 9 16\n": "line 6: what is moved has ended before",
+}
+
+
+def test_second_reading():
+    for text, wanted in SPOILT.items():
+        try:
+            said = f"{len(versions.read(text).live)} live"
+        except (versions.Fault, versions.Wrong) as fault:
+            said = str(fault)
+        check(said == wanted, f"the second reading says {said} and not {wanted} of\n{text}")
+    seen = versions.read(MOVES)
+    check((seen.live, seen.rooms, seen.kept) == ({1}, [32, 48], 1), f"the second reading of moves: {seen.live}, {seen.rooms}, {seen.kept}")
+    print(f"{len(SPOILT) + 1} texts by the second reading")
 
 
 def test_limits(program, room):
@@ -382,9 +423,37 @@ def test_program(program, room, name, command, environment):
             said = {word: int(total[total.index(word) + 1]) for word in ("live", "given")}
             check(said == {"live": len(live), "given": asked}, f"{what}: {' '.join(total)}, and the log has {len(live)} live of {asked}")
             check(not refused(run.stdout), f"{what}: {refused(run.stdout)[:2]}")
+    for options in LATER_WAYS:
+        test_version(program, f"{name} {' '.join(options)}", trace_of(log, *options), len(live), asked, moved_in(records))
     threads = len({each[4] for each in records})
-    print(f"{name}: {len(records):,} records of {threads} threads, {len(live):,} blocks live, {len(WAYS)} traces replayed in both ways")
+    print(f"{name}: {len(records):,} records of {threads} threads, {len(live):,} blocks live, {len(WAYS)} traces replayed in both ways, "
+          f"{len(LATER_WAYS)} of later versions read a second time")
     return threads
+
+
+def moved_in(records):
+    """How many reallocs of a block gave one."""
+    return sum(chr(each[-1]) == ">" and each[0] != 0 and each[1] != 0 for each in records)
+
+
+def test_version(program, what, converted, live, asked, moved):
+    """A trace of a later version: each realloc of a block is a line, and what lives at the end is what the log says."""
+    check(converted.returncode == 0 and all("share another's number" in line for line in converted.stderr.splitlines()[1:]), f"{what}: {converted.stderr}")
+    seen = second_reading(what, converted.stdout)
+    if seen is None:
+        return
+    given = asked - seen.kept
+    check(seen.moved == (moved if seen.version == 4 else 0), f"{what}: {seen.moved} lines m of {moved} reallocs")
+    check(len(seen.live) == live and len(seen.rooms) == given, f"{what}: {len(seen.live)} of {len(seen.rooms)} live, and the log has {live} of {given}")
+    for word in ("order", "run"):
+        run = called_with(program, word, converted.stdout)
+        if run.stdout == "line 1: BadHeader\n":
+            continue
+        total = run.stdout.splitlines()[-1].split()
+        said = {word: int(total[total.index(word) + 1]) for word in ("live", "given")} if run.returncode == 0 else {}
+        check(said == {"live": live, "given": given}, f"{what}, {word}: status {run.returncode}, {' '.join(total)}, and the log has {live} live of {given}")
+        odd = refused(run.stdout) + [line for line in run.stdout.splitlines() if " size-differs " in line]
+        check(not odd, f"{what}, {word}: {odd[:2]}")
 
 
 def main():
@@ -393,6 +462,7 @@ def main():
     program = str(pathlib.Path(sys.argv[1]).resolve())
     with tempfile.TemporaryDirectory() as room:
         room = pathlib.Path(room)
+        test_second_reading()
         test_by_hand(program, room)
         test_limits(program, room)
         test_refusals(room)
