@@ -36,7 +36,7 @@ def find() -> str:
     return os.path.realpath(found)
 
 
-@functools.cache
+@functools.lru_cache(maxsize=None)
 def knows(word: str) -> bool:
     """Whether the kit's rt tells of this word in its help: kits differ."""
     words = [find(), "help"]
