@@ -2,7 +2,7 @@
 """Runs the kit's `rt` with these words, with the sum of each crate's files made once.
 
 For each library `rt` makes a sum of the crate's files and of the sums of those that it stands on, and so reads a crate
-once for each way that leads down to it: for pas_top 10,349 times, which takes half a minute of one processor, twice.
+once for each way that leads down to it: for pas_top 9,557 times, which takes half a minute of one processor, twice.
 Here a crate's sum is kept until the command ends. So no file of the crates may change meanwhile: tools/prove runs it on
 a copy. The verdict is the kit's: no code of it but that of the sum is another here, and where the kit makes the sum by
 other code than is known here, or isn't Python, the words go to it as they are.
