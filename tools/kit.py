@@ -24,7 +24,7 @@ import sys
 from pathlib import Path
 from types import ModuleType
 
-# The code by which rattle-kit-13b makes the sum: it reads the crate's files and those below, and nothing that a run writes.
+# The code by which rattle-kit-13b makes the sum: of the files of the crate and of those below it, which no run writes.
 KNOWN_SUMS = {"bd65806bc231da43"}
 
 
