@@ -1,5 +1,5 @@
 -- Each act of a replay in the order of the text.
-use Rattle.std.proofs.Common.{◌≡◌, ℕ, ◌+◌, ◌≤◌, ◌==◌, max, nat_le, Bool, true, false, List, [], ◌∷◌, ◌++◌, inl, inr, refl, ap, sym, ◌∙◌, subst, append-nil, append_assoc, arith}
+use Rattle.std.proofs.Common.{◌≡◌, ℕ, ◌+◌, ◌==◌, max, nat_le, true, false, List, [], ◌∷◌, ◌++◌, inl, inr, refl, ap, sym, ◌∙◌, subst, append-nil, arith}
 use Rattle.std.specs.Prelude.{map}
 use Rattle.std.proofs.lemmas.Bool.{false_from_ne_true, le-leb, leb-true}
 use Rattle.pas_profile.specs.Profiles.{IsValid}
@@ -7,7 +7,7 @@ use Rattle.pas_profile.specs.declared.profile.Profile.{Profile}
 use Rattle.pas_profile.specs.declared.word.Word.TheVariants as Word
 use Rattle.pas_steps.specs.Desks.{made, triples}
 use Rattle.pas_steps.specs.Events.{events_by}
-use Rattle.pas_steps.specs.Lists.{Legal, part, visible, word_after}
+use Rattle.pas_steps.specs.Lists.{Legal, part, word_after}
 use Rattle.pas_steps.specs.declared.step.Made.{Made}
 use Rattle.pas_steps.specs.declared.step.Step.TheVariants.{Tick}
 use Rattle.pas_free_log.specs.Logs.{entry_of}
@@ -16,8 +16,7 @@ use Rattle.pas_report.specs.Lines.{line_of}
 use Rattle.pas_report.specs.declared.record.Record.{Record}
 use Rattle.pas_report.specs.declared.record.Said.{Said}
 use Rattle.pas_trace.specs.Acts.{Act, Operates, Settles, Ticks, MakesPass, ReadsEpoch, StopsIdle, MarksPhase, Wakes, MarksClose, Ends}
-use Rattle.pas_passes.specs.Records.{records_of_pass}
-use Rattle.pas_answers.specs.Answers.{IsIdleFor, IsStopped, Progress, after_reading, after_settling, after_stop, after_tick, after_wake, begun as woken, epoch_look, records_of, said_by, settled, stopped, with_cache, with_records}
+use Rattle.pas_answers.specs.Answers.{IsIdleFor, IsStopped, Progress, after_reading, after_settling, after_stop, after_tick, after_wake, begun as woken, epoch_look, records_of, settled, stopped, with_cache, with_records}
 use Rattle.pas_answers.specs.Reaching.{Advances}
 use Rattle.pas_answers.specs.Refusals.{ActRefusesTruly}
 use Rattle.pas_answers.proofs.Consequences.{tidy_piece}

@@ -14,7 +14,7 @@ use Rattle.pas_steps.proofs.Calls.{returns_are}
 use Rattle.pas_rights.proofs.Orders.{return_returns}
 use Rattle.pas_rights.proofs.Puts.{puts_kinds}
 use Rattle.pas_free_log.specs.Endings.{EndSteps, Tries, TriesBy, last_step}
-use Rattle.pas_free_log.specs.Flushes.{AfterEnd, EntriesSteps, EntrySteps, Settled}
+use Rattle.pas_free_log.specs.Flushes.{AfterEnd, EntrySteps, Settled}
 use Rattle.pas_free_log.specs.Frames.{freeing}
 use Rattle.pas_free_log.specs.Logs.{is_sized}
 use Rattle.pas_free_log.specs.Returns.{PageSteps, count_on, first_on}

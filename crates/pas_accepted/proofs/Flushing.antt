@@ -1,5 +1,5 @@
 -- The entries of a log that is emptied answer what is due, one after the other.
-use Rattle.std.proofs.Common.{◌≡◌, ℕ, ◌==◌, Bool, true, false, not, if◌then◌else◌, List, [], ◌∷◌, ◌++◌, inl, inr, refl, ap, sym, ◌∙◌, subst, append_assoc}
+use Rattle.std.proofs.Common.{◌≡◌, ℕ, ◌==◌, Bool, true, false, not, if◌then◌else◌, List, [], ◌∷◌, ◌++◌, inr, refl, ap, sym, ◌∙◌, subst, append_assoc}
 use Rattle.std.specs.Prelude.{map, reverse, nat_lt}
 use Rattle.std.specs.List.{AllByRecursion}
 use Rattle.std.proofs.lemmas.List.{map-append, reverse-append, reverse-reverse}
@@ -15,7 +15,7 @@ use Rattle.pas_machine.specs.Machine.{Admits, Run}
 use Rattle.pas_core.proofs.MachineRuns.{runs}
 use Rattle.pas_core.proofs.OneActor.{legal_earlier}
 use Rattle.pas_steps.specs.Desks.{made, triples}
-use Rattle.pas_steps.specs.Events.{events_by, reason_of}
+use Rattle.pas_steps.specs.Events.{events_by}
 use Rattle.pas_steps.specs.Lists.{Legal, part, visible}
 use Rattle.pas_steps.specs.declared.step.Made.{Made}
 use Rattle.pas_steps.specs.declared.step.Step.TheVariants.{Look}

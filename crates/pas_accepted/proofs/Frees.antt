@@ -1,6 +1,5 @@
 -- A free: its name is logged, after a full log was emptied; or it is said why it can't be any block's.
-use Rattle.std.proofs.Common.{◌≡◌, ◌≢◌, ℕ, ◌/◌, ◌%◌, ◌≤◌, ◌==◌, nat_le, Bool, true, false, ◌&&◌, List, [], ◌∷◌, ◌++◌, length, Option, Some, None, inl, inr, refl, ap, sym, ◌∙◌, subst, append-nil}
-use Rattle.std.specs.Prelude.{map}
+use Rattle.std.proofs.Common.{◌≡◌, ℕ, ◌/◌, ◌%◌, nat_le, Bool, true, false, List, [], ◌∷◌, ◌++◌, length, Option, Some, None, inl, inr, refl, ap, sym, ◌∙◌, append-nil}
 use Rattle.std.proofs.lemmas.Bool.{and_from, and_parts, eq-eqb, false_from_ne_true, le-leb, leb-true, ne_eqb}
 use Rattle.std.proofs.lemmas.List.{length-map, map-append}
 use Rattle.pas_profile.specs.Blocks.{address_of}
@@ -13,7 +12,6 @@ use Rattle.pas_profile.specs.declared.word.Word.TheVariants as Word
 use Rattle.pas_steps.specs.Desks.{triples}
 use Rattle.pas_steps.specs.Events.{events_by}
 use Rattle.pas_steps.specs.Lists.{Legal, part, visible, word_after}
-use Rattle.pas_steps.specs.declared.step.Made.{Made}
 use Rattle.pas_free_log.specs.Frames.{freeing as freeing_kinds}
 use Rattle.pas_free_log.specs.Logs.{entry_of}
 use Rattle.pas_free_log.specs.declared.log.Entry.{Entry}
@@ -23,15 +21,15 @@ use Rattle.pas_cache.specs.Changes.{EmptiesFull}
 use Rattle.pas_report.specs.Lines.{line_of}
 use Rattle.pas_report.specs.declared.record.Record.{Record}
 use Rattle.pas_report.specs.declared.record.Said.{Said}
-use Rattle.pas_answers.specs.Answers.{Answer, IsFreed, IsFreedBy, Progress, after_answer, records_of, said_by, said_of_fault, with_cache}
+use Rattle.pas_answers.specs.Answers.{Answer, IsFreed, IsFreedBy, Progress, after_answer, records_of, said_by, said_of_fault}
 use Rattle.pas_answers.proofs.Tidy.{Tidy}
 use Rattle.pas_check.specs.Begins.{freeing, freeing_at, freeing_named, is_aligned, is_page, logging, tells as saying}
-use Rattle.pas_check.specs.States.{Stand, Task, with_at}
+use Rattle.pas_check.specs.States.{Stand, Task}
 use Rattle.pas_check.specs.Tasks.{emptying}
 use Rattle.pas_check.proofs.Ticks.{epoch_kept}
 use Rattle.pas_accepted.proofs.FlushKinds.{flush_only}
 use Rattle.pas_accepted.proofs.Flushing.{flush_leads}
-use Rattle.pas_accepted.proofs.Going.{LeadsOn, on_as, on_both, on_line, on_same}
+use Rattle.pas_accepted.proofs.Going.{LeadsOn, on_as, on_both, on_line}
 use Rattle.pas_accepted.proofs.Pieces.{lines_by, table_same}
 use Rattle.pas_accepted.proofs.Stopping.{emptied, logs_with}
 use Rattle.pas_accepted.proofs.Telling.{Comes, Tells, told_after}

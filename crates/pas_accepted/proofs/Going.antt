@@ -1,5 +1,5 @@
 -- Lines that lead a check from one state to another.
-use Rattle.std.proofs.Common.{◌≡◌, ℕ, List, [], ◌∷◌, ◌++◌, inl, inr, refl, ap, sym, ◌∙◌, subst, append_assoc}
+use Rattle.std.proofs.Common.{◌≡◌, ℕ, List, [], ◌∷◌, ◌++◌, inl, inr, refl, ap, sym, subst, append_assoc}
 use Rattle.pas_profile.specs.declared.profile.Profile.{Profile}
 use Rattle.pas_check.specs.Accepted.{IsDone, IsWhole}
 use Rattle.pas_check.specs.Begins.{after_task, past_outcomes, ready, ready_with}

@@ -1,29 +1,26 @@
 -- A thread's operation, by what it asks for.
-use Rattle.std.proofs.Common.{◌≡◌, ℕ, List, [], ◌∷◌, ◌++◌, Option, Some, None, Result, refl, ap, sym, ◌∙◌, subst}
-use Rattle.std.specs.Prelude.{map}
+use Rattle.std.proofs.Common.{◌≡◌, ℕ, List, [], ◌∷◌, ◌++◌, None, Result, refl, ap, sym, ◌∙◌}
 use Rattle.pas_profile.specs.Profiles.{IsValid}
 use Rattle.pas_profile.specs.Requests.{route_in}
 use Rattle.pas_profile.specs.declared.directory.Route.{Route}
 use Rattle.pas_profile.specs.declared.event.NoRoom.{NoRoom}
 use Rattle.pas_profile.specs.declared.name.Block.{Block}
-use Rattle.pas_profile.specs.declared.name.Name.{Name}
 use Rattle.pas_profile.specs.declared.profile.Profile.{Profile}
 use Rattle.pas_steps.specs.Desks.{triples}
 use Rattle.pas_steps.specs.Events.{events_by}
-use Rattle.pas_steps.specs.Lists.{Legal, part, visible, word_after}
+use Rattle.pas_steps.specs.Lists.{Legal, part, visible}
 use Rattle.pas_steps.specs.declared.step.Made.{Made}
 use Rattle.pas_free_log.specs.Frames.{freeing}
-use Rattle.pas_free_log.specs.Logs.{entry_of}
 use Rattle.pas_cache.specs.Caches.{Cached}
 use Rattle.pas_cache.specs.Kinds.{allocating}
 use Rattle.pas_cache.specs.Serves.{ServesBy, Wanted, wanted_for}
 use Rattle.pas_cache.proofs.Budget.{log_kept}
 use Rattle.pas_report.specs.declared.record.Record.{Record}
-use Rattle.pas_trace.specs.Named.{Named, named, standing_for}
+use Rattle.pas_trace.specs.Named.{named, standing_for}
 use Rattle.pas_trace.specs.declared.item.Request.{Request}
 use Rattle.pas_trace.specs.declared.plan.What.{What}
 use Rattle.pas_trace.specs.declared.plan.What.TheVariants.{Alloc, Free, Raw, Flush, Stop, Tick, Pass, Idle}
-use Rattle.pas_answers.specs.Answers.{Answer, IsAnswered, Progress, after_answer, having, name_of, records_of, said_by, with_cache}
+use Rattle.pas_answers.specs.Answers.{Answer, IsAnswered, Progress, after_answer, having, name_of, records_of, said_by}
 use Rattle.pas_answers.specs.Refusals.{RefusesTruly}
 use Rattle.pas_answers.proofs.Tidy.{Tidy, answer_tidy}
 use Rattle.pas_check.specs.Begins.{begun_what, freeing_named}

@@ -1,5 +1,5 @@
 -- A pass: its first line says the greatest tick, and then come its outcomes.
-use Rattle.std.proofs.Common.{◌≡◌, ℕ, ◌+◌, ◌*◌, List, [], ◌∷◌, ◌++◌, Some, inr, refl, ap, sym, ◌∙◌, subst, append-nil}
+use Rattle.std.proofs.Common.{◌≡◌, ℕ, ◌*◌, List, [], ◌∷◌, ◌++◌, inr, refl, ap, sym, ◌∙◌, subst, append-nil}
 use Rattle.std.specs.Prelude.{map, reverse}
 use Rattle.std.proofs.lemmas.List.{reverse-reverse}
 use Rattle.pas_profile.specs.Profiles.{IsValid, vector_words}
@@ -8,7 +8,7 @@ use Rattle.pas_profile.specs.declared.profile.Profile.{Profile}
 use Rattle.pas_profile.specs.declared.word.Word.TheVariants as Word
 use Rattle.pas_core.proofs.OneActor.{legal_earlier}
 use Rattle.pas_steps.specs.Desks.{made, triples}
-use Rattle.pas_steps.specs.Lists.{Legal, Whole, part, visible, word_after}
+use Rattle.pas_steps.specs.Lists.{Legal, Whole, part, visible}
 use Rattle.pas_steps.specs.declared.step.Made.{Made}
 use Rattle.pas_steps.specs.declared.step.Step.TheVariants.{Look}
 use Rattle.pas_passes.specs.Records.{record_of, records_of_pass}
@@ -20,13 +20,13 @@ use Rattle.pas_trace.specs.Acts.{MakesPass}
 use Rattle.pas_answers.specs.Answers.{Progress, after_pass}
 use Rattle.pas_answers.proofs.Consequences.{tidy_piece}
 use Rattle.pas_answers.proofs.Tidy.{look_tidy, tidy_over}
-use Rattle.pas_check.specs.States.{Does, Due, Examines, Stand, Task, Writes, with_due}
+use Rattle.pas_check.specs.States.{Does, Examines, Stand, Task, Writes, with_due}
 use Rattle.pas_check.proofs.Ticks.{epoch_kept}
 use Rattle.pas_accepted.proofs.Going.{LeadsOn, on_as, on_both, on_line, on_past, on_same, on_task}
 use Rattle.pas_accepted.proofs.Outcomes.{MayPass, at_pass}
 use Rattle.pas_accepted.proofs.Pieces.{lines_by}
 use Rattle.pas_accepted.proofs.Telling.{Comes, Tells}
-use Rattle.pas_accepted.proofs.Tries.{Passed, both_pieces, outcome_lines, words_pass}
+use Rattle.pas_accepted.proofs.Tries.{Passed, both_pieces, words_pass}
 
 module _ (f : Profile) (valid : IsValid f) (p : Progress) (s : Stand) (ts : List Task) (tells : Tells p s) (due : s.due ≡ []) (left : s.left ≡ Does MakesPass ∷ ts) where
   -- by the epoch that the check knows

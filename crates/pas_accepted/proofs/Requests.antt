@@ -1,13 +1,12 @@
 -- A request: deeds and backs, and then the give of its block or a refusal, which is true.
-use Rattle.std.proofs.Common.{◌≡◌, ◌≢◌, ℕ, ◌/◌, ◌%◌, Bool, true, false, List, [], ◌∷◌, ◌++◌, Option, Some, None, Result, Ok, Err, inl, inr, refl, ap, sym, ◌∙◌, subst, append-nil}
+use Rattle.std.proofs.Common.{◌≡◌, ◌≢◌, ℕ, ◌/◌, Bool, true, false, List, [], ◌∷◌, ◌++◌, Option, Some, None, Result, Ok, Err, inl, inr, refl, ap, sym, ◌∙◌, subst, append-nil}
 use Rattle.std.specs.Prelude.{MatchResult}
 use Rattle.std.specs.List.{AllByRecursion}
 use Rattle.pas_bits.specs.Runs.{in_run}
-use Rattle.pas_profile.specs.Blocks.{address_of, grain_of, length_of}
+use Rattle.pas_profile.specs.Blocks.{grain_of, length_of}
 use Rattle.pas_profile.specs.Directories.{IsKind, deed_word_of}
 use Rattle.pas_profile.specs.Profiles.{IsValid}
-use Rattle.pas_profile.specs.Requests.{directory_for, is_shared, kind_of_route, route_in}
-use Rattle.pas_profile.specs.Routes.{route_of}
+use Rattle.pas_profile.specs.Requests.{is_shared, kind_of_route, route_in}
 use Rattle.pas_profile.specs.declared.directory.Directory.{Directory}
 use Rattle.pas_profile.specs.declared.directory.Route.{Route}
 use Rattle.pas_profile.specs.declared.event.Event.{Event}
@@ -27,7 +26,7 @@ use Rattle.pas_core.proofs.Rights.{deeds_known}
 use Rattle.pas_steps.specs.Desks.{triples}
 use Rattle.pas_steps.specs.Events.{actor_of, events_by}
 use Rattle.pas_steps.specs.Lists.{Legal, Whole, part, visible, word_after}
-use Rattle.pas_steps.specs.Views.{KnowsDeed, View, known_deed}
+use Rattle.pas_steps.specs.Views.{KnowsDeed, known_deed}
 use Rattle.pas_steps.specs.declared.step.Made.{Made}
 use Rattle.pas_steps.proofs.Events.{events_own}
 use Rattle.pas_steps.proofs.Parts.{part_of_own}
@@ -39,10 +38,10 @@ use Rattle.pas_segregated.specs.declared.slots.Slots.{Slots}
 use Rattle.pas_report.specs.Lines.{line_of_answer, line_of_event}
 use Rattle.pas_report.specs.declared.record.Record.{Record}
 use Rattle.pas_report.specs.declared.record.Said.{Said}
-use Rattle.pas_trace.specs.Named.{Named, named}
+use Rattle.pas_trace.specs.Named.{named}
 use Rattle.pas_trace.specs.declared.item.Request.{Request}
 use Rattle.pas_answers.specs.Answers.{IsGiven, RefusalEnds, RequestEnds, name_of, records_of, said_by, said_of_request, said_of_room, wanted_by}
-use Rattle.pas_check.specs.States.{Due, Serves, Stand, with_due}
+use Rattle.pas_check.specs.States.{Serves, Stand}
 use Rattle.pas_check.specs.Takes.{IsPreparing, IsRefusal, directory_of}
 use Rattle.pas_accepted.proofs.Going.{LeadsOn, on_as, on_both, on_line, on_same}
 use Rattle.pas_accepted.proofs.Pieces.{lines_both, lines_by, lines_more, visible_piece}

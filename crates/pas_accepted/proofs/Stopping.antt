@@ -1,14 +1,13 @@
 -- A thread's log is emptied, and its local allocators are stopped without an event.
-use Rattle.std.proofs.Common.{◌≡◌, ℕ, ◌==◌, List, [], ◌∷◌, ◌++◌, refl, ap, sym, ◌∙◌, subst}
+use Rattle.std.proofs.Common.{◌≡◌, ℕ, ◌==◌, List, [], ◌++◌, refl, ap, sym, ◌∙◌, subst}
 use Rattle.std.specs.Prelude.{map}
 use Rattle.pas_profile.specs.Profiles.{IsValid}
 use Rattle.pas_profile.specs.declared.name.Name.{Name}
 use Rattle.pas_profile.specs.declared.profile.Profile.{Profile}
-use Rattle.pas_profile.specs.declared.word.Word.TheVariants as Word
 use Rattle.pas_core.proofs.OneActor.{legal_earlier}
 use Rattle.pas_steps.specs.Desks.{triples}
 use Rattle.pas_steps.specs.Events.{events_by}
-use Rattle.pas_steps.specs.Lists.{Legal, part, visible, word_after}
+use Rattle.pas_steps.specs.Lists.{Legal, part, visible}
 use Rattle.pas_steps.specs.declared.step.Made.{Made}
 use Rattle.pas_steps.proofs.Frames.{events_append}
 use Rattle.pas_free_log.specs.Frames.{freeing}
@@ -25,7 +24,7 @@ use Rattle.pas_accepted.proofs.FlushKinds.{stop_only}
 use Rattle.pas_accepted.proofs.Flushing.{flush_leads}
 use Rattle.pas_accepted.proofs.Going.{LeadsOn, on_as}
 use Rattle.pas_accepted.proofs.Pieces.{lines_by, table_at, visible_piece}
-use Rattle.pas_accepted.proofs.Telling.{Comes, Tells, piece_of, told_after}
+use Rattle.pas_accepted.proofs.Telling.{Tells, piece_of, told_after}
 
 -- where thread k's log was emptied and has these names
 abbrev pub emptied : Progress → Stand → ℕ → List Made → List Name → List Due → List Task → Stand

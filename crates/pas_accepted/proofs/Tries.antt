@@ -1,5 +1,5 @@
 -- The pages of a pass, tried one after the other: their outcomes rise, and each may come.
-use Rattle.std.proofs.Common.{◌≡◌, ℕ, zero, suc, ◌+◌, ◌*◌, ◌<◌, ◌≤◌, Bool, true, false, if◌then◌else◌, List, [], ◌∷◌, ◌++◌, Option, Some, None, inl, inr, refl, ap, sym, ◌∙◌, subst, arith, append-nil}
+use Rattle.std.proofs.Common.{◌≡◌, ℕ, zero, suc, ◌+◌, ◌*◌, ◌<◌, ◌≤◌, Bool, true, false, if◌then◌else◌, List, [], ◌∷◌, ◌++◌, Option, Some, None, inl, refl, ap, sym, ◌∙◌, subst, arith, append-nil}
 use Rattle.std.specs.Prelude.{map, reverse}
 use Rattle.std.proofs.lemmas.List.{map-append, reverse-append}
 use Rattle.pas_bits.specs.Bits.{has_bit}
@@ -21,7 +21,7 @@ use Rattle.pas_steps.proofs.Parts.{part_of_own}
 use Rattle.pas_passes.specs.Records.{record_of}
 use Rattle.pas_report.specs.Lines.{line_of}
 use Rattle.pas_report.specs.declared.record.Record.{Record}
-use Rattle.pas_scavenger.specs.Pages.{ExamineSteps, examining, unback_of}
+use Rattle.pas_scavenger.specs.Pages.{examining, unback_of}
 use Rattle.pas_scavenger.specs.Passes.{TriedSteps, TrySteps, Tried, WordRead, WordSteps, all_tried, outcomes_in, pages_set, trying, with_outcome}
 use Rattle.pas_scavenger.proofs.Examinations.{examine_sized}
 use Rattle.pas_scavenger.proofs.Trying.{outcomes_append}

@@ -1,7 +1,7 @@
 mod Digits
 mod Readings
 pub mod Cuts
-mod Verdicts
+pub mod Verdicts
 pub mod Entries
 mod Examinings
 pub mod Ticks
