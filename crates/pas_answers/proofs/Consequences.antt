@@ -44,7 +44,7 @@ record Leaves (l l' : Whole) (rs rs' : List Record) : Type 0 where
   tidy : Each Tidy l → Each Tidy l'
   shown : EachShown rs → EachShown rs'
 
-tidy_piece : (k : ℕ) (steps : List Made) (l : Whole) → Each Tidy l → Tidy (steps ++ part k l) → Each Tidy (triples k steps ++ l)
+pub tidy_piece : (k : ℕ) (steps : List Made) (l : Whole) → Each Tidy l → Tidy (steps ++ part k l) → Each Tidy (triples k steps ++ l)
 tidy_piece k steps l all new j = elim (cases_eq k j) [
   | inl e ↦ subst (λ i. Tidy (part i (triples k steps ++ l))) e (subst Tidy (sym (part_of_own k steps l)) new)
   | inr ne ↦ subst Tidy (sym (part_of_others j k steps l ne)) (all j)
@@ -113,7 +113,7 @@ later_kept : (t : Bool) (m : Made) (v : View) → KeptPart (if t then m ∷ v el
 later_kept true m v all = all.1
 later_kept false m v all = all
 
-parts_kept : (l : Whole) → ((k : ℕ) → KeptPart (part k l)) → AllKeepToEnds l
+pub parts_kept : (l : Whole) → ((k : ℕ) → KeptPart (part k l)) → AllKeepToEnds l
 parts_kept [] all = tt
 parts_kept (t ∷ l) all = (
   (subst (λ (b : Bool). KeptPart (if b then t.made ∷ part t.actor l else part t.actor l)) (eq-eqb t.actor t.actor refl) (all t.actor)).0,
