@@ -4,14 +4,14 @@ use Rattle.std.specs.Prelude.{MatchOption}
 use Rattle.std.specs.List.{AllByRecursion, filter}
 use Rattle.pas_profile.specs.Directories.{IsKind}
 use Rattle.pas_profile.specs.Profiles.{IsAdmitted, IsValid}
-use Rattle.pas_profile.specs.Requests.{is_shared, kind_of_route, room_in, route_in}
+use Rattle.pas_profile.specs.Requests.{is_shared, kind_of_route, route_in}
 use Rattle.pas_profile.specs.Routes.{IsRouteOf, room_by}
 use Rattle.pas_profile.specs.declared.directory.Route.{Route}
 use Rattle.pas_profile.specs.declared.directory.Route.TheVariants.{Class, Bitfit, Large}
 use Rattle.pas_profile.specs.declared.profile.Profile.{Profile}
 use Rattle.pas_profile.proofs.ClassFacts.{class_known, route_is}
 use Rattle.pas_profile.proofs.Sizes.{class_size_le}
-use Rattle.pas_trace.specs.Acts.{Act, Operates, StopsIdle, MarksPhase, Wakes, Ends, is_active, numbers_from, acts_from, acts_of, acts_of_chore, acts_of_op, acts_of_ops, acts_of_work, active_threads, close_acts, idle_stops, idle_threads, phase_acts, threads_where}
+use Rattle.pas_trace.specs.Acts.{Act, StopsIdle, Wakes, Ends, is_active, numbers_from, acts_from, acts_of, acts_of_chore, acts_of_op, acts_of_ops, acts_of_work, active_threads, close_acts, idle_threads, phase_acts, threads_where}
 use Rattle.pas_trace.specs.Asked.{epoch_of, of_task, request_of, work_of}
 use Rattle.pas_trace.specs.EveryPlan.{AreBelow, AreSound, IsActorBy, IsSoundWork, IsSoundTask, all_ops, asked_after}
 use Rattle.pas_trace.specs.declared.plan.Chore.{Chore}

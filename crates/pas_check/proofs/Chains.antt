@@ -1,11 +1,11 @@
 -- Acts, one after the other.
-use Rattle.std.proofs.Common.{◌≡◌, ℕ, ◌^◌, ◌<◌, Bool, true, false, if◌then◌else◌, List, [], ◌∷◌, ◌++◌, map, refl, ap, subst, ◌∙◌, arith}
+use Rattle.std.proofs.Common.{◌≡◌, ℕ, Bool, true, false, if◌then◌else◌, List, [], ◌∷◌, ◌++◌, map, refl, ap, subst, ◌∙◌, arith}
 use Rattle.std.specs.List.{filter}
 use Rattle.pas_profile.specs.declared.profile.Profile.{Profile}
 use Rattle.pas_trace.specs.Acts.{Act, MakesPass}
-use Rattle.pas_check.specs.Checks.{ActsTaken, IsSized, IsSizedAs, IsSoFar, TakenTo, opening}
+use Rattle.pas_check.specs.Checks.{ActsTaken, IsSized, IsSizedAs, IsSoFar, TakenTo}
 use Rattle.pas_check.specs.Begins.{begun_act}
-use Rattle.pas_check.specs.Leading.{Fails, IsWithin}
+use Rattle.pas_check.specs.Leading.{IsWithin}
 use Rattle.pas_check.specs.States.{Task, Does, Reports, Stand}
 use Rattle.pas_check.specs.Tasks.{ActTaken, PassTaken}
 use Rattle.pas_check.specs.declared.acting.Judge.{Judge}

@@ -1,9 +1,8 @@
 -- What the machine says of a page, and its line in the report.
 use Rattle.std.specs.Prelude.{MatchBool}
-use Rattle.std.proofs.Common.{◌≡◌, ℕ, zero, suc, ◌+◌, ◌*◌, ◌/◌, ◌%◌, ◌<◌, ◌≤◌, ◌==◌, nat_le, nat_lt, not, Bool, true, false, if◌then◌else◌, List, [], ◌∷◌, ◌++◌, Option, None, Some, inl, inr, refl, ap, sym, subst, ◌∙◌, arith}
+use Rattle.std.proofs.Common.{◌≡◌, ℕ, ◌+◌, ◌*◌, ◌/◌, ◌%◌, ◌<◌, ◌≤◌, ◌==◌, nat_le, nat_lt, not, Bool, true, false, if◌then◌else◌, List, [], ◌∷◌, Option, None, Some, refl, ap, sym, subst, ◌∙◌, arith}
 use Rattle.std.proofs.lemmas.Bool.{and_parts, eqb-true, leb-true}
 use Rattle.std.proofs.lemmas.Option.{none-some}
-use Rattle.pas_bits.specs.Runs.{in_run}
 use Rattle.pas_profile.specs.Blocks.{address_of, length_of}
 use Rattle.pas_profile.specs.declared.directory.Directory.{Directory}
 use Rattle.pas_profile.specs.declared.event.Event.{Event}
@@ -11,7 +10,6 @@ use Rattle.pas_profile.specs.declared.name.Block.{Block}
 use Rattle.pas_profile.specs.declared.profile.Profile.{Profile}
 use Rattle.pas_machine.specs.Machine.{Run}
 use Rattle.pas_machine.specs.Places.{IsCovered}
-use Rattle.pas_machine.specs.Reasons.{Covers}
 use Rattle.pas_machine.specs.State.{Live, backed_in, live_in}
 use Rattle.pas_steps.specs.Views.{usable_by_kind}
 use Rattle.pas_report.specs.Marks.{Marked}

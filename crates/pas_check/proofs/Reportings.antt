@@ -1,14 +1,13 @@
 -- The lines of the report, one after the other.
-use Rattle.std.proofs.Common.{◌≡◌, ℕ, zero, suc, ◌+◌, ◌*◌, ◌/◌, ◌^◌, ◌<◌, ◌≤◌, Bool, true, false, if◌then◌else◌, List, [], ◌∷◌, ◌++◌, length, Option, None, Some, refl, ap, sym, subst, ◌∙◌, arith, append_assoc, add-one}
+use Rattle.std.proofs.Common.{◌≡◌, ℕ, zero, suc, ◌+◌, ◌*◌, Bool, true, false, if◌then◌else◌, List, [], ◌∷◌, ◌++◌, Option, None, Some, refl, ap, sym, subst, ◌∙◌, arith, append_assoc}
 use Rattle.pas_profile.specs.declared.directory.Directory.{Directory}
 use Rattle.pas_profile.specs.declared.event.Event.{Event}
 use Rattle.pas_profile.specs.declared.profile.Profile.{Profile}
 use Rattle.pas_machine.specs.Laws.{IsCounted}
 use Rattle.pas_machine.specs.Machine.{Run}
 use Rattle.pas_machine.specs.State.{Live, deed_in, ends_in, gives_in, live_in}
-use Rattle.pas_machine.specs.Totals.{address_at, ended_total, given_total, has_block, live_total, sum_below}
+use Rattle.pas_machine.specs.Totals.{address_at, ended_total, given_total, has_block, live_total}
 use Rattle.pas_machine.proofs.LiveBlocks.{all_counted}
-use Rattle.pas_bits.specs.Bits.{count_below}
 use Rattle.pas_report.specs.Reports.{total_line, totals_text}
 use Rattle.pas_report.proofs.Counting.{sum_and_count, sum_same}
 use Rattle.pas_check.specs.Begins.{page_due, pages_due}

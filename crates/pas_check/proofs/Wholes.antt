@@ -1,7 +1,6 @@
 -- What a check comes to.
-use Rattle.std.proofs.Common.{◌≡◌, ℕ, ◌+◌, ◌^◌, ◌<◌, ◌≤◌, Bool, true, false, List, [], ◌∷◌, length, map, inl, inr, refl, ap, sym, subst, ◌∙◌, arith}
+use Rattle.std.proofs.Common.{◌≡◌, ℕ, ◌+◌, ◌^◌, ◌<◌, ◌≤◌, Bool, true, false, List, [], ◌∷◌, length, map, inl, inr, refl, ap, sym, subst, arith}
 use Rattle.std.proofs.lemmas.List.{length-map}
-use Rattle.pas_profile.specs.declared.event.Event.{Event}
 use Rattle.pas_profile.specs.declared.profile.Profile.{Profile}
 use Rattle.pas_machine.specs.Machines.{profile_of}
 use Rattle.pas_trace.specs.Acts.{acts_of}
@@ -11,11 +10,11 @@ use Rattle.pas_trace.specs.declared.plan.Phase.{Phase}
 use Rattle.pas_trace.specs.declared.plan.Plan.{Plan}
 use Rattle.pas_trace.proofs.EveryPlan.{every_plan}
 use Rattle.pas_check.specs.Accepted.{IsStopped, IsVerdict, IsWhole}
-use Rattle.pas_check.specs.Begins.{after_task, report_due}
+use Rattle.pas_check.specs.Begins.{after_task}
 use Rattle.pas_check.specs.Checks.{ArePlanned, IsOpened, IsSoFar, TakenTo, opening, threads_in}
 use Rattle.pas_check.specs.Leading.{Fails, IsLed, IsWithin, Leads, lines_from}
 use Rattle.pas_check.specs.Shown.{IsKnown}
-use Rattle.pas_check.specs.States.{Does, Reports, Stand, Task, at_first, with_due}
+use Rattle.pas_check.specs.States.{Reports, Stand, at_first, with_due}
 use Rattle.pas_check.specs.Tables.{names_held}
 use Rattle.pas_check.specs.Takes.{Takes}
 use Rattle.pas_check.specs.declared.acting.Judge.{Judge}

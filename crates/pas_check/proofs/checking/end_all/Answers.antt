@@ -1,6 +1,6 @@
-use Rattle.std.proofs.Common.{◌≡◌, ℕ, ◌+◌, ◌-◌, ◌++◌, ◌∷◌, [], List, Bool, true, false, map, refl, ap, ◌∙◌, arith}
+use Rattle.std.proofs.Common.{◌≡◌, ℕ, ◌+◌, ◌-◌, ◌++◌, ◌∷◌, [], true, false, map, refl, ap, arith}
 use Rattle.pas_profile.specs.declared.profile.Profile.{Profile}
-use Rattle.pas_trace.specs.Acts.{Act, Ends, numbers_from}
+use Rattle.pas_trace.specs.Acts.{Ends, numbers_from}
 use Rattle.pas_check.specs.Checks.{threads_in}
 use Rattle.pas_check.proofs.Chains.{act_taken, nothing_taken, sized_on, taken_as, then_taken}
 use Rattle.pas_check.proofs.ThreadsInOrder.{next_number, no_number}

@@ -1,7 +1,7 @@
-use Rattle.std.proofs.Common.{◌≡◌, ◌∷◌, [], Bool, true, false, List, ℕ, not, refl, ap, sym, ◌∙◌}
+use Rattle.std.proofs.Common.{Bool, ℕ, not, ap, sym, ◌∙◌}
 use Rattle.pas_bits.specs.Masks.{is_set}
 use Rattle.pas_profile.specs.declared.profile.Profile.{Profile}
-use Rattle.pas_trace.specs.Acts.{MakesPass, Operates, ReadsEpoch, Ticks, acts_of_op, idle_stops, threads_where}
+use Rattle.pas_trace.specs.Acts.{Operates, acts_of_op, threads_where}
 use Rattle.pas_trace.specs.declared.plan.Chore.{Chore}
 use Rattle.pas_trace.specs.declared.plan.Work.{Work}
 use Rattle.pas_check.specs.Checks.{ActsTaken, threads_in}

@@ -1,4 +1,4 @@
-use Rattle.std.proofs.Common.{◌≡◌, ℕ, ◌+◌, ◌++◌, Bool, List, not, true, false, drop, get_or, refl, ap, subst, sym, drop_of_length-le}
+use Rattle.std.proofs.Common.{ℕ, ◌+◌, ◌++◌, List, not, true, false, drop, get_or, refl, ap, subst, sym, drop_of_length-le}
 use Rattle.pas_bits.specs.Masks.{is_set}
 use Rattle.pas_profile.specs.Profiles.{IsValid}
 use Rattle.pas_profile.specs.declared.profile.Profile.{Profile}
@@ -7,7 +7,7 @@ use Rattle.pas_trace.specs.Acts.{acts_of_op, acts_of_ops, threads_where}
 use Rattle.pas_trace.specs.declared.plan.Op.{Op}
 use Rattle.pas_check.specs.Checks.{ActsTaken, threads_in}
 use Rattle.pas_check.specs.Tables.{names_held}
-use Rattle.pas_check.proofs.Chains.{nothing_taken, sized_as_before, sized_on, taken_as, then_taken}
+use Rattle.pas_check.proofs.Chains.{sized_as_before, sized_on, taken_as, then_taken}
 use Rattle.pas_check.proofs.Phases.{acts_at, one_planned_as, ops_there, past}
 use Rattle.pas_check.proofs.checking.perform_all.Goals as goal
 

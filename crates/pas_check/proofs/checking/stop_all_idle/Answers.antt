@@ -1,8 +1,8 @@
-use Rattle.std.proofs.Common.{◌≡◌, ℕ, ◌+◌, ◌-◌, ◌++◌, ◌∷◌, [], List, Bool, map, not, true, false, refl, ap, ◌∙◌, arith}
+use Rattle.std.proofs.Common.{◌≡◌, ℕ, ◌+◌, ◌-◌, ◌++◌, ◌∷◌, [], map, not, true, false, refl, ap, arith}
 use Rattle.std.specs.List.{filter}
 use Rattle.pas_bits.specs.Masks.{is_set}
 use Rattle.pas_profile.specs.declared.profile.Profile.{Profile}
-use Rattle.pas_trace.specs.Acts.{Act, ReadsEpoch, StopsIdle, idle_stops, numbers_from}
+use Rattle.pas_trace.specs.Acts.{ReadsEpoch, StopsIdle, idle_stops, numbers_from}
 use Rattle.pas_check.specs.Checks.{threads_in}
 use Rattle.pas_check.proofs.Chains.{idly_taken, sized_on, taken_as, then_taken}
 use Rattle.pas_check.proofs.ThreadsInOrder.{acts_there, acts_past, next_there, none_left}

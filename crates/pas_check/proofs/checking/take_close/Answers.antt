@@ -1,4 +1,4 @@
-use Rattle.std.proofs.Common.{◌++◌, ◌∷◌, [], Bool, true, false, map, refl}
+use Rattle.std.proofs.Common.{◌++◌, Bool, true, false, map}
 use Rattle.pas_trace.specs.Acts.{Ends, MarksClose, close_acts, numbers_from}
 use Rattle.pas_check.specs.Checks.{ActsTaken, threads_in}
 use Rattle.pas_check.proofs.Chains.{act_taken, taken_on}

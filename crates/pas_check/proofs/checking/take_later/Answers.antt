@@ -1,14 +1,14 @@
-use Rattle.std.proofs.Common.{◌≡◌, ℕ, ◌+◌, ◌++◌, ◌∷◌, [], Bool, List, true, false, drop, get_or, map, refl, ap, subst, sym, ◌∙◌, drop_of_length-le, arith}
+use Rattle.std.proofs.Common.{◌≡◌, ◌+◌, ◌++◌, ◌∷◌, [], List, true, false, drop, get_or, map, refl, ap, subst, sym, ◌∙◌, drop_of_length-le, arith}
 use Rattle.pas_profile.specs.Profiles.{IsValid}
 use Rattle.pas_profile.specs.declared.profile.Profile.{Profile}
 use Rattle.pas_machine.specs.Machines.{profile_of}
-use Rattle.pas_trace.specs.Acts.{Act, MarksPhase, acts_from, phase_acts}
+use Rattle.pas_trace.specs.Acts.{MarksPhase, acts_from, phase_acts}
 use Rattle.pas_trace.specs.Plans.{ops_of}
 use Rattle.pas_trace.specs.declared.plan.Op.{Op}
 use Rattle.pas_trace.specs.declared.plan.Phase.{Phase}
-use Rattle.pas_check.specs.Checks.{ActsTaken, ArePlanned, TakenTo, threads_in}
+use Rattle.pas_check.specs.Checks.{ArePlanned, threads_in}
 use Rattle.pas_check.specs.Tables.{names_held}
-use Rattle.pas_check.proofs.Chains.{act_taken, sized_as_before, sized_on, taken_as, taken_on, then_taken}
+use Rattle.pas_check.proofs.Chains.{act_taken, sized_as_before, sized_on, taken_as, then_taken}
 use Rattle.pas_check.proofs.Phases.{phase_at, phase_done, phases_there, planned_as}
 use Rattle.pas_check.proofs.checking.take_later.Goals as goal
 

@@ -1,4 +1,4 @@
-use Rattle.std.proofs.Common.{◌≡◌, Bool, List, ℕ, not, map, ap}
+use Rattle.std.proofs.Common.{Bool, not, ap}
 use Rattle.pas_bits.specs.Masks.{is_set}
 use Rattle.pas_profile.specs.declared.profile.Profile.{Profile}
 use Rattle.pas_trace.specs.Acts.{acts_of_ops, phase_acts, threads_where}

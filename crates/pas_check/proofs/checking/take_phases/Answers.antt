@@ -1,15 +1,13 @@
-use Rattle.std.proofs.Common.{◌≡◌, ℕ, ◌-◌, ◌<◌, Bool, List, true, false, drop, take, get_or, length, map, refl, ap, subst, sym, ◌∙◌, arith}
-use Rattle.pas_profile.specs.Profiles.{IsValid}
+use Rattle.std.proofs.Common.{◌≡◌, ◌-◌, ◌<◌, Bool, List, drop, take, get_or, length, map, ap, subst, sym, ◌∙◌, arith}
 use Rattle.pas_profile.specs.declared.profile.Profile.{Profile}
 use Rattle.pas_machine.specs.Machines.{profile_of}
-use Rattle.pas_trace.specs.Acts.{acts_from, acts_of, close_acts, phase_acts}
+use Rattle.pas_trace.specs.Acts.{acts_from, acts_of, close_acts}
 use Rattle.pas_trace.specs.EveryPlan.{all_ops}
 use Rattle.pas_trace.specs.Plans.{ops_of}
 use Rattle.pas_trace.specs.declared.plan.Op.{Op}
 use Rattle.pas_trace.specs.declared.plan.Phase.{Phase}
-use Rattle.pas_check.specs.Checks.{ActsTaken, ArePlanned, TakenTo, threads_in}
+use Rattle.pas_check.specs.Checks.{ArePlanned, TakenTo, threads_in}
 use Rattle.pas_check.specs.Tables.{names_held}
-use Rattle.pas_check.proofs.Chains.{nothing_taken, sized_as_before, sized_on, taken_as, taken_on}
 use Rattle.pas_check.proofs.Phases.{first_amiss, first_on, phases_there, planned_as, rest_is}
 use Rattle.pas_check.proofs.Takings.{if_ok}
 use Rattle.pas_check.proofs.checking.take_phases.Goals as goal

@@ -1,4 +1,4 @@
-use Rattle.std.proofs.Common.{◌≡◌, ℕ, ◌+◌, not, ap, ◌∙◌, arith}
+use Rattle.std.proofs.Common.{◌≡◌, not, ap, ◌∙◌, arith}
 use Rattle.pas_report.specs.Marks.{Marked, bits_of, marks_of}
 use Rattle.pas_report.proofs.MarkBits.{marks_are}
 use Rattle.pas_check.proofs.reporting.marks_with.Goals as goal

@@ -2,7 +2,7 @@ use Rattle.std.proofs.Common.{◌≡◌, ℕ, ◌+◌, ◌-◌, ◌++◌, List, 
 use Rattle.pas_profile.specs.declared.profile.Profile.{Profile}
 use Rattle.pas_machine.specs.Machines.{profile_of}
 use Rattle.pas_machine.specs.State.{deed_in}
-use Rattle.pas_check.specs.Begins.{page_due, pages_due}
+use Rattle.pas_check.specs.Begins.{page_due}
 use Rattle.pas_check.specs.Leading.{Leads}
 use Rattle.pas_check.specs.States.{Due, with_due}
 use Rattle.pas_check.proofs.Leads.{leads_fails, leads_nowhere, leads_on}

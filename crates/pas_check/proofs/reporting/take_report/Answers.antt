@@ -1,4 +1,4 @@
-use Rattle.std.proofs.Common.{◌++◌, [], ◌∷◌, true, false, refl}
+use Rattle.std.proofs.Common.{◌++◌, [], ◌∷◌, false, refl}
 use Rattle.pas_machine.specs.Machines.{profile_of}
 use Rattle.pas_check.specs.Begins.{pages_due}
 use Rattle.pas_check.specs.States.{Totals, with_due}

@@ -1,6 +1,5 @@
-use Rattle.std.proofs.Common.{◌≡◌, ◌+◌, ◌-◌, arith}
+use Rattle.std.proofs.Common.{arith}
 use Rattle.pas_machine.specs.Machines.{profile_of}
-use Rattle.pas_machine.specs.Totals.{ended_total}
 use Rattle.pas_check.proofs.Reportings.{given_is}
 use Rattle.pas_check.proofs.reporting.total.Goals as goal
 
