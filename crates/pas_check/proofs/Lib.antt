@@ -18,3 +18,11 @@ mod Emptyings
 mod Requests
 mod Passes
 mod Servings
+mod Followed
+mod Chains
+mod ActsOfPlans
+mod ThreadsInOrder
+mod Pages
+mod Reportings
+mod Phases
+mod Wholes
