@@ -44,6 +44,10 @@ indexes_after f (Operates op) p indexes = after_operation f op.what indexes
 indexes_after f (Settles k) p indexes = with_noted indexes (p.caches k).noted
 indexes_after f act p indexes = indexes
 
+abbrev pub indexes_after_all : (f : Profile) (acts : List Act) (p p' : Progress) → Reaches f acts p p' → Indexes → Indexes
+indexes_after_all f [] p p' is indexes = indexes
+indexes_after_all f (act ∷ acts) p p' is indexes = indexes_after_all f acts is.0 p' is.2 (indexes_after f act p indexes)
+
 -- ---- which runs they name
 -- For a request for n whole pages the first n pages of the lowest range of at least n pages were named that the heap's index holds, or none where it has none.
 abbrev pub IsNamedBy : Profile → Indexes → What → Option ℕ → Type 0

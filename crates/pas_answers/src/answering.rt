@@ -120,7 +120,8 @@ fn perform<D: Desk, O: Door>(
 }
 
 /// Does a thread's task, and adds its events and what is said to the records. `meant` is the block that the freed name of a `Task::Free` stands for, if
-/// any, and the result the block that the asked name of a `Task::Request` stands for from then on; None for every other task.
+/// any, and the result the block that the asked name of a `Task::Request` stands for from then on; None for every other task. A request for whole pages
+/// asks the door for a run first; nothing else asks it or changes it.
 #[inline(always)]
 pub fn answer_meant<D: Desk, O: Door>(
     desk: &mut D,
