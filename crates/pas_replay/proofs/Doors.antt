@@ -10,7 +10,12 @@ use Rattle.pas_trace.specs.declared.plan.What.{What}
 use Rattle.pas_trace.specs.declared.plan.What.TheVariants.{Alloc}
 use Rattle.pas_cache.specs.Calls.{IsNamed, SettlesEach}
 use Rattle.pas_cache.specs.Serves.{wanted_for, pages_of}
-use Rattle.pas_answers.specs.Indexes.{IsNamedFor, IsNamedBy, after_request, after_operation, with_noted}
+use Rattle.pas_trace.specs.Acts.{Operates, Settles}
+use Rattle.pas_trace.specs.declared.plan.Op.{Op}
+use Rattle.pas_answers.specs.Answers.{Progress}
+use Rattle.pas_answers.specs.Reaching.{Reaches}
+use Rattle.pas_answers.specs.Indexes.{IsNamedFor, IsNamedBy, AllAreNamedBy, after_request, after_operation, with_noted, indexes_after_all}
+use Rattle.pas_acts.specs.AtDesks.{GoesThrough}
 
 -- doors of which each is to one vector of indexes
 module _ {Door : Type 0} (Kept : Door → Door → Type 0) (held : Door → Indexes) where
@@ -47,3 +52,11 @@ module _ {Door : Type 0} (Kept : Door → Door → Type 0) (held : Door → Inde
     handed together (run ∷ runs) before after (next, one, rest) =
         let later = handed together runs next after rest in
         (together before next after one.0 later.0, later.1 ∙ ap (λ ix. with_noted ix runs) one.1)
+
+    -- the acts of an operation by such a door are acts by what it holds
+    pub went_through : (together : (a b c : Door) → Kept a b → Kept b c → Kept a c) (f : Profile) (op : Op) (p q : Progress) (is : Reaches f (Operates op ∷ (Settles op.actor ∷ [])) p q) (before after : Door) → GoesThrough Answers HandsOn f op p q is before after
+        → AllAreNamedBy f (held before) (Operates op ∷ (Settles op.actor ∷ [])) p q is × Kept before after × (held after ≡ indexes_after_all f (Operates op ∷ (Settles op.actor ∷ [])) p q is (held before))
+    went_through together f op p q is before after (next, named, settled) =
+        let asked = asked_for f op.what is.1.0.found before next named in
+        let later = handed together (is.0.caches op.actor).noted next after settled in
+        ((asked.named, tt, tt), together before next after asked.kept later.0, later.1 ∙ ap (λ ix. with_noted ix (is.0.caches op.actor).noted) asked.left)
