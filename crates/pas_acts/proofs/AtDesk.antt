@@ -85,7 +85,7 @@ module _ {f : Profile} {k : ℕ} {what : What} {meant came : Option Name} {σ σ
   was_at_rest = subst (λ (g : Profile). AtRest g c v) (sym may.rests.sits.profile) may.rests.sits.rest
 
   abbrev pub the_answer : Answer
-  the_answer = answer_of steps did.said (named_by what came ++ p.names) c1
+  the_answer = answer_of steps did.said did.performs.found (named_by what came ++ p.names) c1
 
   is_answered : IsAnswered f k what (having p.names v c) the_answer
   is_answered = of_seat may.rests.sits (λ (j : ℕ) (g : Profile). IsAnswered g j what (having p.names v c) the_answer) (did.performs.answered v may.rests.sits.beside may.rests.sits.stood was_at_rest p.names may.means may.known)
