@@ -2,3 +2,4 @@ mod Statuses
 mod Headline
 mod Summing
 mod Accepting
+mod Reading
