@@ -1,11 +1,13 @@
 -- What a door to plain indexes tells, as the definition of a replay says it.
-use Rattle.std.proofs.Common.{◌≡◌, ℕ, List, [], ◌∷◌, Option, ap, sym, ◌∙◌, subst, refl}
+use Rattle.std.proofs.Common.{◌≡◌, ℕ, List, [], ◌∷◌, ◌++◌, length, drop, take, Option, ap, sym, ◌∙◌, subst, refl, arith, drop_of_length-le}
+use Rattle.std.proofs.lemmas.List.{append-nil, length-set}
+use Rattle.pas_large_index.specs.Spans.{span_of, cut_lowest, added}
 use Rattle.pas_profile.specs.Requests.{route_in}
 use Rattle.pas_profile.specs.declared.directory.Route.{Route}
 use Rattle.pas_profile.specs.declared.event.Range.{Range}
 use Rattle.pas_profile.specs.declared.profile.Profile.{Profile}
 use Rattle.pas_free_log.specs.declared.noting.EndedRun.{EndedRun}
-use Rattle.pas_large.specs.Doors.{Indexes, found_in, cut_in, added_in}
+use Rattle.pas_large.specs.Doors.{Indexes, ranges_of, found_in, cut_in, added_in}
 use Rattle.pas_trace.specs.declared.plan.What.{What}
 use Rattle.pas_trace.specs.declared.plan.What.TheVariants.{Alloc}
 use Rattle.pas_cache.specs.Calls.{IsNamed, SettlesEach}
@@ -60,3 +62,25 @@ module _ {Door : Type 0} (Kept : Door → Door → Type 0) (held : Door → Inde
         let asked = asked_for f op.what is.1.0.found before next named in
         let later = handed together (is.0.caches op.actor).noted next after settled in
         ((asked.named, tt, tt), together before next after asked.kept later.0, later.1 ∙ ap (λ ix. with_noted ix (is.0.caches op.actor).noted) asked.left)
+
+-- ---- how many indexes there are
+after_many : (f : Profile) (what : What) (indexes : Indexes) → length (after_operation f what indexes) ≡ length indexes
+after_many f (Alloc name heap size align) indexes = request_many (route_in f size align) heap (pages_of (wanted_for f heap size align)) indexes
+  where
+    request_many : (route : Route) (heap n : ℕ) (indexes : Indexes) → length (after_request route heap n indexes) ≡ length indexes
+    request_many (Route.Class class) heap n indexes = refl
+    request_many Route.Bitfit heap n indexes = refl
+    request_many Route.Large heap n indexes = length-set indexes heap (cut_lowest n (ranges_of indexes heap))
+after_many f what indexes = refl
+
+noted_many : (runs : List EndedRun) (indexes : Indexes) → length (with_noted indexes runs) ≡ length indexes
+noted_many [] indexes = refl
+noted_many (run ∷ runs) indexes = noted_many runs (added_in indexes run.heap run.range) ∙ length-set indexes run.heap (added (span_of run.range) (ranges_of indexes run.heap))
+
+pub operated_many : (f : Profile) (op : Op) (p q : Progress) (is : Reaches f (Operates op ∷ (Settles op.actor ∷ [])) p q) (indexes : Indexes) → length (indexes_after_all f (Operates op ∷ (Settles op.actor ∷ [])) p q is indexes) ≡ length indexes
+operated_many f op p q is indexes = noted_many (is.0.caches op.actor).noted (after_operation f op.what indexes) ∙ after_many f op.what indexes
+
+-- a vector whose elements were all written back
+pub all_written : (new items : Indexes) (many : ℕ) → many ≡ length items → length new ≡ length items → take many (new ++ drop (length new) items) ≡ new
+all_written new items many same long =
+    ap (λ n. take many (new ++ drop n items)) long ∙ ap (λ xs. take many (new ++ xs)) (drop_of_length-le items (omega arith)) ∙ ap (λ xs. take many xs) (append-nil new) ∙ take_of_length-le new (omega (arith, same, long))
