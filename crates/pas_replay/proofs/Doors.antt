@@ -1,6 +1,6 @@
 -- What a door to plain indexes tells, as the definition of a replay says it.
-use Rattle.std.proofs.Common.{◌≡◌, ℕ, List, [], ◌∷◌, ◌++◌, length, drop, take, Option, ap, sym, ◌∙◌, subst, refl, arith, drop_of_length-le}
-use Rattle.std.proofs.lemmas.List.{append-nil, length-set}
+use Rattle.std.proofs.Common.{◌≡◌, ℕ, List, [], ◌∷◌, ◌++◌, length, drop, take, Option, ap, sym, ◌∙◌, subst, refl}
+use Rattle.std.proofs.lemmas.List.{length-set, take_at}
 use Rattle.pas_large_index.specs.Spans.{span_of, cut_lowest, added}
 use Rattle.pas_profile.specs.Requests.{route_in}
 use Rattle.pas_profile.specs.declared.directory.Route.{Route}
@@ -14,10 +14,12 @@ use Rattle.pas_cache.specs.Calls.{IsNamed, SettlesEach}
 use Rattle.pas_cache.specs.Serves.{wanted_for, pages_of}
 use Rattle.pas_trace.specs.Acts.{Operates, Settles}
 use Rattle.pas_trace.specs.declared.plan.Op.{Op}
-use Rattle.pas_answers.specs.Answers.{Progress}
+use Rattle.pas_acts.specs.Works.{Later}
+use Rattle.pas_answers.specs.Answers.{Named, Progress}
 use Rattle.pas_answers.specs.Reaching.{Reaches}
 use Rattle.pas_answers.specs.Indexes.{IsNamedFor, IsNamedBy, AllAreNamedBy, after_request, after_operation, with_noted, indexes_after_all}
-use Rattle.pas_acts.specs.AtDesks.{GoesThrough}
+use Rattle.pas_acts.specs.AtDesks.{Here, GoesThrough}
+use Rattle.pas_replay.specs.Operating.{ActsByIndexes}
 
 -- doors of which each is to one vector of indexes
 module _ {Door : Type 0} (Kept : Door → Door → Type 0) (held : Door → Indexes) where
@@ -80,7 +82,14 @@ noted_many (run ∷ runs) indexes = noted_many runs (added_in indexes run.heap r
 pub operated_many : (f : Profile) (op : Op) (p q : Progress) (is : Reaches f (Operates op ∷ (Settles op.actor ∷ [])) p q) (indexes : Indexes) → length (indexes_after_all f (Operates op ∷ (Settles op.actor ∷ [])) p q is indexes) ≡ length indexes
 operated_many f op p q is indexes = noted_many (is.0.caches op.actor).noted (after_operation f op.what indexes) ∙ after_many f op.what indexes
 
--- a vector whose elements were all written back
-pub all_written : (new items : Indexes) (many : ℕ) → many ≡ length items → length new ≡ length items → take many (new ++ drop (length new) items) ≡ new
-all_written new items many same long =
-    ap (λ n. take many (new ++ drop n items)) long ∙ ap (λ xs. take many (new ++ xs)) (drop_of_length-le items (omega arith)) ∙ ap (λ xs. take many xs) (append-nil new) ∙ take_of_length-le new (omega (arith, same, long))
+-- a vector whose elements were all written back has what the indexes hold then
+pub written_back : {f : Profile} {k : ℕ} {op : Op} {indexes indexes' : Indexes} {came : List Named} {old new : Here} {later : Later} {p : Progress} (items : Indexes) (many : ℕ) → indexes ≡ items → length indexes ≡ many → ActsByIndexes f k op indexes indexes' came old new later p
+    → ActsByIndexes f k op items (take many (indexes' ++ drop (length indexes') items)) came old new later p
+written_back {f} {k} {op} {indexes} {indexes'} {p = p} items many is same acts =
+    let did = acts.did in
+    record {
+      did = did;
+      named = subst (λ (ix : Indexes). AllAreNamedBy f ix (Operates op ∷ (Settles op.actor ∷ [])) p did.reached did.reaches) is acts.named;
+      left = take_at indexes' (drop (length indexes') items) many (ap (λ (ix : Indexes). length ix) acts.left ∙ operated_many f op p did.reached did.reaches indexes ∙ same) ∙ acts.left
+          ∙ ap (λ (ix : Indexes). indexes_after_all f (Operates op ∷ (Settles op.actor ∷ [])) p did.reached did.reaches ix) is;
+    }

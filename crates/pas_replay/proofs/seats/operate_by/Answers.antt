@@ -1,23 +1,29 @@
-use Rattle.std.proofs.Common.{rules, ◌≡◌, ◌≢◌, ◌<◌, ◌-◌, ◌≤◌, ◌++◌, ℕ, List, [], ◌∷◌, length, slice_set, ◌+◌, ◌*◌, ◌/◌, ◌%◌, Bool, true, false, nat_eq, nat_lt, slice_index_or, bit_and, bit_or, Fits, w8, w32, w64, Bor, MutBor}
-use Rattle.pas_profile.specs.declared.profile.Profile.{Profile as TheProfile}
-use Rattle.pas_plain.specs.Plain.{actor_of}
-use Rattle.pas_plain.specs.Seats.{pass_of, standing_of}
-use Rattle.pas_cache.specs.Caches.{cached}
-use Rattle.pas_cache.specs.declared.cache.ThreadCache.{ThreadCache as TheCache}
-use Rattle.pas_report.specs.Rooms.{Records as TheRecords}
-use Rattle.pas_trace.specs.Acts.{Act, Operates, Settles, Ticks, MakesPass, ReadsEpoch, StopsIdle, Wakes, Ends}
-use Rattle.pas_answers.specs.Answers.{Named, Progress}
-use Rattle.pas_acts.specs.Works.{Later}
-use Rattle.pas_acts.specs.AtDesks.{here, MayOperate}
-use Rattle.pas_replay.specs.Operating.{ActsByIndexes}
-use Rattle.pas_answers.specs.Calls.{what_of, Tells, HasTurn, HasTurns, freed_by, named_by}
-use Rattle.pas_trace.specs.declared.plan.Op.{Op as TheOp}
-use Rattle.pas_answers.specs.Fit.{IsFitWhat}
-use Rattle.pas_answers.specs.Names.{block_named, names_held}
-use Rattle.pas_answers.specs.declared.names.Names.{Names as TheNames}
-use Rattle.pas_replay.specs.Sessions.{Replay, pass_in, hand_of, hand_at, session, IsTaken, MaySit, MayTakeSeat, TakesSeat, SoFarAt, MayGoOn, GoesOn, HasRead, MayGoOnAt, GoesOnAt}
+use Rattle.std.proofs.Common.{rules, ◌≡◌, ◌∙◌, [], ◌∷◌, refl, ap, subst}
+use Rattle.pas_large.specs.Doors.{Indexes}
+use Rattle.pas_large.specs.declared.plain_door.PlainDoor.{PlainDoor}
+use Rattle.pas_trace.specs.Acts.{Operates, Settles}
+use Rattle.pas_answers.specs.Indexes.{AllAreNamedBy, indexes_after_all}
+use Rattle.pas_replay.proofs.Doors.{went_through}
 use Rattle.pas_replay.proofs.seats.operate_by.Goals as goal
 
--- src/seats.rt:138:1
+-- a door to the same indexes
+abbrev Kept : PlainDoor → PlainDoor → Type 0
+Kept before after = after.indexes.ghost_name ≡ before.indexes.ghost_name
+
+-- what they hold
+abbrev held : PlainDoor → Indexes
+held door = door.indexes.now
+
 pub returns-clause-operates : goal.returns-clause-operates
-returns-clause-operates c = ?
+returns-clause-operates c = λ f op later p asks may.
+    let all = c.operate.ensures.operates f op later p asks may in
+    let did = all.0 in
+    let through = went_through Kept held (λ d. refl) (λ x y z one two. two ∙ one) f op p did.reached did.reaches c.new-door.result c.operate.new.door all.1 in
+    let entry = c.new-door.ensures.indexes in
+    let left = through.2 ∙ ap (λ (ix : Indexes). indexes_after_all f (Operates op ∷ (Settles op.actor ∷ [])) p did.reached did.reaches ix) entry in
+    let same = through.1 ∙ c.new-door.ensures.same_reference in
+    record {
+      did = did;
+      named = subst (λ (ix : Indexes). AllAreNamedBy f ix (Operates op ∷ (Settles op.actor ∷ [])) p did.reached did.reaches) entry through.0;
+      left = search (rules, left, same);
+    }
