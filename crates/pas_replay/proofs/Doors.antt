@@ -63,7 +63,7 @@ module _ {Door : Type 0} (Kept : Door → Door → Type 0) (held : Door → Inde
     went_through together f op p q is before after (next, named, settled) =
         let asked = asked_for f op.what is.1.0.found before next named in
         let later = handed together (is.0.caches op.actor).noted next after settled in
-        ((asked.named, tt, tt), together before next after asked.kept later.0, later.1 ∙ ap (λ ix. with_noted ix (is.0.caches op.actor).noted) asked.left)
+        ((asked.named, (tt, tt)), together before next after asked.kept later.0, later.1 ∙ ap (λ ix. with_noted ix (is.0.caches op.actor).noted) asked.left)
 
 -- ---- how many indexes there are
 after_many : (f : Profile) (what : What) (indexes : Indexes) → length (after_operation f what indexes) ≡ length indexes
