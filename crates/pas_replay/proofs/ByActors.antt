@@ -76,8 +76,8 @@ pub operate_turn : {r : Replay} {more : List Act} {op : Op} {what : What} {desk 
 operate_turn {r} {more} {op} {desk1 = desk1} {desk2} {caches = caches} {indexes = indexes} {indexes'} {table = table} {table'} {out} {out'} {p} k came there cache mine asks some within seat is at acted held tells turns =
     let names = at.names in
     let all = subst (λ (j : ℕ). ActsByIndexes r.profile j op indexes indexes' (named_by op.what came) (here (standing_of desk1) (cached there) out) (here (standing_of desk2) (cached cache) out') (later_for r j p more 0) p) mine acted in
-    let did = all.0 in
-    let so = thread_turn k cache some within seat (there_is p.caches caches k there some within at.caches_are is) (omega arith) (λ j ne. let none = other_cost op k j mine ne in omega (arith, none)) at did all.1 all.2
+    let did = all.did in
+    let so = thread_turn k cache some within seat (there_is p.caches caches k there some within at.caches_are is) (omega arith) (λ j ne. let none = other_cost op k j mine ne in omega (arith, none)) at did all.named all.left
     (subst (λ (ns : List Named). HasNames r.profile more table' ns) (sym did.names) record {
       asked = asked_after op.what names.asked;
       fit = subst (λ (limit : ℕ). AreFit r.profile limit (asked_after op.what names.asked) more) (sym held) names.fit.2;

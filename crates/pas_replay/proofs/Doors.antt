@@ -1,21 +1,25 @@
 -- What a door to plain indexes tells, as the definition of a replay says it.
-use Rattle.std.proofs.Common.{◌≡◌, ℕ, List, [], ◌∷◌, Option, ap, sym, ◌∙◌, subst, refl}
+use Rattle.std.proofs.Common.{◌≡◌, ℕ, List, [], ◌∷◌, ◌++◌, length, drop, take, Option, ap, sym, ◌∙◌, subst, refl}
+use Rattle.std.proofs.lemmas.List.{length-set, take_at}
+use Rattle.pas_large_index.specs.Spans.{span_of, cut_lowest, added}
 use Rattle.pas_profile.specs.Requests.{route_in}
 use Rattle.pas_profile.specs.declared.directory.Route.{Route}
 use Rattle.pas_profile.specs.declared.event.Range.{Range}
 use Rattle.pas_profile.specs.declared.profile.Profile.{Profile}
 use Rattle.pas_free_log.specs.declared.noting.EndedRun.{EndedRun}
-use Rattle.pas_large.specs.Doors.{Indexes, found_in, cut_in, added_in}
+use Rattle.pas_large.specs.Doors.{Indexes, ranges_of, found_in, cut_in, added_in}
 use Rattle.pas_trace.specs.declared.plan.What.{What}
 use Rattle.pas_trace.specs.declared.plan.What.TheVariants.{Alloc}
 use Rattle.pas_cache.specs.Calls.{IsNamed, SettlesEach}
 use Rattle.pas_cache.specs.Serves.{wanted_for, pages_of}
 use Rattle.pas_trace.specs.Acts.{Operates, Settles}
 use Rattle.pas_trace.specs.declared.plan.Op.{Op}
-use Rattle.pas_answers.specs.Answers.{Progress}
+use Rattle.pas_acts.specs.Works.{Later}
+use Rattle.pas_answers.specs.Answers.{Named, Progress}
 use Rattle.pas_answers.specs.Reaching.{Reaches}
 use Rattle.pas_answers.specs.Indexes.{IsNamedFor, IsNamedBy, AllAreNamedBy, after_request, after_operation, with_noted, indexes_after_all}
-use Rattle.pas_acts.specs.AtDesks.{GoesThrough}
+use Rattle.pas_acts.specs.AtDesks.{Here, GoesThrough}
+use Rattle.pas_replay.specs.Operating.{ActsByIndexes}
 
 -- doors of which each is to one vector of indexes
 module _ {Door : Type 0} (Kept : Door → Door → Type 0) (held : Door → Indexes) where
@@ -59,4 +63,33 @@ module _ {Door : Type 0} (Kept : Door → Door → Type 0) (held : Door → Inde
     went_through together f op p q is before after (next, named, settled) =
         let asked = asked_for f op.what is.1.0.found before next named in
         let later = handed together (is.0.caches op.actor).noted next after settled in
-        ((asked.named, tt, tt), together before next after asked.kept later.0, later.1 ∙ ap (λ ix. with_noted ix (is.0.caches op.actor).noted) asked.left)
+        ((asked.named, (tt, tt)), together before next after asked.kept later.0, later.1 ∙ ap (λ ix. with_noted ix (is.0.caches op.actor).noted) asked.left)
+
+-- ---- how many indexes there are
+after_many : (f : Profile) (what : What) (indexes : Indexes) → length (after_operation f what indexes) ≡ length indexes
+after_many f (Alloc name heap size align) indexes = request_many (route_in f size align) heap (pages_of (wanted_for f heap size align)) indexes
+  where
+    request_many : (route : Route) (heap n : ℕ) (indexes : Indexes) → length (after_request route heap n indexes) ≡ length indexes
+    request_many (Route.Class class) heap n indexes = refl
+    request_many Route.Bitfit heap n indexes = refl
+    request_many Route.Large heap n indexes = length-set indexes heap (cut_lowest n (ranges_of indexes heap))
+after_many f what indexes = refl
+
+noted_many : (runs : List EndedRun) (indexes : Indexes) → length (with_noted indexes runs) ≡ length indexes
+noted_many [] indexes = refl
+noted_many (run ∷ runs) indexes = noted_many runs (added_in indexes run.heap run.range) ∙ length-set indexes run.heap (added (span_of run.range) (ranges_of indexes run.heap))
+
+pub operated_many : (f : Profile) (op : Op) (p q : Progress) (is : Reaches f (Operates op ∷ (Settles op.actor ∷ [])) p q) (indexes : Indexes) → length (indexes_after_all f (Operates op ∷ (Settles op.actor ∷ [])) p q is indexes) ≡ length indexes
+operated_many f op p q is indexes = noted_many (is.0.caches op.actor).noted (after_operation f op.what indexes) ∙ after_many f op.what indexes
+
+-- a vector whose elements were all written back has what the indexes hold then
+pub written_back : {f : Profile} {k : ℕ} {op : Op} {indexes indexes' : Indexes} {came : List Named} {old new : Here} {later : Later} {p : Progress} (items : Indexes) (many : ℕ) → indexes ≡ items → length indexes ≡ many → ActsByIndexes f k op indexes indexes' came old new later p
+    → ActsByIndexes f k op items (take many (indexes' ++ drop (length indexes') items)) came old new later p
+written_back {f} {k} {op} {indexes} {indexes'} {p = p} items many is same acts =
+    let did = acts.did in
+    record {
+      did = did;
+      named = subst (λ (ix : Indexes). AllAreNamedBy f ix (Operates op ∷ (Settles op.actor ∷ [])) p did.reached did.reaches) is acts.named;
+      left = take_at indexes' (drop (length indexes') items) many (ap (λ (ix : Indexes). length ix) acts.left ∙ operated_many f op p did.reached did.reaches indexes ∙ same) ∙ acts.left
+          ∙ ap (λ (ix : Indexes). indexes_after_all f (Operates op ∷ (Settles op.actor ∷ [])) p did.reached did.reaches ix) is;
+    }

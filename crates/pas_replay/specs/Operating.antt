@@ -11,8 +11,7 @@ use Rattle.pas_acts.specs.AtDesks.{Here, ThreadActs}
 
 -- Thread k did the operation, and what its cache noted was handed on. The runs that were named are those of the indexes, which hold then what they do after
 -- these acts.
-abbrev pub ActsByIndexes : (f : Profile) (k : ℕ) (op : Op) → Indexes → Indexes → List Named → Here → Here → Later → Progress → Type 0
-ActsByIndexes f k op indexes indexes' came old new later p =
-    (did : ThreadActs f k (Operates op ∷ (Settles op.actor ∷ [])) came [] old new later p)
-    × AllAreNamedBy f indexes (Operates op ∷ (Settles op.actor ∷ [])) p did.reached did.reaches
-    × (indexes' ≡ indexes_after_all f (Operates op ∷ (Settles op.actor ∷ [])) p did.reached did.reaches indexes)
+pub record ActsByIndexes (f : Profile) (k : ℕ) (op : Op) (indexes indexes' : Indexes) (came : List Named) (old new : Here) (later : Later) (p : Progress) : Type 0 where
+  pub did : ThreadActs f k (Operates op ∷ (Settles op.actor ∷ [])) came [] old new later p
+  pub named : AllAreNamedBy f indexes (Operates op ∷ (Settles op.actor ∷ [])) p did.reached did.reaches
+  pub left : indexes' ≡ indexes_after_all f (Operates op ∷ (Settles op.actor ∷ [])) p did.reached did.reaches indexes

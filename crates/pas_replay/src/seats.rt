@@ -137,7 +137,7 @@ pub(crate) fn wake(desk: &mut PlainDesk, actors: &mut Actors, actor: u8)
 /// The desk's thread does the task, with the indexes as its door. This answers each operation of the thread that asks for the task.
 fn operate_by(
     desk: &mut PlainDesk,
-    indexes: &mut Vec<LargeIndex>,
+    indexes: &mut [LargeIndex],
     cache: &mut ThreadCache,
     task: Task,
     meant: Option<Name>,
@@ -145,7 +145,7 @@ fn operate_by(
 ) -> Option<Name>
     requires stands { (f : TheProfile) × (op : TheOp) × (later : Later) × (p : Progress) × (op.what ≡ what_of task) × MayOperate f op.actor op.what meant (here (standing_of desk.old) (cached cache.old) out.old) later p }
     ensures operates { (f : TheProfile) (op : TheOp) (later : Later) (p : Progress) → op.what ≡ what_of task → MayOperate f op.actor op.what meant (here (standing_of desk.old) (cached cache.old) out.old) later p
-        → ActsByIndexes f op.actor op indexes.old.items indexes.new.items (named_by op.what result) (here (standing_of desk.old) (cached cache.old) out.old) (here (standing_of desk.new) (cached cache.new) out.new) later p }
+        → ActsByIndexes f op.actor op indexes.old indexes.new (named_by op.what result) (here (standing_of desk.old) (cached cache.old) out.old) (here (standing_of desk.new) (cached cache.new) out.new) later p }
     ensures turn { HasTurn result }
 {
     let mut door = PlainDoor::new(indexes);

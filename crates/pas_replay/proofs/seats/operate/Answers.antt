@@ -5,6 +5,7 @@ use Rattle.pas_answers.specs.Fit.{IsFitWhat}
 use Rattle.pas_answers.specs.Names.{names_held}
 use Rattle.pas_replay.proofs.Turning.{may_take}
 use Rattle.pas_replay.proofs.ByActors.{may_operate, operate_turn}
+use Rattle.pas_replay.proofs.Doors.{written_back}
 use Rattle.pas_replay.proofs.seats.operate.Goals as goal
 
 pub take_seat-requires : goal.take_seat-requires
@@ -28,4 +29,5 @@ returns-clause-threads c = length-set c.args.actors.now.caches.items (c.args.act
 pub returns-clause-so_far : goal.returns-clause-so_far
 returns-clause-so_far c op mine asks r more (taken, (p, at)) =
     let did = c.operate_by-came.ensures.operates r.profile op _ p asks (may_operate c.args.actor c.index_mut-cache.result.now mine asks c.requires.some c.requires.thread c.take_seat.ensures c.index_mut-cache.ensures.value c.freed-meant.ensures at) in
-    operate_turn c.args.actor c.operate_by-came.result c.index_mut-cache.result.now c.operate_by-came.new.cache mine asks c.requires.some c.requires.thread c.take_seat.ensures c.index_mut-cache.ensures.value at did c.keep.ensures.held (c.keep.ensures.tells p.names at.names.tells) (c.keep.ensures.turns at.names.turns c.operate_by-came.ensures.turn)
+    let acts = written_back c.args.actors.now.indexes.items c.args.actors.now.indexes.len c.deref_mut.ensures.value c.deref_mut.ensures.len did in
+    operate_turn c.args.actor c.operate_by-came.result c.index_mut-cache.result.now c.operate_by-came.new.cache mine asks c.requires.some c.requires.thread c.take_seat.ensures c.index_mut-cache.ensures.value at acts c.keep.ensures.held (c.keep.ensures.tells p.names at.names.tells) (c.keep.ensures.turns at.names.turns c.operate_by-came.ensures.turn)
