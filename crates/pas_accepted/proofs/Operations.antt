@@ -1,5 +1,5 @@
 -- A thread's operation, by what it asks for.
-use Rattle.std.proofs.Common.{◌≡◌, ℕ, List, [], ◌∷◌, ◌++◌, None, Result, refl, ap, sym, ◌∙◌}
+use Rattle.std.proofs.Common.{◌≡◌, ℕ, List, [], ◌∷◌, ◌++◌, None, Result, refl, ap, sym, ◌∙◌, Option}
 use Rattle.pas_profile.specs.Profiles.{IsValid}
 use Rattle.pas_profile.specs.Requests.{route_in}
 use Rattle.pas_profile.specs.declared.directory.Route.{Route}
@@ -37,9 +37,9 @@ use Rattle.pas_accepted.proofs.Stopping.{emptied, logs_with, stop_leads, stop_te
 use Rattle.pas_accepted.proofs.Telling.{Comes, Tells, piece_of, told_after}
 
 -- no request changes when its thread read the epoch
-idle_kept : (f : Profile) (wanted : Wanted) (c c' : Cached) (steps : List Made) (answer : Result Block NoRoom) (route : Route) → ServesBy route f wanted None c c' steps answer → c'.idle_since ≡ c.idle_since
-idle_kept f wanted c c' steps answer (Route.Class class) h = ap (λ (d : Cached). d.idle_since) h.cache
-idle_kept f wanted c c' steps answer route h = ap (λ (d : Cached). d.idle_since) h.cache
+idle_kept : (f : Profile) (wanted : Wanted) (found : Option ℕ) (c c' : Cached) (steps : List Made) (answer : Result Block NoRoom) (route : Route) → ServesBy route f wanted found c c' steps answer → c'.idle_since ≡ c.idle_since
+idle_kept f wanted found c c' steps answer (Route.Class class) h = ap (λ (d : Cached). d.idle_since) h.cache
+idle_kept f wanted found c c' steps answer route h = ap (λ (d : Cached). d.idle_since) h.cache
 
 module _ (f : Profile) (valid : IsValid f) (p : Progress) (s : Stand) (ts : List Task) (tells : Tells p s) (due : s.due ≡ []) (k : ℕ) (a : Answer) (legal : Legal f (triples k a.steps ++ p.list)) where
   -- the piece is tidy
@@ -62,7 +62,7 @@ module _ (f : Profile) (valid : IsValid f) (p : Progress) (s : Stand) (ts : List
             (on_both f s u end [] _ begun (request_leads f valid w k r p.list a.steps tells.events legal (p.caches k).locals is.answer is.ends truly));
         tells = told_after p s end k a.steps a.cache a.names _ tells refl (ap (λ ns. named name (name_of is.answer) ∷ ns) tells.names ∙ sym is.names_are)
             (λ j. table_same (λ (d : Cached). d.log) p.caches k a.cache (log_kept f wanted None (p.caches k) a.cache a.steps is.answer (route_in f size align) is.serves) j ∙ tells.logs j)
-            (idle_kept f wanted (p.caches k) a.cache a.steps is.answer (route_in f size align) is.serves) refl refl (epoch_kept allocating refl k a.steps p.list is.kinds) (tidy_of (Alloc name heap size align) is);
+            (idle_kept f wanted None (p.caches k) a.cache a.steps is.answer (route_in f size align) is.serves) refl refl (epoch_kept allocating refl k a.steps p.list is.kinds) (tidy_of (Alloc name heap size align) is);
         due = refl;
         left = refl;
       }
