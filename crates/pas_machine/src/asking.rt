@@ -1,12 +1,13 @@
-//! What a machine says of a page.
-ghost use Rattle.std.specs.Prelude.{◌≡◌, MatchBool, List};
+//! What a machine says of a page and of a grain.
+ghost use Rattle.std.specs.Prelude.{◌≡◌, ◌*◌, ◌<◌, MatchBool, List};
 ghost use Rattle.pas_profile.specs.Profiles.{IsPage};
 ghost use Rattle.pas_profile.specs.declared.event.Event.{Event as TheEvent};
-ghost use Rattle.pas_machine.specs.State.{deed_in, backed_in, epoch_in};
+ghost use Rattle.pas_machine.specs.State.{deed_in, backed_in, epoch_in, live_in, gives_in};
 ghost use Rattle.pas_machine.specs.Machines.{profile_of, StandsFor};
+ghost use Rattle.pas_machine.specs.Places.{IsCovered, block_of, grains_of};
 
 use crate::machine::Machine;
-use pas_profile::{Directory, Profile};
+use pas_profile::{Block, Directory, Profile};
 
 impl Machine {
     /// The profile of the machine's region.
@@ -45,5 +46,28 @@ impl Machine {
         ensures { (es : List TheEvent) → StandsFor self.now es → result ≡ epoch_in es page }
     {
         self.pages[page as usize].epoch
+    }
+    /// The block that lives at the grain of this number in the region; None where none begins there. Page 1 begins at grain 256. One look.
+    pub fn block_at(&self, grain: u32) -> Option<Block>
+        requires { grain < grains_of (profile_of self.now) }
+        ensures { (es : List TheEvent) → StandsFor self.now es → result ≡ block_of (live_in es (16 * grain)) }
+    {
+        self.places[grain as usize].block
+    }
+
+    /// How many blocks were given at the grain of this number. One look.
+    pub fn gives_at(&self, grain: u32) -> u64
+        requires { grain < grains_of (profile_of self.now) }
+        ensures { (es : List TheEvent) → StandsFor self.now es → result ≡ gives_in es (16 * grain) }
+    {
+        self.places[grain as usize].gives
+    }
+
+    /// Whether a live block has the grain of this number. One look.
+    pub fn is_covered(&self, grain: u32) -> bool
+        requires { grain < grains_of (profile_of self.now) }
+        ensures { (es : List TheEvent) → StandsFor self.now es → IsCovered es grain result }
+    {
+        self.covered[grain as usize]
     }
 }

@@ -1,7 +1,7 @@
 mod Texts
 mod Decimals
-mod Counting
-mod MarkBits
+pub mod Counting
+pub mod MarkBits
 mod Totals
 pub mod Agreeing
 pub mod Pieces

@@ -29,16 +29,16 @@ use Rattle.pas_report.proofs.Agreeing.{backed_agrees, life_agrees, line_agrees}
 use Rattle.pas_report.proofs.Counting.{grains_same}
 
 -- ---- whether some number passes a test
-some_of : (n x : ℕ) (p : ℕ → Bool) → x < n → p x ≡ true → some_below n p ≡ true
+pub some_of : (n x : ℕ) (p : ℕ → Bool) → x < n → p x ≡ true → some_below n p ≡ true
 some_of zero x p below is = absurd (omega arith)
 some_of (suc n) x p below is = elim (cases_eq x n) [ inl e ↦ or_left (p n) (some_below n p) (ap p (sym e) ∙ is) | inr ne ↦ or_right (p n) (some_below n p) (some_of n x p (omega arith) is) ]
 
-none_of : (n : ℕ) (p : ℕ → Bool) → ((x : ℕ) → x < n → p x ≡ false) → some_below n p ≡ false
+pub none_of : (n : ℕ) (p : ℕ → Bool) → ((x : ℕ) → x < n → p x ≡ false) → some_below n p ≡ false
 none_of zero p fails = refl
 none_of (suc n) p fails = or_from (p n) (some_below n p) (fails n (omega arith)) (none_of n p (λ x h. fails x (omega arith)))
 
 -- ---- a grain that nobody holds is free, or a live block covers it
-not_covering : (o : Option Live) (address g : ℕ) → ((b : Live) → o ≡ Some b → in_run (address / 16) (length_of b.block) g ≡ true → ⊥) → covers o address g ≡ false
+pub not_covering : (o : Option Live) (address g : ℕ) → ((b : Live) → o ≡ Some b → in_run (address / 16) (length_of b.block) g ≡ true → ⊥) → covers o address g ≡ false
 not_covering None address g apart = refl
 not_covering (Some b) address g apart = false_from_ne_true (in_run (address / 16) (length_of b.block) g) (apart b refl)
 

@@ -14,7 +14,7 @@ pub mod transcript;
 
 pub use lines::{event_line, push_record, record_line, said_line};
 pub use marking::{Marks, page_marks};
-pub use pages::{page_line, total_line};
+pub use pages::{page_line, shown_page, shown_totals, total_line};
 pub use record::{Record, Said};
 pub use records::{Records, room_for_replay};
 pub use reports::{has_deed_words, report};

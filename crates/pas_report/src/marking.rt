@@ -47,6 +47,15 @@ impl Flags for Marks {
     }
 }
 
+impl Marks {
+    /// The marks whose bits are set: backed 1, offered 2, parked 4, hinted 8.
+    pub fn of_bits(bits: u8) -> Marks
+        ensures { result.0 ≡ bits }
+    {
+        Marks(bits)
+    }
+}
+
 /// Whether any actor may take the right of a page.
 fn is_offered(state: &State, page: u32) -> bool
     requires page { IsPage (profile_of state.now) page }

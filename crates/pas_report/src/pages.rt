@@ -1,15 +1,16 @@
 //! The lines of the report.
-ghost use Rattle.std.specs.Prelude.{◌≡◌, ◌+◌, ◌≤◌, ◌++◌};
+ghost use Rattle.std.specs.Prelude.{◌≡◌, ◌+◌, ◌^◌, ◌<◌, ◌≤◌, ◌++◌};
 ghost use Rattle.arrayvec.specs.ArrayString.{array_string_len};
 ghost use Rattle.pas_profile.specs.Directories.{IsKind};
 ghost use Rattle.pas_profile.specs.Profiles.{IsPage};
 ghost use Rattle.pas_profile.specs.declared.word.Word.TheVariants as Word;
 ghost use Rattle.pas_steps.specs.States.{profile_of, word_in};
 ghost use Rattle.pas_report.specs.Counts.{IsDeedWord, free_counted_on, live_counted_on, marked_in, page_by_words, totals_by_words};
-ghost use Rattle.pas_report.specs.Reports.{page_text};
+ghost use Rattle.pas_report.specs.Marks.{marks_of};
+ghost use Rattle.pas_report.specs.Reports.{page_text, totals_text};
 
 use crate::counts::{Blocks, count_backed, count_blocks, count_deeds, free_on, live_on};
-use crate::marking::{names_of, page_marks};
+use crate::marking::{Marks, names_of, page_marks};
 use crate::text::{Line, push_field, push_kind};
 use arrayvec::ArrayString;
 use pas_profile::{Directory, Word, read_deed};
@@ -52,15 +53,53 @@ fn push_deed_page<const C: usize>(
     requires room { array_string_len text.old + 128 ≤ C }
     ensures { text.new.bytes ≡ text.old.bytes ++ page_text page directory (live_counted_on state.now page) (free_counted_on state.now page) (word_in state.now (Word.Stamp page)) (marked_in state.now page) }
 {
+    let live = live_on(state, page);
+    let free = free_on(state, page);
+    let stamp = state.word(Word::Stamp(page));
+    let marks = page_marks(state, page);
+    push_shown_page(text, page, directory, live, free, stamp, marks);
+}
+
+/// The line of a page with this directory, so many live blocks and free grains, this stamp and these marks.
+pub fn shown_page(
+    page: u32,
+    directory: Directory,
+    live: u16,
+    free: u16,
+    stamp: u64,
+    marks: Marks,
+) -> Line
+    requires { IsKind directory.kind }
+    ensures { result.bytes ≡ page_text page directory live free stamp (marks_of marks.0) }
+{
+    let mut line = Line::new();
+    push_shown_page(&mut line, page, directory, live, free, stamp, marks);
+    line
+}
+
+/// Adds the line of such a page, of at most 128 bytes.
+fn push_shown_page<const C: usize>(
+    text: &mut ArrayString<C>,
+    page: u32,
+    directory: Directory,
+    live: u16,
+    free: u16,
+    stamp: u64,
+    marks: Marks,
+)
+    requires kind { IsKind directory.kind }
+    requires room { array_string_len text.old + 128 ≤ C }
+    ensures { text.new.bytes ≡ text.old.bytes ++ page_text page directory live free stamp (marks_of marks.0) }
+{
     push_field(text, "page ", page);
     push_field(text, " heap ", directory.heap);
     text.push_str(" ");
     push_kind(text, directory.kind);
-    push_field(text, " live ", live_on(state, page));
-    push_field(text, " free ", free_on(state, page));
-    push_field(text, " stamp ", state.word(Word::Stamp(page)));
+    push_field(text, " live ", live);
+    push_field(text, " free ", free);
+    push_field(text, " stamp ", stamp);
     text.push_str(" marks ");
-    text.push_str(names_of(page_marks(state, page)));
+    text.push_str(names_of(marks));
     text.push_str("\n");
 }
 
@@ -79,8 +118,33 @@ pub(crate) fn push_totals<const C: usize>(text: &mut ArrayString<C>, state: &Sta
     ensures { text.new.bytes ≡ text.old.bytes ++ totals_by_words state.now }
 {
     let Blocks { live, ended } = count_blocks(state);
-    push_field(text, "total deeds ", count_deeds(state));
-    push_field(text, " backed ", count_backed(state));
+    push_shown_totals(text, count_deeds(state), count_backed(state), live, ended);
+}
+
+/// The line of these totals: of pages with a deed and backed pages, of blocks that live and that ended. Each block that was given lives or ended.
+pub fn shown_totals(deeds: u32, backed: u32, live: u64, ended: u64) -> Line
+    requires { ended + live < 2 ^ 63 }
+    ensures { result.bytes ≡ totals_text deeds backed live (ended + live) ended }
+{
+    let mut line = Line::new();
+    push_shown_totals(&mut line, deeds, backed, live, ended);
+    line
+}
+
+/// Adds the line of these totals, of at most 128 bytes.
+fn push_shown_totals<const C: usize>(
+    text: &mut ArrayString<C>,
+    deeds: u32,
+    backed: u32,
+    live: u64,
+    ended: u64,
+)
+    requires fit { ended + live < 2 ^ 63 }
+    requires room { array_string_len text.old + 128 ≤ C }
+    ensures { text.new.bytes ≡ text.old.bytes ++ totals_text deeds backed live (ended + live) ended }
+{
+    push_field(text, "total deeds ", deeds);
+    push_field(text, " backed ", backed);
     push_field(text, " live ", live);
     push_field(text, " given ", ended + live);
     push_field(text, " ended ", ended);
