@@ -108,12 +108,14 @@ module _ (d : Directory) (first k : ℕ) (block : Block) where
             backs = give.backs;
             back_kinds = give.back_kinds;
             back_pages = give.back_pages;
+            back_order = give.back_order;
             back_few = give.back_few;
             word = give.word;
             answer = give.answer;
             block_is = give.block_is;
             left = left;
             left_kinds = only_both returning high.steps (low.steps ++ give.left) (returns_are (first + k + 1) high.steps high.returns) (only_both returning low.steps give.left (returns_are first low.steps low.returns) give.left_kinds);
+            left_order = (high.steps, low.steps ++ give.left, high.order, (low.steps, give.left, low.order, give.left_order, refl), refl);
             few = (let i = length-append high.steps (low.steps ++ gs) in let j = length-append low.steps gs in let a = high.few in let b = low.few in let c = give.few in let e = ap (λ s. length s) same in omega (arith, i, j, a, b, c, e));
             calls = subst (Calls σ σ3 (HasPages d first (first + (k + 2))) (GuardedRun d first k block)) (sym same) (call_as (GuardedRun d first k block) done (λ v met. met) (λ v w met both. record { does = both.0.does; deeds = both.1; turn = both.0.turn }));
           }

@@ -302,12 +302,14 @@ module _ {σ σ1 : Standing} (heap k first : ℕ) (gs : List Guard) (seek : Seek
             backs = g.backs;
             back_kinds = g.back_kinds;
             back_pages = g.back_pages;
+            back_order = g.back_order;
             back_few = g.back_few;
             word = g.word;
             answer = g.answer;
             block_is = g.block_is;
             left = g.left;
             left_kinds = g.left_kinds;
+            left_order = g.left_order;
             after_is = refl;
             raised = refl;
           };

@@ -10,14 +10,17 @@ use Rattle.pas_steps.specs.Past.{Always}
 use Rattle.pas_steps.specs.declared.step.Step.TheVariants.{Back}
 use Rattle.pas_large.specs.Claims.{StaysPut}
 use Rattle.pas_steps.specs.Desks.{Standing, Adds}
+use Rattle.pas_steps.specs.InTurn.{InTurn}
 use Rattle.pas_steps.specs.Kinds.{Backing, Only, returning}
 use Rattle.pas_steps.specs.Unknown.{unknown_pages}
 use Rattle.pas_steps.specs.Views.{View}
 use Rattle.pas_steps.specs.declared.step.Made.{Made}
 use Rattle.pas_rights.specs.Gives.{give_steps}
-use Rattle.pas_large.specs.Gives.{BacksIn, run_block}
+use Rattle.pas_rights.specs.Leaves.{LeaveSteps}
+use Rattle.pas_large.specs.Gives.{BackStep, BacksIn, pages_from, run_block}
 use Rattle.pas_large.specs.Pages.{OnlyDeedsShow}
 use Rattle.pas_guard.specs.Books.{is_outer, FitsBook}
+use Rattle.pas_guard.specs.Guards.{left_last_first}
 use Rattle.pas_guard.specs.Seeks.{seeking, SoughtRun, SoughtNone}
 use Rattle.pas_guard.specs.declared.book.Guard.{Guard}
 
@@ -30,19 +33,22 @@ pub record RaiseRoom (f : Profile) (guards : List Guard) (n spare : ℕ) (v : Vi
 abbrev pub guard_of : ℕ → ℕ → Block → Guard
 guard_of first k block = record { low = first; high = first + k + 1; block = block }
 
--- The search found the run. Then its inner pages were backed and given as one block, and all its pages were left. The guard is the last in the book.
+-- The search found the run. Then its inner pages were backed from the lowest up and given as one block, and all its pages were left: those of the block
+-- from the lowest up, then the two beside it. The guard is the last in the book.
 pub record IsRaised (f : Profile) (d : Directory) (k : ℕ) (guards guards' : List Guard) (searched after : List Made) (block : Block) : Type 0 where
   pub first : ℕ
   pub found : SoughtRun f d k searched first
   pub backs : List Made
   pub back_kinds : Only (Backing ∷ []) backs
   pub back_pages : BacksIn (first + 1) (first + 1 + k) backs
+  pub back_order : InTurn BackStep (pages_from (first + 1) k) backs
   pub back_few : length backs ≤ k
   pub word : ℕ
   pub answer : ℕ
   pub block_is : block ≡ run_block d (first + 1) k word
   pub left : List Made
   pub left_kinds : Only returning left
+  pub left_order : InTurn (λ page piece. LeaveSteps page d piece) (left_last_first first k) left
   pub after_is : after ≡ left ++ (give_steps (first + 1) 0 block word answer ++ backs)
   pub raised : guards' ≡ guards ++ guard_of first k block ∷ []
 
