@@ -61,8 +61,8 @@ module _ (f : Profile) (valid : IsValid f) (p : Progress) (s : Stand) (ts : List
         leads = on_as f s end end _ _ (ap (λ o. lines_by (rs ++ said_by k o)) is.said_is) refl
             (on_both f s u end [] _ begun (request_leads f valid w k r p.list a.steps tells.events legal (p.caches k).locals is.answer is.ends truly));
         tells = told_after p s end k a.steps a.cache a.names _ tells refl (ap (λ ns. named name (name_of is.answer) ∷ ns) tells.names ∙ sym is.names_are)
-            (λ j. table_same (λ (d : Cached). d.log) p.caches k a.cache (log_kept f wanted None (p.caches k) a.cache a.steps is.answer (route_in f size align) is.serves) j ∙ tells.logs j)
-            (idle_kept f wanted None (p.caches k) a.cache a.steps is.answer (route_in f size align) is.serves) refl refl (epoch_kept allocating refl k a.steps p.list is.kinds) (tidy_of (Alloc name heap size align) is);
+            (λ j. table_same (λ (d : Cached). d.log) p.caches k a.cache (log_kept f wanted a.found (p.caches k) a.cache a.steps is.answer (route_in f size align) is.serves) j ∙ tells.logs j)
+            (idle_kept f wanted a.found (p.caches k) a.cache a.steps is.answer (route_in f size align) is.serves) refl refl (epoch_kept allocating refl k a.steps p.list is.kinds) (tidy_of (Alloc name heap size align) is);
         due = refl;
         left = refl;
       }
