@@ -29,6 +29,7 @@ use Rattle.pas_passes.specs.Records.{records_of_pass}
 use Rattle.pas_trace.specs.Acts.{Act, Operates, Settles, Ticks, MakesPass, ReadsEpoch, StopsIdle, MarksPhase, Wakes, MarksClose, Ends, acts_of}
 use Rattle.pas_answers.specs.Answers.{Progress, having, records_of, said_by, stopped, epoch_look, IsStopped, after_stop}
 use Rattle.pas_answers.specs.Reaching.{Advances, Reaches}
+use Rattle.pas_answers.specs.Indexes.{GoByIndexes}
 use Rattle.pas_answers.specs.Refusals.{AreRefusalsTrue}
 use Rattle.pas_answers.specs.Replays.{at_start, phases_of, IsReplay, region_of, threads_of}
 use Rattle.pas_answers.specs.Ways.{Way, IsOneOrder, arranged}
@@ -44,7 +45,7 @@ record Leaves (l l' : Whole) (rs rs' : List Record) : Type 0 where
   tidy : Each Tidy l → Each Tidy l'
   shown : EachShown rs → EachShown rs'
 
-tidy_piece : (k : ℕ) (steps : List Made) (l : Whole) → Each Tidy l → Tidy (steps ++ part k l) → Each Tidy (triples k steps ++ l)
+pub tidy_piece : (k : ℕ) (steps : List Made) (l : Whole) → Each Tidy l → Tidy (steps ++ part k l) → Each Tidy (triples k steps ++ l)
 tidy_piece k steps l all new j = elim (cases_eq k j) [
   | inl e ↦ subst (λ i. Tidy (part i (triples k steps ++ l))) e (subst Tidy (sym (part_of_own k steps l)) new)
   | inr ne ↦ subst Tidy (sym (part_of_others j k steps l ne)) (all j)
@@ -113,7 +114,7 @@ later_kept : (t : Bool) (m : Made) (v : View) → KeptPart (if t then m ∷ v el
 later_kept true m v all = all.1
 later_kept false m v all = all
 
-parts_kept : (l : Whole) → ((k : ℕ) → KeptPart (part k l)) → AllKeepToEnds l
+pub parts_kept : (l : Whole) → ((k : ℕ) → KeptPart (part k l)) → AllKeepToEnds l
 parts_kept [] all = tt
 parts_kept (t ∷ l) all = (
   (subst (λ (b : Bool). KeptPart (if b then t.made ∷ part t.actor l else part t.actor l)) (eq-eqb t.actor t.actor refl) (all t.actor)).0,
@@ -147,8 +148,8 @@ can_be_shown {way} {plan} {whole} {records} is =
 
 pub replays : (way : Way) (plan : Plan) (reached : Progress) (whole : Whole) (records : List Record) → IsValid (region_of plan) → (answers : Reaches (region_of plan) (acts_of (threads_of plan) (phases_of plan)) at_start reached)
     → IsOneOrder way reached.list whole → records ≡ arranged way (region_of plan).threads reached.records → Legal (region_of plan) whole → ((k : ℕ) → HasNothing (part k whole))
-    → AreRefusalsTrue way (region_of plan) (acts_of (threads_of plan) (phases_of plan)) at_start reached answers → IsReplay way plan whole records
-replays way plan reached whole records valid answers one_order records_are legal nothing refusals = record {
+    → AreRefusalsTrue way (region_of plan) (acts_of (threads_of plan) (phases_of plan)) at_start reached answers → GoByIndexes way (region_of plan) (acts_of (threads_of plan) (phases_of plan)) at_start reached answers → IsReplay way plan whole records
+replays way plan reached whole records valid answers one_order records_are legal nothing refusals indexes = record {
   reached = reached;
   answers = answers;
   one_order = one_order;
@@ -160,4 +161,5 @@ replays way plan reached whole records valid answers one_order records_are legal
   stamps = stamps_are way (region_of plan) (acts_of (threads_of plan) (phases_of plan)) reached whole answers one_order legal valid;
   marks = true_marks (region_of plan) whole valid legal nothing;
   refusals = refusals;
+  indexes = indexes;
 }

@@ -72,6 +72,7 @@ stands_for names name block means known = known.1 ∙ ap (λ b. Some b) (sym (be
 pub performs_free : {σ σ' : Standing} {said : Option Said} (task : Task) (meant : Option Name) (c c' : Cached) (name : ℕ) (block : Name) → task ≡ Task.Free name → meant ≡ Some block → FreesOne block c c' σ σ' said → PerformsMeant (what_of task) meant None c c' σ σ' said
 performs_free {σ} {σ'} {said} task meant c c' name block is named frees = subst (λ t. PerformsMeant (what_of t) meant None c c' σ σ' said) (sym is) record {
   steps = frees.steps;
+  found = None;
   calls = frees.calls;
   few = frees.few;
   answered = λ v l stood rest names means known. (subst (λ o. IsFreedBy σ.seat.profile σ.seat.actor c c' name o frees.steps said) (sym (stands_for names name (Some block) (means ∙ named) known)) frees.freed, refl);
@@ -82,6 +83,7 @@ performs_free {σ} {σ'} {said} task meant c c' name block is named frees = subs
 pub performs_skip : {σ : Standing} (task : Task) (meant : Option Name) (c : Cached) (name : ℕ) → task ≡ Task.Free name → meant ≡ None → PerformsMeant (what_of task) meant None c c σ σ (Some (Said.Skipped name))
 performs_skip {σ} task meant c name is named = subst (λ t. PerformsMeant (what_of t) meant None c c σ σ (Some (Said.Skipped name))) (sym is) record {
   steps = [];
+  found = None;
   calls = call_none (λ v rest. rest);
   few = λ v rest agreed. omega arith;
   answered = λ v l stood rest names means known. (subst (λ o. IsFreedBy σ.seat.profile σ.seat.actor c c name o [] (Some (Said.Skipped name))) (sym (stands_for names name None (means ∙ named) known)) (refl, refl, refl), refl);
@@ -92,6 +94,7 @@ performs_skip {σ} task meant c name is named = subst (λ t. PerformsMeant (what
 pub performs_raw : {σ σ' : Standing} {said : Option Said} (task : Task) (meant : Option Name) (c c' : Cached) (block : Name) → task ≡ Task.FreeRaw block → FreesOne block c c' σ σ' said → PerformsMeant (what_of task) meant None c c' σ σ' said
 performs_raw {σ} {σ'} {said} task meant c c' block is frees = subst (λ t. PerformsMeant (what_of t) meant None c c' σ σ' said) (sym is) record {
   steps = frees.steps;
+  found = None;
   calls = frees.calls;
   few = frees.few;
   answered = λ v l stood rest names means known. (frees.freed, refl);
@@ -102,6 +105,7 @@ performs_raw {σ} {σ'} {said} task meant c c' block is frees = subst (λ t. Per
 pub performs_flush : {σ σ' : Standing} (task : Task) (meant : Option Name) (c c' : Cached) → task ≡ Task.Flush → FlushesLog c c' σ σ' → PerformsMeant (what_of task) meant None c c' σ σ' None
 performs_flush {σ} {σ'} task meant c c' is flushes = subst (λ t. PerformsMeant (what_of t) meant None c c' σ σ' None) (sym is) record {
   steps = flushes.steps;
+  found = None;
   calls = flushes.calls;
   few = λ v rest agreed.
       let events = emptied_events σ.seat.actor c.log c.noted c'.noted flushes.steps v flushes.empties in
@@ -115,6 +119,7 @@ performs_flush {σ} {σ'} task meant c c' is flushes = subst (λ t. PerformsMean
 pub performs_stop : {σ σ' : Standing} (task : Task) (meant : Option Name) (c c' : Cached) → task ≡ Task.Stop → StopsCache c c' σ σ' → PerformsMeant (what_of task) meant None c c' σ σ' None
 performs_stop {σ} {σ'} task meant c c' is stops = subst (λ t. PerformsMeant (what_of t) meant None c c' σ σ' None) (sym is) record {
   steps = stops.stopped ++ stops.flushed;
+  found = None;
   calls = call_as (λ v w. AtRest σ.seat.profile c' w) stops.calls (λ v rest. rest) (λ v w rest stopped. stopped.0);
   few = λ v rest agreed.
       let events = emptied_events σ.seat.actor c.log c.noted c'.noted stops.flushed v stops.empties in

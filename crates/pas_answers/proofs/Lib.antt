@@ -6,9 +6,9 @@ mod Records
 pub mod OwnRecords
 pub mod KnownNames
 pub mod Reached
-mod Parts
+pub mod Parts
 mod Shown
-mod Tidy
+pub mod Tidy
 pub mod TrueRefusals
 pub mod Consequences
 pub mod SingleActs

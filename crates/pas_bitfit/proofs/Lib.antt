@@ -1,4 +1,4 @@
 pub mod Aligned
 mod EndBits
-mod Lowest
+pub mod Lowest
 mod Asked

@@ -114,10 +114,10 @@ small_did wanted found Route.Bitfit small it = it
 small_did wanted found Route.Large small it = absurd small
 
 -- no run was named where the door names none for whole pages
-pub none_named : (Answers : Option ℕ → Type 0) {Same : Type 0} {found : Option ℕ} (route : Route) → (route ≡ Route.Large → Answers found → found ≡ None) → IsNamed route Answers Same found → found ≡ None
-none_named Answers (Route.Class class) by named = named.0
-none_named Answers Route.Bitfit by named = named.0
-none_named Answers Route.Large by named = by refl named
+pub none_named : (Answers : Option ℕ → Type 0) (Same : Type 0) {found : Option ℕ} (route : Route) → (route ≡ Route.Large → Answers found → found ≡ None) → IsNamed route Answers Same found → found ≡ None
+none_named Answers Same (Route.Class class) by named = named.0
+none_named Answers Same Route.Bitfit by named = named.0
+none_named Answers Same Route.Large by named = by refl named
 
 -- where it is for whole pages, so many
 pub pages_asked : (f : Profile) (size align : ℕ) → route_in f size align ≡ Route.Large → room_in f size align / 4096 ≡ (size + 4096 - 1) / 4096

@@ -106,7 +106,7 @@ ticked f text old from to within e n greater few is led = act_of_line f text old
         awake = stands.awake;
         epoch = same;
         small = few;
-        kept = record { few = stands.kept.few; ends = λ page. (let low = stands.kept.ends page in omega (arith, low)) };
+        kept = record { few = stands.kept.few; kinds = stands.kept.kinds; ends = λ page. (let low = stands.kept.ends page in omega (arith, low)) };
       },
     )) is led
 

@@ -65,7 +65,7 @@ record_is epoch (Record.Said k said) x h =
 record_is epoch (Record.Phase n) x h = absurd (none-some x h)
 record_is epoch Record.Close x h = absurd (none-some x h)
 
-outcome_is : (epoch page : ℕ) (o : Outcome) → outcome_in epoch (record_of epoch page o) ≡ Some record { page = page; outcome = o }
+pub outcome_is : (epoch page : ℕ) (o : Outcome) → outcome_in epoch (record_of epoch page o) ≡ Some record { page = page; outcome = o }
 outcome_is epoch page Unbacked = ap (λ (t : Bool). if t then Some (record { page = page; outcome = Unbacked }) else None) (eq-eqb epoch epoch refl)
 outcome_is epoch page Bare = refl
 outcome_is epoch page (Young stamp) = refl

@@ -1,20 +1,24 @@
 -- What every line keeps: few events, and ends at small epochs.
-use Rattle.std.proofs.Common.{◌≡◌, ℕ, suc, ◌+◌, ◌^◌, ◌<◌, ◌≤◌, ◌==◌, max, Bool, true, false, if◌then◌else◌, List, [], ◌∷◌, length, ap, subst, arith}
+use Rattle.std.proofs.Common.{◌≡◌, ℕ, suc, ◌+◌, ◌^◌, ◌<◌, ◌≤◌, ◌==◌, max, Bool, true, false, if◌then◌else◌, List, [], ◌∷◌, length, Option, Some, ap, sym, subst, arith}
+use Rattle.std.proofs.lemmas.Option.{same_Some}
+use Rattle.pas_profile.specs.Directories.{IsKind}
 use Rattle.pas_profile.specs.Profiles.{IsValid}
 use Rattle.pas_profile.specs.Blocks.{address_of}
+use Rattle.pas_profile.specs.declared.directory.Directory.{Directory}
 use Rattle.pas_profile.specs.declared.event.Event.{Event}
 use Rattle.pas_profile.specs.declared.profile.Profile.{Profile}
 use Rattle.pas_machine.specs.Machine.{Run}
 use Rattle.pas_machine.specs.Machines.{profile_of, StandsFor}
-use Rattle.pas_machine.specs.State.{epoch_in, gives_in, live_in, touches}
+use Rattle.pas_machine.specs.State.{deed_in, epoch_in, gives_in, live_in, touches}
 use Rattle.pas_machine.specs.declared.machine.Machine.{Machine}
 use Rattle.pas_check.specs.Bounds.{IsKept, IsSmall}
 use Rattle.pas_check.specs.States.{Stand}
 use Rattle.pas_check.specs.declared.cutting.Cursor.{Cursor}
 
--- an end isn't later than this
+-- an end isn't later than this, and a deed's kind is one
 abbrev pub EndsBy : ℕ → Event → Type 0
 EndsBy epoch (Event.End k name read) = read ≤ epoch
+EndsBy epoch (Event.Deed k page d) = IsKind d.kind
 EndsBy epoch other = Unit {0}
 
 raised : (t : Bool) (old read epoch : ℕ) → old ≤ epoch → read ≤ epoch → (if t then max old read else old) ≤ epoch
@@ -25,9 +29,26 @@ epoch_more : (e : Event) (es : List Event) (page epoch : ℕ) → EndsBy epoch e
 epoch_more (Event.End k name read) es page epoch by low = raised (touches (live_in es (address_of name)) page) (epoch_in es page) read epoch low by
 epoch_more other es page epoch by low = low
 
+-- each deed's kind is one
+abbrev AreKinds : List Event → Type 0
+AreKinds es = (page : ℕ) (d : Directory) → deed_in es page ≡ Some d → IsKind d.kind
+
+kind_made : (t : Bool) (made d : Directory) (old : Option Directory) → IsKind made.kind → (old ≡ Some d → IsKind d.kind) → (if t then Some made else old) ≡ Some d → IsKind d.kind
+kind_made true made d old kind before is = subst (λ (g : Directory). IsKind g.kind) (same_Some made d is) kind
+kind_made false made d old kind before is = before is
+
+kinds_more : (e : Event) (es : List Event) (epoch : ℕ) → EndsBy epoch e → AreKinds es → AreKinds (e ∷ es)
+kinds_more (Event.Deed k p made) es epoch by kinds page d is = kind_made (p == page) made d (deed_in es page) by (kinds page d) is
+kinds_more (Event.Back k p) es epoch by kinds page d is = kinds page d is
+kinds_more (Event.Unback k p read) es epoch by kinds page d is = kinds page d is
+kinds_more (Event.Give k block) es epoch by kinds page d is = kinds page d is
+kinds_more (Event.End k name read) es epoch by kinds page d is = kinds page d is
+kinds_more (Event.Reject k name why) es epoch by kinds page d is = kinds page d is
+
 pub kept_more : (t s : Stand) (at to : Cursor) (e : Event) → t.events ≡ e ∷ s.events → t.epoch ≡ s.epoch → to.lines ≡ at.lines + 1 → EndsBy s.epoch e → IsKept s at → IsKept t to
 kept_more t s at to e events epoch count by kept = record {
   few = (let long : length t.events ≡ suc (length s.events) = ap length events in let few = kept.few in omega (arith, long, few, count));
+  kinds = subst AreKinds (sym events) (kinds_more e s.events s.epoch by kept.kinds);
   ends = λ page.
       let here : epoch_in t.events page ≡ epoch_in (e ∷ s.events) page = ap (λ es. epoch_in es page) events in
       let low = epoch_more e s.events page s.epoch by (kept.ends page) in
@@ -38,6 +59,7 @@ kept_more t s at to e events epoch count by kept = record {
 pub kept_same : (t s : Stand) (at to : Cursor) → t.events ≡ s.events → t.epoch ≡ s.epoch → at.lines ≤ to.lines → IsKept s at → IsKept t to
 kept_same t s at to events epoch count kept = record {
   few = (let long : length t.events ≡ length s.events = ap length events in let few = kept.few in omega (arith, long, few, count));
+  kinds = subst AreKinds (sym events) kept.kinds;
   ends = λ page. let here : epoch_in t.events page ≡ epoch_in s.events page = ap (λ es. epoch_in es page) events in let low = kept.ends page in omega (arith, here, low, epoch);
 }
 
@@ -46,7 +68,7 @@ one_more : (t : Bool) (old long : ℕ) → old ≤ long → (if t then old + 1 e
 one_more true old long low = omega (arith, low)
 one_more false old long low = omega (arith, low)
 
-gives_few : (es : List Event) (a : ℕ) → gives_in es a ≤ length es
+pub gives_few : (es : List Event) (a : ℕ) → gives_in es a ≤ length es
 gives_few [] a = omega arith
 gives_few (Event.Give k block ∷ es) a = one_more (address_of block.name == a) (gives_in es a) (length es) (gives_few es a)
 gives_few (other ∷ es) a = let few = gives_few es a in omega (arith, few)

@@ -1,16 +1,16 @@
 mod Digits
 mod Readings
-mod Cuts
-mod Verdicts
-mod Entries
+pub mod Cuts
+pub mod Verdicts
+pub mod Entries
 mod Examinings
-mod Ticks
+pub mod Ticks
 mod Takings
-mod Goings
+pub mod Goings
 mod OneNext
 mod Nexts
 mod Leads
-mod Beginnings
+pub mod Beginnings
 mod Logs
 mod Actings
 mod Kept
@@ -18,3 +18,11 @@ mod Emptyings
 mod Requests
 mod Passes
 mod Servings
+mod Followed
+mod Chains
+mod ActsOfPlans
+mod ThreadsInOrder
+mod Pages
+mod Reportings
+mod Phases
+mod Wholes

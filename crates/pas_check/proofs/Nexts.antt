@@ -1,23 +1,24 @@
 -- A line that may come next leads to one state: no outcome of a pass has the line of what follows the pass.
-use Rattle.std.proofs.Common.{◌≡◌, ◌≢◌, ℕ, suc, ◌^◌, ◌<◌, List, [], ◌∷◌, ◌++◌, length, codes, inl, inr, refl, ap, sym, subst, ◌∙◌, arith}
+use Rattle.std.proofs.Common.{◌≡◌, ◌≢◌, ℕ, suc, ◌^◌, ◌<◌, ◌⊎◌, List, [], ◌∷◌, ◌++◌, length, codes, inl, inr, refl, ap, sym, subst, ◌∙◌, arith}
 use Rattle.std.specs.Fmt.{decimal}
 use Rattle.pas_profile.specs.declared.event.Event.{Event}
+use Rattle.pas_profile.specs.declared.event.Why.{Why}
 use Rattle.pas_profile.specs.declared.event.Outcome.{Outcome}
 use Rattle.pas_profile.specs.declared.event.Outcome.TheVariants.{Unbacked, Bare, Young, InUse, NotOffered}
 use Rattle.pas_profile.specs.declared.name.Block.{Block}
 use Rattle.pas_profile.specs.declared.name.Name.{Name}
 use Rattle.pas_profile.specs.declared.profile.Profile.{Profile}
-use Rattle.pas_report.specs.Lines.{hex_digits, line_of}
+use Rattle.pas_report.specs.Lines.{hex_digits, line_of, line_of_answer, line_of_event}
 use Rattle.pas_report.specs.declared.record.Record.{Record}
 use Rattle.pas_report.specs.declared.record.Said.{Said}
 use Rattle.pas_trace.specs.declared.item.Request.{Request}
 use Rattle.pas_check.specs.Begins.{past_outcomes, ready}
-use Rattle.pas_check.specs.Bounds.{FitsFirst, FitsNext, IsSmall}
+use Rattle.pas_check.specs.Bounds.{FitsFirst, FitsNext, IsOfThread, IsSmall}
 use Rattle.pas_check.specs.Ranges.{Fits, FitsEvent, FitsName}
-use Rattle.pas_check.specs.Readings.{byte_at, past_digits}
+use Rattle.pas_check.specs.Readings.{byte_at, of_u8, past_digits}
 use Rattle.pas_check.specs.States.{Due, Writes, Frees, Serves, Examines, Heads, Shows, Totals, Stand}
 use Rattle.pas_check.specs.Takes.{IsEventOf, IsOutcome, IsPreparing, IsRefusal, Takes, TakesDue, TakesFirst, TakesOutcome, directory_of, record_of}
-use Rattle.pas_check.proofs.Digits.{past_number}
+use Rattle.pas_check.proofs.Digits.{past_number, u8_back}
 use Rattle.pas_check.proofs.OneNext.{gives_fits, one_next, one_outcome, outcome_fits, prepares_fits, refusal_fits, same_record}
 use Rattle.pas_check.proofs.Takings.{plain_fits}
 
@@ -32,6 +33,48 @@ behind_actor epoch page (InUse word value) =
     ap (byte_at 0) (past_number 0 32 (codes "in-use page " ++ (decimal page ++ (codes " word "
     ++ (decimal word ++ (codes " value 0x" ++ (hex_digits 16 value ++ codes "\n")))))) (omega arith) refl)
 behind_actor epoch page NotOffered = ap (byte_at 0) (past_number 0 32 (codes "not-offered page " ++ (decimal page ++ codes "\n")) (omega arith) refl)
+
+-- ---- the actor in front of a line
+outcome_actor : (epoch page : ℕ) (o : Outcome) → of_u8 (line_of (record_of epoch page o)) ≡ 0
+outcome_actor epoch page Unbacked = u8_back 0 32 (codes "unback page " ++ (decimal page ++ (codes " epoch " ++ (decimal epoch ++ codes "\n")))) (omega arith) refl
+outcome_actor epoch page Bare = u8_back 0 32 (codes "bare page " ++ (decimal page ++ codes "\n")) (omega arith) refl
+outcome_actor epoch page (Young stamp) = u8_back 0 32 (codes "young page " ++ (decimal page ++ (codes " stamp " ++ (decimal stamp ++ codes "\n")))) (omega arith) refl
+outcome_actor epoch page (InUse word value) = u8_back 0 32 (codes "in-use page " ++ (decimal page ++ (codes " word "
+    ++ (decimal word ++ (codes " value 0x" ++ (hex_digits 16 value ++ codes "\n")))))) (omega arith) refl
+outcome_actor epoch page NotOffered = u8_back 0 32 (codes "not-offered page " ++ (decimal page ++ codes "\n")) (omega arith) refl
+
+module _ (k : ℕ) (few : k < 2 ^ 8) where
+  -- behind it stands a space
+  abbrev Spaced : List ℕ → Type 0
+  Spaced line = (rest : List ℕ) × (line ≡ decimal k ++ 32 ∷ rest)
+
+  spaced_actor : (line : List ℕ) → Spaced line → of_u8 line ≡ k
+  spaced_actor line is = ap of_u8 is.1 ∙ u8_back k 32 is.0 few refl
+
+  said_spaced : (said : Said) → Spaced (line_of_answer k said)
+  said_spaced (Said.NoSpace name) = (_, refl)
+  said_spaced (Said.Held page name) = (_, refl)
+  said_spaced (Said.Outside block) = (_, refl)
+  said_spaced (Said.Unaligned block) = (_, refl)
+  said_spaced (Said.Skipped name) = (_, refl)
+  said_spaced (Said.Tick epoch) = (_, refl)
+  said_spaced (Said.Pass epoch) = (_, refl)
+  said_spaced (Said.Bare page) = (_, refl)
+  said_spaced (Said.Young page stamp) = (_, refl)
+  said_spaced (Said.InUse page word value) = (_, refl)
+  said_spaced (Said.NotOffered page) = (_, refl)
+  said_spaced (Said.Stopped thread) = (_, refl)
+  said_spaced (Said.Guarded low high name) = (_, refl)
+  said_spaced (Said.Lowered low high) = (_, refl)
+
+  entry_spaced : (s : Stand) (name : Name) (e : Event) → IsEventOf s k name e → Spaced (line_of_event e)
+  entry_spaced s name e (inl is) = subst (λ g. Spaced (line_of_event g)) (sym is.3) (refused is.0)
+    where
+      refused : (why : Why) → Spaced (line_of_event (Event.Reject k name why))
+      refused Why.Ended = (_, refl)
+      refused Why.NoBlock = (_, refl)
+      refused (Why.SizeDiffers room) = (_, refl)
+  entry_spaced s name e (inr is) = subst (λ g. Spaced (line_of_event g)) (sym is.1) (_, refl)
 
 -- ---- what is no record of an outcome
 event_of_outcome : (e : Event) (epoch page : ℕ) (o : Outcome) → Record.Event e ≡ record_of epoch page o → e ≡ Event.Unback 0 page epoch
@@ -88,11 +131,28 @@ module _ (f : Profile) (s : Stand) (small : IsSmall f s) (last : ℕ) (rest : Li
   no_text : (text : List ℕ) → byte_at 0 (past_digits text) ≢ 32 → line ≡ text → ⊥
   no_text text other has = other (ap (λ l. byte_at 0 (past_digits l)) (sym has ∙ x.line_is) ∙ behind_actor s.epoch x.page x.outcome)
 
+  -- it is the scavenger's, and no thread's
+  no_thread : (k : ℕ) → 0 < k → (text : List ℕ) → of_u8 text ≡ k → line ≡ text → ⊥
+  no_thread k some text is has =
+      let none : of_u8 line ≡ 0 = ap of_u8 x.line_is ∙ outcome_actor s.epoch x.page x.outcome in
+      let same : of_u8 line ≡ k = ap of_u8 has ∙ is in
+      omega (arith, none, same, some)
+
+  no_writing : (item : Record) → IsOfThread item ⊎ (Fits item × (IsOutcome item → ⊥)) → line ≡ line_of item → ⊥
+  no_writing (Record.Said k said) (inl of) has = no_thread k of.0 (line_of_answer k said) (spaced_actor k of.1 (line_of_answer k said) (said_spaced k of.1 said)) has
+  no_writing (Record.Event e) (inl of) has = of
+  no_writing (Record.Phase n) (inl of) has = of
+  no_writing Record.Close (inl of) has = of
+  no_writing item (inr fits) has = no_record item fits.0 fits.1 has
+
+  no_entry_of : (t : Stand) (k : ℕ) (name : Name) (e : Event) → t.epoch < 2 ^ 64 → (k < 2 ^ 8) × ((0 < k) ⊎ FitsName name) → IsEventOf t k name e → line ≡ line_of_event e → ⊥
+  no_entry_of t k name e epoch (few, inl some) is has = no_thread k some (line_of_event e) (spaced_actor k few (line_of_event e) (entry_spaced k few t name e is)) has
+  no_entry_of t k name e epoch (few, inr fits) is has = no_record (Record.Event e) (entry_fits t k name e few fits epoch is) (no_entry t k name e is) has
+
   pub outcome_apart : (t : Stand) → IsSmall f t → (due : List Due) → FitsNext f due → past_outcomes due ≡ due → (b : Stand) → TakesDue f t due line b → ⊥
   outcome_apart t new [] fits no_pass b y = y
-  outcome_apart t new (Writes item ∷ more) fits no_pass b y = no_record item fits.0 fits.1 y.0
-  outcome_apart t new (Frees k name ∷ more) fits no_pass b y =
-      no_record (Record.Event y.event) (entry_fits t k name y.event fits.0 fits.1 new.epoch y.of_entry) (no_entry t k name y.event y.of_entry) y.line_is
+  outcome_apart t new (Writes item ∷ more) fits no_pass b y = no_writing item fits y.0
+  outcome_apart t new (Frees k name ∷ more) fits no_pass b y = no_entry_of t k name y.event new.epoch fits y.of_entry y.line_is
   outcome_apart t new (Serves k r ∷ more) fits no_pass b (inl y) =
       no_record (Record.Event y.event) (prepares_fits f t new k r fits y.event y.prepares y.admitted) (no_preparing f t k r y.event y.prepares) y.line_is
   outcome_apart t new (Serves k r ∷ more) fits no_pass b (inr (inl y)) =

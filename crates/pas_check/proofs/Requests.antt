@@ -1,5 +1,6 @@
 -- The lines of a request, one after the other.
 use Rattle.std.proofs.Common.{◌≡◌, ℕ, ◌+◌, ◌^◌, ◌<◌, ◌⊎◌, true, false, List, [], ◌∷◌, Option, None, Some, inl, inr, refl, ap, sym, subst, ◌∙◌, arith}
+use Rattle.pas_profile.specs.Directories.{IsKind}
 use Rattle.pas_profile.specs.Profiles.{IsValid}
 use Rattle.pas_profile.specs.declared.directory.Directory.{Directory}
 use Rattle.pas_profile.specs.declared.event.Event.{Event}
@@ -18,9 +19,9 @@ use Rattle.pas_check.proofs.Kept.{EndsBy, kept_more, kept_same, small_of}
 use Rattle.pas_check.proofs.Leads.{due_lacks, due_refused, due_taken, leads_fails, leads_nowhere, leads_on}
 use Rattle.pas_check.proofs.OneNext.{one_next}
 
-prepares_by : (epoch k : ℕ) (d : Directory) (e : Event) → IsPreparing k d e → EndsBy epoch e
-prepares_by epoch k d e (inl is) = subst (EndsBy epoch) (sym is.1) tt
-prepares_by epoch k d e (inr is) = subst (EndsBy epoch) (sym is.1) tt
+prepares_by : (epoch k : ℕ) (d : Directory) (e : Event) → IsKind d.kind → IsPreparing k d e → EndsBy epoch e
+prepares_by epoch k d e kind (inl is) = subst (EndsBy epoch) (sym is.1) kind
+prepares_by epoch k d e kind (inr is) = subst (EndsBy epoch) (sym is.1) tt
 
 none_of : {A B C : Type 0} → (A → ⊥) → (B → ⊥) → (C → ⊥) → A ⊎ B ⊎ C → ⊥
 none_of a b c (inl x) = a x
@@ -84,7 +85,7 @@ module _ (old : Machine) (text : List ℕ) (from : Cursor) (k : ℕ) (w : Wanted
               ap (λ (u : Stand). record u { events = got.0 ∷ t.events }) (before s r more asked).2,
               got.2,
               kept_more next t at to takes.event (ap (λ (u : Stand). u.events) takes.next_is) refl count
-                  (prepares_by t.epoch k (directory_of (profile_of old) r) takes.event takes.prepares) (before s r more asked).4,
+                  (prepares_by t.epoch k (directory_of (profile_of old) r) takes.event asked.fits.kind takes.prepares) (before s r more asked).4,
             )
 
         -- another line, which ends the request or isn't allowed

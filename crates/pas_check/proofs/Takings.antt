@@ -82,6 +82,11 @@ pub if_ok : {A E : Type 0} (r : Result A E) (P Q : A → Type 0) → ((a : A) �
 if_ok (Ok a) P Q more h = more a h
 if_ok (Err e) P Q more h = tt
 
+-- .. of two things
+pub if_both : {A E : Type 0} (r : Result A E) (P O Q : A → Type 0) → ((a : A) → P a → O a → Q a) → IfOk r P → IfOk r O → IfOk r Q
+if_both (Ok a) P O Q more h g = more a h g
+if_both (Err e) P O Q more h g = tt
+
 -- .. and of what is so in any case
 pub if_any : {A E : Type 0} (r : Result (Option A) E) (P : Type 0) → P → IfOk r (λ o. IfSome o (λ a. P))
 if_any (Ok (Some a)) P p = p

@@ -1,11 +1,13 @@
 -- States whose numbers fit, as those of each check do.
-use Rattle.std.specs.Prelude.{ℕ, ◌^◌, ◌<◌, ◌≤◌, List, [], ◌∷◌, length}
+use Rattle.std.specs.Prelude.{ℕ, ◌^◌, ◌<◌, ◌≤◌, ◌≡◌, ◌⊎◌, List, [], ◌∷◌, Some, length}
 use Rattle.pas_profile.specs.Directories.{IsKind}
 use Rattle.pas_profile.specs.Profiles.{IsValid}
 use Rattle.pas_profile.specs.Requests.{room_in}
+use Rattle.pas_profile.specs.declared.directory.Directory.{Directory}
 use Rattle.pas_profile.specs.declared.profile.Profile.{Profile}
 use Rattle.pas_machine.specs.Machine.{Run}
-use Rattle.pas_machine.specs.State.{gives_in, epoch_in}
+use Rattle.pas_machine.specs.State.{deed_in, gives_in, epoch_in}
+use Rattle.pas_report.specs.declared.record.Record.{Record}
 use Rattle.pas_trace.specs.declared.item.Request.{Request}
 use Rattle.pas_check.specs.States.{Due, Writes, Frees, Serves, Examines, Heads, Shows, Totals, Stand}
 use Rattle.pas_check.specs.Ranges.{Fits, FitsName}
@@ -30,11 +32,19 @@ FitsFirst f (Heads ∷ more) = Unit {0}
 FitsFirst f (Shows page d ∷ more) = Unit {0}
 FitsFirst f (Totals ∷ more) = Unit {0}
 
--- what is due first after a pass: its line is to be told from those of the outcomes, so its numbers fit too, and it is no outcome
+-- a thread says it
+abbrev pub IsOfThread : Record → Type 0
+IsOfThread (Record.Event e) = ⊥
+IsOfThread (Record.Said k said) = (0 < k) × (k < 2 ^ 8)
+IsOfThread (Record.Phase n) = ⊥
+IsOfThread Record.Close = ⊥
+
+-- What is due first after a pass: its line is to be told from those of the outcomes, which are the scavenger's. So it is a thread's; or its numbers fit, and
+-- it is no outcome.
 abbrev pub FitsNext : Profile → List Due → Type 0
 FitsNext f [] = Unit {0}
-FitsNext f (Writes item ∷ more) = Fits item × (IsOutcome item → ⊥)
-FitsNext f (Frees k name ∷ more) = (k < 2 ^ 8) × FitsName name
+FitsNext f (Writes item ∷ more) = IsOfThread item ⊎ (Fits item × (IsOutcome item → ⊥))
+FitsNext f (Frees k name ∷ more) = (k < 2 ^ 8) × ((0 < k) ⊎ FitsName name)
 FitsNext f (Serves k r ∷ more) = FitsRequest f k r
 FitsNext f (Examines page ∷ more) = Unit {0}
 FitsNext f (Heads ∷ more) = Unit {0}
@@ -49,7 +59,8 @@ pub record IsSmall (f : Profile) (s : Stand) : Type 0 where
   pub ends : (page : ℕ) → epoch_in s.events page < 2 ^ 64
   pub epoch : s.epoch < 2 ^ 64
 
--- There are no more events than lines before the cursor, and no end has a later epoch than the greatest tick.
+-- There are no more events than lines before the cursor, no end has a later epoch than the greatest tick, and each deed names a class where it is of one.
 pub record IsKept (s : Stand) (at : Cursor) : Type 0 where
   pub few : length s.events ≤ at.lines
+  pub kinds : (page : ℕ) (d : Directory) → deed_in s.events page ≡ Some d → IsKind d.kind
   pub ends : (page : ℕ) → epoch_in s.events page ≤ s.epoch

@@ -7,6 +7,8 @@ pub mod Going
 pub mod Leading
 pub mod Tables
 pub mod Tasks
+pub mod Checks
+pub mod Shown
 pub mod Bounds
 pub mod Ranges
 pub mod Readings

@@ -9,6 +9,7 @@ ghost use Rattle.pas_trace.specs.Acts.{Act, MarksClose, MarksPhase, Operates, St
 ghost use Rattle.pas_trace.specs.EveryPlan.{IsBelow, IsSoundWhat};
 ghost use Rattle.pas_trace.specs.declared.item.Request.{Request};
 ghost use Rattle.pas_check.specs.Calls.{IsWanted};
+ghost use Rattle.pas_check.specs.Checks.{IsSizedAs};
 ghost use Rattle.pas_check.specs.Leading.{IsWithin, StaysWithin};
 ghost use Rattle.pas_check.specs.Tables.{logs_held, names_held};
 ghost use Rattle.pas_check.specs.Tasks.{ActTaken, Asks, Flushes, FreesBlock, FreesNamed, LogEmptied, PassTaken};
@@ -25,7 +26,8 @@ use crate::serving::{Wanted, wanted_for};
 use pas_machine::Machine;
 use pas_profile::{Name, NoMemory};
 use pas_report::{Record, Said};
-use pas_trace::{Op, What};
+use pas_trace::{Op, Plan, What};
+use std::alloc::Global;
 
 /// What a check knows of the lines before: the machine, what the names of the trace stand for, the log of each thread, the epoch that each thread read when it
 /// woke last, and the greatest tick. Threads stand at their numbers.
@@ -38,10 +40,36 @@ pub(crate) struct Judge {
     pub epoch: u64,
 }
 
+impl Judge {
+    ghost use Rattle.pas_check.specs.Checks.{IsOpened};
+
+    /// What a check knows before the first line. Takes memory in proportion to the region, to the names of the plan and to its threads.
+    pub(crate) fn try_new(alloc: Global, plan: &Plan) -> Result<Judge, NoMemory>
+        requires { IsValid plan.now.profile }
+        ensures { IfOk result (λ judge. IsOpened plan.now judge) }
+    {
+        let count = plan.profile.threads + 1;
+        let machine = Machine::try_new(alloc, plan.profile)?;
+        let names = Names::try_new(alloc, plan.names_limit)?;
+        let logs = Logs::try_new(alloc, count)?;
+        let Ok(awake) = vec![in alloc; 0u64; count as usize] else {
+            return Err(NoMemory);
+        };
+        Ok(Judge {
+            machine,
+            names,
+            logs,
+            awake,
+            epoch: 0,
+        })
+    }
+}
+
 /// The thread wakes, and reads the epoch. It has no line.
 pub(crate) fn wake(judge: &mut Judge, k: u8)
     requires { k < length judge.old.awake.items }
-    ensures { (f : Profile) (text : List ℕ) (at : TheCursor) → IsWithin text at → ActTaken f text judge.old at judge.new at (Wakes k) true }
+    ensures sized { IsSizedAs judge.old judge.new }
+    ensures taken { (f : Profile) (text : List ℕ) (at : TheCursor) → IsWithin text at → ActTaken f text judge.old at judge.new at (Wakes k) true }
 {
     judge.awake[k as usize] = judge.epoch;
 }
@@ -72,6 +100,7 @@ pub(crate) fn tick(judge: &mut Judge, text: &[u8], cursor: &mut Cursor, epoch: u
     requires short { length text.now ≤ 16777216 }
     ensures taken { (f : Profile) → ActTaken f text.now judge.old cursor.old judge.new cursor.new (Ticks epoch) result }
     ensures within { StaysWithin text.now cursor.new result }
+    ensures sized { IsSizedAs judge.old judge.new }
 {
     judge.epoch = judge.epoch.max(epoch);
     take_record(text, cursor, &Record::Said(0, Said::Tick(judge.epoch)))
@@ -84,6 +113,7 @@ fn empty_log(judge: &mut Judge, text: &[u8], cursor: &mut Cursor, k: u8) -> Resu
     requires held { k < logs_held judge.old.logs }
     ensures taken { IfOk result (λ taken. (f : Profile) → LogEmptied f text.now judge.old cursor.old judge.new cursor.new k [] taken) }
     ensures within { IfOk result (StaysWithin text.now cursor.new) }
+    ensures sized { IfOk result (λ taken. IsSizedAs judge.old judge.new) }
 {
     match take_entries(
         &mut judge.machine,
@@ -115,6 +145,7 @@ fn refill_log(
     requires held { k < logs_held judge.old.logs }
     ensures taken { IfOk result (λ taken. (f : Profile) → LogEmptied f text.now judge.old cursor.old judge.new cursor.new k (block ∷ []) taken) }
     ensures within { IfOk result (StaysWithin text.now cursor.new) }
+    ensures sized { IfOk result (λ taken. IsSizedAs judge.old judge.new) }
 {
     match take_entries(
         &mut judge.machine,
@@ -156,6 +187,7 @@ pub(crate) fn free_block(
     ensures taken { IfOk result (λ taken. (f : Profile) (act : Act) → FreesBlock f judge.old cursor.old act k block
         → ActTaken f text.now judge.old cursor.old judge.new cursor.new act taken) }
     ensures within { IfOk result (StaysWithin text.now cursor.new) }
+    ensures sized { IfOk result (λ taken. IsSizedAs judge.old judge.new) }
 {
     if !judge.machine.has_page(block.address.0 / 4096) {
         let outside = take_record(text, cursor, &Record::Said(k, Said::Outside { block }));
@@ -186,6 +218,7 @@ pub(crate) fn free_named(
     requires held { k < logs_held judge.old.logs }
     ensures taken { IfOk result (λ taken. (f : Profile) (act : Act) → FreesNamed f act k name → ActTaken f text.now judge.old cursor.old judge.new cursor.new act taken) }
     ensures within { IfOk result (StaysWithin text.now cursor.new) }
+    ensures sized { IfOk result (λ taken. IsSizedAs judge.old judge.new) }
 {
     match judge.names.get(name) {
         None => Ok(true),
@@ -209,6 +242,7 @@ pub(crate) fn flush(
     requires held { k < logs_held judge.old.logs }
     ensures taken { IfOk result (λ taken. (f : Profile) (act : Act) → Flushes f act k → ActTaken f text.now judge.old cursor.old judge.new cursor.new act taken) }
     ensures within { IfOk result (StaysWithin text.now cursor.new) }
+    ensures sized { IfOk result (λ taken. IsSizedAs judge.old judge.new) }
 {
     empty_log(judge, text, cursor, k)
 }
@@ -236,6 +270,7 @@ pub(crate) fn stop_idle(
     requires known { k < length judge.old.awake.items }
     ensures taken { IfOk result (λ taken. (f : Profile) → ActTaken f text.now judge.old cursor.old judge.new cursor.new (StopsIdle k epochs) taken) }
     ensures within { IfOk result (StaysWithin text.now cursor.new) }
+    ensures sized { IfOk result (λ taken. IsSizedAs judge.old judge.new) }
 {
     if !is_idle(judge, k, epochs) {
         return Ok(true);
@@ -254,6 +289,7 @@ pub(crate) fn pass(judge: &mut Judge, text: &[u8], cursor: &mut Cursor) -> Resul
     requires valid { IsValid (profile_of judge.old.machine) }
     ensures taken { IfOk result (λ taken. (f : Profile) → PassTaken f text.now judge.old cursor.old judge.new cursor.new taken) }
     ensures within { IfOk result (StaysWithin text.now cursor.new) }
+    ensures sized { IfOk result (λ taken. IsSizedAs judge.old judge.new) }
 {
     if !take_record(text, cursor, &Record::Said(0, Said::Pass(judge.epoch))) {
         return Ok(false);
@@ -281,6 +317,7 @@ pub(crate) fn request(
     ensures taken { IfOk result (λ taken. (f : Profile) (act : Act) (r : Request) → Asks f act k r → IsWanted f r wanted
         → ActTaken f text.now judge.old cursor.old judge.new cursor.new act taken) }
     ensures within { IfOk result (StaysWithin text.now cursor.new) }
+    ensures sized { IfOk result (λ taken. IsSizedAs judge.old judge.new) }
 {
     match take_request(&mut judge.machine, text, cursor, k, &wanted) {
         Ok(Some(block)) => {
@@ -307,6 +344,7 @@ pub(crate) fn operate(
     requires named { IsBelow (names_held judge.old.names) op.what }
     ensures taken { IfOk result (λ taken. (f : Profile) → ActTaken f text.now judge.old cursor.old judge.new cursor.new (Operates op) taken) }
     ensures within { IfOk result (StaysWithin text.now cursor.new) }
+    ensures sized { IfOk result (λ taken. IsSizedAs judge.old judge.new) }
 {
     let k = op.actor;
     match op.what {

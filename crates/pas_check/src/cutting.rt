@@ -10,6 +10,17 @@ pub(crate) struct Cursor {
     pub lines: u32,
 }
 
+impl Cursor {
+    ghost use Rattle.pas_check.specs.Checks.{opening};
+
+    /// Before the first line.
+    pub(crate) fn first() -> Cursor
+        ensures { result ≡ opening }
+    {
+        Cursor { bytes: 0, lines: 0 }
+    }
+}
+
 /// How many bytes the first line of the text has, with its newline; a last line may lack it. None where the text is empty.
 pub(crate) fn first_line(text: &[u8]) -> Option<usize>
     ensures some { IfSome result (λ n. (n ≤ length text.now) × (lines_in text.now ≡ take n text.now ∷ lines_in (drop n text.now))) }

@@ -20,7 +20,7 @@ ghost use Rattle.pas_check.specs.Accepted.{IsDone, IsStopped, IsVerdict, IsWhole
 ghost use Rattle.pas_check.specs.Begins.{after_task, past_outcomes, ready};
 ghost use Rattle.pas_check.specs.Bounds.{FitsFirst, FitsNext, IsSmall};
 ghost use Rattle.pas_check.specs.Going.{AreAlike, SoFar};
-ghost use Rattle.pas_check.specs.Ranges.{Fits, EachFits};
+ghost use Rattle.pas_check.specs.Ranges.{Fits};
 ghost use Rattle.pas_check.specs.declared.verdict.Verdict.{Verdict};
 
 /// No two records whose numbers fit their places have one line. So a line of a transcript says one thing.
@@ -38,7 +38,7 @@ pub fn verdicts_are_one()
 /// The lines of records are the lines of their text, one for each, whatever follows.
 #[tactic(auto, using(crate::proofs::Cuts::cut_records))]
 pub fn records_are_lines()
-    ensures { (rs : List Record) (rest : List ℕ) → EachFits rs → lines_in (lines_of rs ++ rest) ≡ map line_of rs ++ lines_in rest }
+    ensures { (rs : List Record) (rest : List ℕ) → lines_in (lines_of rs ++ rest) ≡ map line_of rs ++ lines_in rest }
 {}
 
 /// The event of an entry of a log is one. In a run the end of the name, and each refusal of it that names no room, is that event.

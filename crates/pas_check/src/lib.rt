@@ -2,6 +2,8 @@
 #![tactic(auto)]
 
 mod acting;
+mod awake;
+mod checking;
 mod cutting;
 mod emptying;
 mod examining;
@@ -11,10 +13,13 @@ mod logging;
 mod naming;
 mod numbers;
 pub mod reading;
+mod reporting;
 mod requesting;
 mod serving;
 mod taking;
 pub mod verdict;
+pub mod whole;
 
 pub use reading::read_record;
 pub use verdict::Verdict;
+pub use whole::check;

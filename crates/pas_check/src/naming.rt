@@ -1,5 +1,5 @@
 //! What the names of the trace stand for, as far as the transcript tells.
-ghost use Rattle.std.specs.Prelude.{ℕ, ◌≡◌, ◌<◌, ◌==◌, if◌then◌else◌, None, Some, IfOk};
+ghost use Rattle.std.specs.Prelude.{ℕ, ◌≡◌, ◌<◌, ◌≤◌, ◌^◌, ◌==◌, if◌then◌else◌, None, Some, IfOk};
 ghost use Rattle.pas_check.specs.Tables.{meaning_of, meant, names_held};
 
 use pas_profile::{Name, NoMemory};
@@ -32,11 +32,15 @@ impl Meaning {
 }
 
 impl Names {
-    /// No request had a name. There is room for the names below the limit.
+    /// No request had a name. There is room for the names below the limit, which is at most 2^32: there is no memory for more.
     pub(crate) fn try_new(alloc: Global, limit: usize) -> Result<Names, NoMemory>
         ensures empty { IfOk result (λ names. (name : ℕ) → meant names name ≡ None) }
         ensures room { IfOk result (λ names. names_held names ≡ limit) }
+        ensures few { IfOk result (λ names. limit ≤ 2 ^ 32) }
     {
+        if limit > u32::MAX as usize {
+            return Err(NoMemory);
+        }
         match vec![in alloc; Meaning::Unasked; limit] {
             Ok(meanings) => Ok(Names { meanings }),
             Err(_) => Err(NoMemory),

@@ -7,10 +7,9 @@ use Rattle.pas_profile.specs.declared.name.Block.{Block}
 use Rattle.pas_steps.specs.Desks.{Standing, triples}
 use Rattle.pas_steps.specs.Evidence.{IsAntitone}
 use Rattle.pas_steps.specs.Lists.{Whole, part, Legal}
-use Rattle.pas_core.proofs.OneActor.{legal_earlier}
 use Rattle.pas_search.specs.Alone.{FindsWhatThereIs}
 use Rattle.pas_search.specs.Searches.{MaySearch, IsRefused}
-use Rattle.pas_search.proofs.Alone.{finds_what_there_is}
+use Rattle.pas_search.proofs.Alone.{found_before}
 use Rattle.pas_choice.specs.Allocates.{IsGiven, AllocatesRun}
 use Rattle.pas_choice.specs.Choices.{Choice}
 use Rattle.pas_choice.specs.declared.choosing.Run.{Run}
@@ -21,4 +20,4 @@ run_alone {σ = σ} choice run d tells answer call l valid of fewer legal may =
     let f = σ.seat.profile in
     let refused : (room : NoRoom) → answer ≡ Err room → IsRefused choice.no_fit f d call.searched room
     = λ room is. (subst (λ a. MatchResult a (IsGiven choice run f d call.searched call.after) (λ why. IsRefused choice.no_fit f d call.searched why × (call.after ≡ []))) is call.outcome).0 in
-    finds_what_there_is choice.no_fit f d σ.seat.actor l call.searched valid of fewer (legal_earlier f σ.seat.actor call.after call.searched l legal) call.searches may answer refused
+    found_before choice.no_fit f d σ.seat.actor l call.after call.searched valid of fewer legal call.searches may answer refused

@@ -11,7 +11,12 @@ pub const MOST_RANGES: usize = 512;
 
 /// Puts the range in the place of those from `place` to below `end`. There is room where there is none.
 #[tactic(auto, using(crate::proofs::Spans::without_more))]
-pub fn replace(spans: &mut ArrayVec<Span, MOST_RANGES>, place: usize, end: usize, whole: Span)
+pub(crate) fn replace(
+    spans: &mut ArrayVec<Span, MOST_RANGES>,
+    place: usize,
+    end: usize,
+    whole: Span,
+)
     requires span { place ≤ end }
     requires within { end ≤ length spans.old.items }
     requires room { length spans.old.items + 1 ≤ end - place + 512 }
@@ -24,7 +29,7 @@ pub fn replace(spans: &mut ArrayVec<Span, MOST_RANGES>, place: usize, end: usize
 }
 
 /// Takes the first so many pages out of the range at this place, which has as many.
-pub fn shorten(spans: &mut ArrayVec<Span, MOST_RANGES>, place: usize, pages: u32)
+pub(crate) fn shorten(spans: &mut ArrayVec<Span, MOST_RANGES>, place: usize, pages: u32)
     requires within { place < length spans.old.items }
     requires long { (d : TheSpan) → (slice_index_or spans.old.items place d).first + pages ≤ (slice_index_or spans.old.items place d).end }
     ensures { (d : TheSpan) → spans.new.items ≡ take place spans.old.items ++ (left_of pages (slice_index_or spans.old.items place d) ++ drop (place + 1) spans.old.items) }

@@ -7,7 +7,7 @@ ghost use Rattle.pas_large_index.specs.declared.span.Span.{Span as TheSpan};
 use crate::span::Span;
 
 /// How many ranges end before the page, with a page between them.
-pub fn place_behind(spans: &[Span], first: u32) -> usize
+pub(crate) fn place_behind(spans: &[Span], first: u32) -> usize
     ensures within { result ≤ length spans.now }
     ensures before { (new : TheSpan) → new.first ≡ first → joined new spans.now ≡ take result spans.now ++ joined new (drop result spans.now) }
     ensures behind { EndsFrom first (drop result spans.now) }
@@ -20,7 +20,7 @@ pub fn place_behind(spans: &[Span], first: u32) -> usize
 }
 
 /// The range, made one with those from this place on that it meets or touches, and the place behind them.
-pub fn gather(spans: &[Span], place: usize, new: Span) -> (usize, Span)
+pub(crate) fn gather(spans: &[Span], place: usize, new: Span) -> (usize, Span)
     requires apart { AreApart 0 spans.now }
     requires within { place ≤ length spans.now }
     requires behind { EndsFrom new.first (drop place spans.now) }
@@ -39,7 +39,7 @@ pub fn gather(spans: &[Span], place: usize, new: Span) -> (usize, Span)
 
 /// The first page of the lowest range that has so many pages.
 #[tactic(auto, using(crate::proofs::Spans::at_place, crate::proofs::Spans::blank))]
-pub fn lowest(spans: &[Span], pages: u32) -> Option<u32>
+pub(crate) fn lowest(spans: &[Span], pages: u32) -> Option<u32>
     requires apart { AreApart 0 spans.now }
     ensures { result ≡ lowest_fit pages spans.now }
 {
@@ -52,7 +52,7 @@ pub fn lowest(spans: &[Span], pages: u32) -> Option<u32>
 }
 
 /// The place of the range that begins at the page.
-pub fn place_at(spans: &[Span], first: u32, pages: u32) -> usize
+pub(crate) fn place_at(spans: &[Span], first: u32, pages: u32) -> usize
     requires apart { AreApart 0 spans.now }
     requires fits { FitsAt (has_page spans.now) pages first }
     ensures within { result < length spans.now }

@@ -10,7 +10,7 @@ pub const MOST_SLOTS: u8 = 4;
 
 /// The first of these slots, and the three after it as far as they follow each other without a break: slots of so many grains, 1 to 64, by their
 /// first grains. Moves the mask three times.
-pub fn row_from(slots: Mask4, first: u8, grains: u8) -> Mask4
+pub(crate) fn row_from(slots: Mask4, first: u8, grains: u8) -> Mask4
     requires first { is_set slots first ≡ true }
     requires grains { (1 ≤ grains) × (grains ≤ 64) }
     ensures { (s : ℕ) → IsTrue (is_set result s) ↔ IsInRow (λ x. is_set slots x ≡ true) first grains 4 s }

@@ -24,7 +24,7 @@ fn usable_mask(kind: Kind) -> Mask4
 }
 
 /// Whether one of these free grains may be covered by blocks of the directory.
-pub fn has_usable(free: &Mask4, directory: Directory) -> bool
+pub(crate) fn has_usable(free: &Mask4, directory: Directory) -> bool
     requires { IsKind directory.kind }
     ensures { MatchBool result (HasUsable directory free.now) (HasNoUsable directory free.now) }
 {
@@ -32,14 +32,14 @@ pub fn has_usable(free: &Mask4, directory: Directory) -> bool
 }
 
 /// Whether each grain of the page is free.
-pub fn is_all_free(free: &Mask4) -> bool
+pub(crate) fn is_all_free(free: &Mask4) -> bool
     ensures { MatchBool result (IsAllFree free.now) (HasUsed free.now) }
 {
     free.first_zero().is_none()
 }
 
 /// Hints the page, all of whose grains were read as free, where it is backed.
-pub fn hint_backed<D: Desk>(desk: &mut D, page: u32)
+pub(crate) fn hint_backed<D: Desk>(desk: &mut D, page: u32)
     requires page { IsPage (D.standing desk.old).seat.profile page }
     requires can { CanCall (D.standing desk.old) AnyView }
     ensures hinted { Hinted page (D.standing desk.old) (D.standing desk.new) }

@@ -12,7 +12,7 @@ use pas_profile::Directory;
 use pas_steps::Desk;
 
 /// Takes the right of the page back, if it is parked, and offers the page.
-pub fn reoffer<D: Desk>(desk: &mut D, page: u32, directory: Directory)
+pub(crate) fn reoffer<D: Desk>(desk: &mut D, page: u32, directory: Directory)
     requires page { IsPage (D.standing desk.old).seat.profile page }
     requires directory { IsDirectoryOf (D.standing desk.old).seat.profile directory }
     requires can { CanCall (D.standing desk.old) (KnowsDeed page directory) }

@@ -26,7 +26,7 @@ fn are_free<D: Desk>(desk: &mut D, page: u32) -> bool
 
 /// Whether the page is read as usable for a run of the directory: as without a deed, or as of the directory, offered, and with all its grains
 /// free. At most six looks.
-pub fn is_usable<D: Desk>(desk: &mut D, page: u32, directory: Directory) -> bool
+pub(crate) fn is_usable<D: Desk>(desk: &mut D, page: u32, directory: Directory) -> bool
     requires page { IsPage (D.standing desk.old).seat.profile page }
     requires directory { IsDirectoryOf (D.standing desk.old).seat.profile directory }
     requires can { CanCall (D.standing desk.old) AnyView }

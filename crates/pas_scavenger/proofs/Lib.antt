@@ -1,2 +1,2 @@
-mod Examinations
+pub mod Examinations
 pub mod Trying

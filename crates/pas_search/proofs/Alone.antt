@@ -16,7 +16,7 @@ use Rattle.pas_steps.proofs.Past.{once_map}
 use Rattle.pas_core.specs.Alone.{ShowsNone, ShowsAnswer, IsPlainAnswer}
 use Rattle.pas_core.specs.Fits.{HasNoFit}
 use Rattle.pas_core.specs.Rights.{AllRest}
-use Rattle.pas_core.proofs.OneActor.{plain_answer, lends_none}
+use Rattle.pas_core.proofs.OneActor.{plain_answer, lends_none, legal_earlier}
 use Rattle.pas_core.proofs.Nexts.{agreed_steps}
 use Rattle.pas_search.specs.Alone.{page_found, FindsWhatThereIs}
 use Rattle.pas_search.specs.Kinds.{searching, AreSearch}
@@ -66,3 +66,8 @@ module _ (no_fit : Readings → Type 0) (f : Profile) (d : Directory) (k : ℕ) 
     none_fits = λ room is. (refused_told room (refused room is)).0;
     not_held = λ rest page is. (plain_alone (any_of no_fit) f d k l steps valid of fewer legal searches may rest (Err (Held page)) (refused (Held page) is)).not_held page refl;
   }
+
+-- the same of a search after which the actor went on, as the list with its later steps is legal
+pub found_before : {A : Type 0} (no_fit : Readings → Type 0) (f : Profile) (d : Directory) (k : ℕ) (l : Whole) (after searched : List Made) → IsValid f → IsDirectoryOf f d → IsAntitone no_fit → Legal f (triples k (after ++ searched) ++ l) → AreSearch searched → MaySearch d (part k l)
+    → (answer : Result A NoRoom) → ((room : NoRoom) → answer ≡ Err room → IsRefused no_fit f d searched room) → FindsWhatThereIs no_fit f d l answer
+found_before no_fit f d k l after searched valid of fewer legal searches may = finds_what_there_is no_fit f d k l searched valid of fewer (legal_earlier f k after searched l legal) searches may

@@ -12,7 +12,7 @@ use pas_steps::Desk;
 /// Makes a deed on the lowest page without one, and lets the back end serve from the page.
 ///
 /// Where another actor was first at a page, the search goes on with the next one.
-pub fn search_bare<S: Serving, D: Desk>(
+pub(crate) fn search_bare<S: Serving, D: Desk>(
     serving: &S,
     desk: &mut D,
     directory: Directory,

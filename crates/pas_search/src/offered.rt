@@ -13,7 +13,7 @@ use pas_steps::Desk;
 /// Tries the offered pages, from the lowest up.
 ///
 /// A page whose right another actor got first is passed by. One whose right was got, and of which nothing fits, is left and marked.
-pub fn search_offered<S: Serving, D: Desk>(
+pub(crate) fn search_offered<S: Serving, D: Desk>(
     serving: &S,
     desk: &mut D,
     looked: &mut Looked,

@@ -5,10 +5,9 @@ use Rattle.pas_profile.specs.declared.event.NoRoom.{NoRoom}
 use Rattle.pas_steps.specs.Desks.{Standing, triples}
 use Rattle.pas_steps.specs.Evidence.{IsAntitone}
 use Rattle.pas_steps.specs.Lists.{Whole, part, Legal}
-use Rattle.pas_core.proofs.OneActor.{legal_earlier}
 use Rattle.pas_search.specs.Alone.{FindsWhatThereIs}
 use Rattle.pas_search.specs.Searches.{MaySearch, IsRefused}
-use Rattle.pas_search.proofs.Alone.{finds_what_there_is}
+use Rattle.pas_search.proofs.Alone.{found_before}
 use Rattle.pas_segregated.specs.Refills.{Filling, GivesSlots, Refills}
 use Rattle.pas_segregated.specs.declared.slots.Slots.{Slots}
 
@@ -18,4 +17,4 @@ refill_alone {σ} fill tells answer call l valid of fewer legal may =
     let f = σ.seat.profile in
     let refused : (room : NoRoom) → answer ≡ Err room → IsRefused fill.no_fit f fill.directory call.searched room
     = λ room is. (subst (λ a. MatchResult a (GivesSlots fill f call.searched call.after) (λ why. IsRefused fill.no_fit f fill.directory call.searched why × (call.after ≡ []))) is call.outcome).0 in
-    finds_what_there_is fill.no_fit f fill.directory σ.seat.actor l call.searched valid of fewer (legal_earlier f σ.seat.actor call.after call.searched l legal) call.searches may answer refused
+    found_before fill.no_fit f fill.directory σ.seat.actor l call.after call.searched valid of fewer legal call.searches may answer refused

@@ -14,6 +14,8 @@ mod log_tests;
 #[cfg(test)]
 mod pass_tests;
 #[cfg(test)]
+mod power_tests;
+#[cfg(test)]
 mod racing_tests;
 #[cfg(test)]
 mod seating;

@@ -1,3 +1,5 @@
 mod Statuses
 mod Headline
 mod Summing
+mod Accepting
+mod Reading

@@ -1,12 +1,12 @@
 -- From what a replay of a generated trace shows to the summary that is written.
-use Rattle.std.proofs.Common.{◌≡◌, ℕ, ◌⊎◌, List, ◌++◌, append_assoc, Option, ap, ◌∙◌, subst, inl, inr, arith}
+use Rattle.std.proofs.Common.{◌≡◌, ℕ, ◌⊎◌, List, Option, ap, ◌∙◌, subst, inl, inr, arith}
 use Rattle.pas_steps.specs.declared.state.State.{State}
 use Rattle.pas_trace.specs.Plans.{IsPlanOf}
 use Rattle.pas_generate.specs.Traces.{trace_text}
 use Rattle.pas_report.specs.Counts.{totals_by_words}
 use Rattle.pas_report.specs.declared.record.Record.{Record}
 use Rattle.pas_io.specs.Told.{Rose}
-use Rattle.pas_telling.specs.Summaries.{line_text, summary_text}
+use Rattle.pas_telling.specs.Summaries.{summary_text}
 use Rattle.pas_top.specs.Generating.{IsSummarized}
 use Rattle.pas_top.specs.Generated.{Generates}
 use Rattle.pas_top.specs.Outcomes.{IsShowing}

@@ -1,15 +1,12 @@
 -- What an input comes to, before it is written.
-use Rattle.std.specs.Prelude.{ℕ, ◌≡◌, List, ◌++◌, Err, All}
+use Rattle.std.specs.Prelude.{ℕ, ◌≡◌, List, Err}
 use Rattle.pas_steps.specs.declared.state.State.{State}
 use Rattle.pas_trace.specs.Plans.{IsPlanOf, parsed}
 use Rattle.pas_trace.specs.declared.plan.Plan.{Plan}
 use Rattle.pas_report.specs.Rooms.{records_in}
-use Rattle.pas_report.specs.Lines.{lines_of, CanShow}
-use Rattle.pas_report.specs.Counts.{AreDeedWords, report_by_words}
 use Rattle.pas_report.specs.declared.record.Record.{Record}
 use Rattle.pas_answers.specs.Replays.{Shows}
 use Rattle.pas_answers.specs.Ways.{Way}
-use Rattle.pas_telling.specs.Faults.{fault_text}
 use Rattle.pas_telling.specs.declared.outcome.Outcome.{Outcome}
 use Rattle.pas_telling.specs.declared.outcome.Outcome.TheVariants.{Replayed, Faulty}
 

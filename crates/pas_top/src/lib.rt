@@ -2,6 +2,7 @@
 #![tactic(auto)]
 
 mod generating;
+pub mod laws;
 pub mod main_call;
 mod opening;
 mod outcome;

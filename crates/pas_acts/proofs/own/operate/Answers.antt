@@ -17,7 +17,7 @@ keep-requires g c = room_now (own_what c.args.op.what c.in-Own.task (sym c.work.
 pub returns-in-Own-clause-works : goal.returns-in-Own-clause-works
 returns-in-Own-clause-works g c = λ f next later p at.
     let is = own_what c.args.op.what c.in-Own.task (sym c.work.ensures ∙ c.in-Own.is) in
-    operated is at (c.operate-came.ensures.operates f c.args.op _ p is (may_operate is at c.freed-meant.ensures)) (record { book = refl; requests = c.keep.ensures.kept; room = c.keep.ensures.room }) c.operate-came.ensures.turn
+    operated is at (c.operate-came.ensures.operates f c.args.op _ p is (may_operate is at c.freed-meant.ensures)).0 (record { book = refl; requests = c.keep.ensures.kept; room = c.keep.ensures.room }) c.operate-came.ensures.turn
 
 pub returns-in_default-clause-works : goal.returns-in_default-clause-works
 returns-in_default-clause-works g c = λ f next later p at. absurd (no_chore f _ at.names.asked at.names.fit.1 (sym c.work.ensures ∙ c.in_default.is))

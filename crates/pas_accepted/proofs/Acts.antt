@@ -1,0 +1,216 @@
+-- Each act of a replay in the order of the text.
+use Rattle.std.proofs.Common.{◌≡◌, ℕ, ◌+◌, ◌==◌, max, nat_le, true, false, List, [], ◌∷◌, ◌++◌, inl, inr, refl, ap, sym, ◌∙◌, subst, append-nil, arith}
+use Rattle.std.specs.Prelude.{map}
+use Rattle.std.proofs.lemmas.Bool.{false_from_ne_true, le-leb, leb-true}
+use Rattle.pas_profile.specs.Profiles.{IsValid}
+use Rattle.pas_profile.specs.declared.profile.Profile.{Profile}
+use Rattle.pas_profile.specs.declared.word.Word.TheVariants as Word
+use Rattle.pas_steps.specs.Desks.{made, triples}
+use Rattle.pas_steps.specs.Events.{events_by}
+use Rattle.pas_steps.specs.Lists.{Legal, part, word_after}
+use Rattle.pas_steps.specs.declared.step.Made.{Made}
+use Rattle.pas_steps.specs.declared.step.Step.TheVariants.{Tick}
+use Rattle.pas_free_log.specs.Logs.{entry_of}
+use Rattle.pas_cache.specs.Caches.{Cached}
+use Rattle.pas_report.specs.Lines.{line_of}
+use Rattle.pas_report.specs.declared.record.Record.{Record}
+use Rattle.pas_report.specs.declared.record.Said.{Said}
+use Rattle.pas_trace.specs.Acts.{Act, Operates, Settles, Ticks, MakesPass, ReadsEpoch, StopsIdle, MarksPhase, Wakes, MarksClose, Ends}
+use Rattle.pas_answers.specs.Answers.{IsIdleFor, IsStopped, Progress, after_reading, after_settling, after_stop, after_tick, after_wake, begun as woken, epoch_look, records_of, settled, stopped, with_cache, with_records}
+use Rattle.pas_answers.specs.Reaching.{Advances}
+use Rattle.pas_answers.specs.Refusals.{ActRefusesTruly}
+use Rattle.pas_answers.proofs.Consequences.{tidy_piece}
+use Rattle.pas_answers.proofs.Tidy.{look_tidy, tick_tidy}
+use Rattle.pas_check.specs.Begins.{stopping}
+use Rattle.pas_check.specs.States.{Does, Due, Stand, Task, Writes, with_at}
+use Rattle.pas_check.specs.Tasks.{emptying}
+use Rattle.pas_accepted.proofs.Going.{LeadsOn, on_as, on_both, on_line, on_task}
+use Rattle.pas_accepted.proofs.Operations.{what_comes}
+use Rattle.pas_accepted.proofs.Passes.{pass_comes}
+use Rattle.pas_accepted.proofs.Pieces.{lines_both, lines_by, table_at, table_same}
+use Rattle.pas_accepted.proofs.Stopping.{emptied, stop_leads, stop_tells}
+use Rattle.pas_accepted.proofs.Telling.{Comes, Tells}
+
+-- an act whose records lead on to what it came to
+abbrev pub Written : Profile → Progress → Stand → Progress → List Task → Type 0
+Written f p s q ts = (rs : List Record) × (q.records ≡ p.records ++ rs) × Comes f s rs q ts
+
+-- the epoch that the scavenger read is that of the word, where a thread may be stopped by it
+abbrev pub ReadsWell : Act → Progress → Type 0
+ReadsWell (StopsIdle k n) p = p.epoch ≡ word_after p.list Word.Epoch
+ReadsWell act p = Unit {0}
+
+module _ (f : Profile) (valid : IsValid f) (p : Progress) (s : Stand) (ts : List Task) (tells : Tells p s) (due : s.due ≡ []) where
+  -- ---- one look at the epoch
+  look_tells : (k epoch : ℕ) (t : Stand) (caches : ℕ → Cached) (read : ℕ) → t.events ≡ s.events → t.names ≡ s.names → ((j : ℕ) → (caches j).log ≡ map entry_of (t.logs j)) → ((j : ℕ) → t.idle_since j ≡ (caches j).idle_since) → t.epoch ≡ s.epoch
+      → Tells record { names = p.names; caches = caches; epoch = read; list = triples k (epoch_look epoch) ++ p.list; records = p.records } t
+  look_tells k epoch t caches read events names logs awake same = record {
+    events = events ∙ tells.events;
+    names = names ∙ tells.names;
+    logs = logs;
+    awake = awake;
+    epoch = same ∙ tells.epoch;
+    tidy = tidy_piece k (epoch_look epoch) p.list tells.tidy (look_tidy Word.Epoch epoch (part k p.list) refl (tells.tidy k));
+  }
+
+  woken_comes : (k epoch : ℕ) → s.left ≡ Does (Wakes k) ∷ ts → epoch ≡ word_after p.list Word.Epoch → Comes f s [] (after_wake p k epoch) ts
+  woken_comes k epoch left is =
+      let t : Stand = record s { idle_since = with_at s.idle_since k s.epoch; left = ts } in
+      record {
+        end = t;
+        leads = on_task f s (Does (Wakes k)) ts due left;
+        tells = look_tells k epoch t (with_cache p.caches k (woken (p.caches k) epoch)) p.epoch refl refl (λ j. table_same (λ (d : Cached). d.log) p.caches k (woken (p.caches k) epoch) refl j ∙ tells.logs j)
+            (λ j. sym (table_at (λ (d : Cached). d.idle_since) (λ (n : ℕ). n) (j == k) (woken (p.caches k) epoch) (p.caches j) s.epoch (s.idle_since j) (is ∙ sym tells.epoch) (sym (tells.awake j)))) refl;
+        due = due;
+        left = refl;
+      }
+
+  read_comes : (epoch : ℕ) → s.left ≡ Does ReadsEpoch ∷ ts → Comes f s [] (after_reading p epoch) ts
+  read_comes epoch left =
+      let t : Stand = record s { left = ts } in
+      record { end = t; leads = on_task f s (Does ReadsEpoch) ts due left; tells = look_tells 0 epoch t p.caches epoch refl refl tells.logs tells.awake refl; due = due; left = refl }
+
+  -- ---- what is handed on
+  settled_comes : (k : ℕ) → s.left ≡ Does (Settles k) ∷ ts → Comes f s [] (after_settling p k) ts
+  settled_comes k left = record {
+    end = record s { left = ts };
+    leads = on_task f s (Does (Settles k)) ts due left;
+    tells = record {
+      events = tells.events;
+      names = tells.names;
+      logs = λ j. table_same (λ (d : Cached). d.log) p.caches k (settled (p.caches k)) refl j ∙ tells.logs j;
+      awake = λ j. tells.awake j ∙ sym (table_same (λ (d : Cached). d.idle_since) p.caches k (settled (p.caches k)) refl j);
+      epoch = tells.epoch;
+      tidy = tells.tidy;
+    };
+    due = due;
+    left = refl;
+  }
+
+  -- ---- marks and ticks
+  same_tells : (t : Stand) (records : List Record) → t.events ≡ s.events → t.names ≡ s.names → t.logs ≡ s.logs → t.idle_since ≡ s.idle_since → t.epoch ≡ s.epoch → Tells record { names = p.names; caches = p.caches; epoch = p.epoch; list = p.list; records = records } t
+  same_tells t records events names logs awake epoch = record {
+    events = events ∙ tells.events;
+    names = names ∙ tells.names;
+    logs = λ j. tells.logs j ∙ ap (λ table. map entry_of (table j)) (sym logs);
+    awake = λ j. ap (λ (table : ℕ → ℕ). table j) awake ∙ tells.awake j;
+    epoch = epoch ∙ tells.epoch;
+    tidy = tells.tidy;
+  }
+
+  -- one line is written
+  wrote : (act : Act) (item : Record) (t : Stand) → s.left ≡ Does act ∷ ts → LeadsOn f s [] (record t { due = Writes item ∷ [] }) → LeadsOn f s (lines_by (item ∷ [])) (record t { due = [] })
+  wrote act item t left begun =
+      on_both f s (record t { due = Writes item ∷ [] }) (record t { due = [] }) [] (line_of item ∷ []) begun (on_line f (record t { due = Writes item ∷ [] }) (record t { due = [] }) (line_of item) (inr (refl, refl)))
+
+  phase_comes : (n : ℕ) → s.left ≡ Does (MarksPhase n) ∷ ts → Comes f s (Record.Phase n ∷ []) (with_records p (Record.Phase n ∷ [])) ts
+  phase_comes n left = record {
+    end = record s { due = []; left = ts };
+    leads = wrote (MarksPhase n) (Record.Phase n) (record s { left = ts }) left (on_task f s (Does (MarksPhase n)) ts due left);
+    tells = same_tells (record s { due = []; left = ts }) _ refl refl refl refl refl;
+    due = refl;
+    left = refl;
+  }
+
+  close_comes : s.left ≡ Does MarksClose ∷ ts → Comes f s (Record.Close ∷ []) (with_records p (Record.Close ∷ [])) ts
+  close_comes left = record {
+    end = record s { due = []; left = ts };
+    leads = wrote MarksClose Record.Close (record s { left = ts }) left (on_task f s (Does MarksClose) ts due left);
+    tells = same_tells (record s { due = []; left = ts }) _ refl refl refl refl refl;
+    due = refl;
+    left = refl;
+  }
+
+  tick_comes : (asked answer : ℕ) → s.left ≡ Does (Ticks asked) ∷ ts → answer ≡ word_after p.list Word.Epoch → Comes f s (Record.Said 0 (Said.Tick (max answer asked)) ∷ []) (after_tick p asked answer) ts
+  tick_comes asked answer left is =
+      let same : max s.epoch asked ≡ max answer asked = ap (λ n. max n asked) (tells.epoch ∙ sym is) in
+      let t : Stand = record s { epoch = max s.epoch asked; left = ts } in
+      let end : Stand = record t { due = [] } in
+      let item : Record = Record.Said 0 (Said.Tick (max s.epoch asked)) in
+      record {
+        end = end;
+        leads = on_as f s end end _ _ (ap (λ n. lines_by (Record.Said 0 (Said.Tick n) ∷ [])) (sym same)) refl (wrote (Ticks asked) item t left (on_task f s (Does (Ticks asked)) ts due left));
+        tells = record {
+          events = tells.events;
+          names = tells.names;
+          logs = tells.logs;
+          awake = tells.awake;
+          epoch = ap (λ n. max n asked) tells.epoch;
+          tidy = tidy_piece 0 (made (Tick asked) answer ∷ []) p.list tells.tidy (tick_tidy asked answer (part 0 p.list) (tells.tidy 0));
+        };
+        due = refl;
+        left = refl;
+      }
+
+  -- ---- threads are stopped
+  ended_comes : (k : ℕ) (steps : List Made) (c : Cached) → IsStopped k (p.caches k) c steps → Legal f (triples k steps ++ p.list) → s.left ≡ Does (Ends k) ∷ ts
+      → Comes f s (records_of (events_by k (part k p.list) steps) ++ []) (after_stop p k steps c []) ts
+  ended_comes k steps c h legal left =
+      let end : Stand = emptied p s k steps [] [] ts in
+      let rs : List Record = records_of (events_by k (part k p.list) steps) in
+      record {
+        end = end;
+        leads = on_as f s end end _ _ (ap lines_by (append-nil rs)) refl (on_both f s (emptying s k [] [] ts) end [] (lines_by rs) (on_task f s (Does (Ends k)) ts due left) (stop_leads f valid p s tells k c steps h legal [] ts));
+        tells = stop_tells f valid p s tells k c steps h legal p.names _ end refl tells.names refl refl refl;
+        due = refl;
+        left = refl;
+      }
+
+  idle_is : (k n : ℕ) → p.epoch ≡ word_after p.list Word.Epoch → IsIdleFor p k n → nat_le (s.idle_since k + n) s.epoch ≡ true
+  idle_is k n reads idle = le-leb (s.idle_since k + n) s.epoch (let since = tells.awake k in let epoch = tells.epoch in omega (arith, idle, since, epoch, reads))
+
+  idle_isnt : (k n : ℕ) → p.epoch ≡ word_after p.list Word.Epoch → (IsIdleFor p k n → ⊥) → nat_le (s.idle_since k + n) s.epoch ≡ false
+  idle_isnt k n reads busy = false_from_ne_true (nat_le (s.idle_since k + n) s.epoch) (λ t.
+      let le = leb-true (s.idle_since k + n) s.epoch t in
+      let since = tells.awake k in
+      let epoch = tells.epoch in
+      busy (omega (arith, le, since, epoch, reads)))
+
+  idle_comes : (k n : ℕ) (steps : List Made) (c : Cached) → p.epoch ≡ word_after p.list Word.Epoch → IsIdleFor p k n → IsStopped k (p.caches k) c steps → Legal f (triples k steps ++ p.list) → s.left ≡ Does (StopsIdle k n) ∷ ts
+      → Comes f s (records_of (events_by k (part k p.list) steps) ++ stopped k) (after_stop p k steps c (stopped k)) ts
+  idle_comes k n steps c reads idle h legal left =
+      let item : Record = Record.Said 0 (Said.Stopped k) in
+      let more : List Due = Writes item ∷ [] in
+      let u : Stand = emptying s k [] more ts in
+      let old : Stand = emptied p s k steps [] more ts in
+      let end : Stand = emptied p s k steps [] [] ts in
+      let rs : List Record = records_of (events_by k (part k p.list) steps) in
+      let begun : LeadsOn f s [] u = on_as f s _ u [] [] refl (ap (λ t. record (stopping t s k) { left = ts }) (sym (idle_is k n reads idle))) (on_task f s (Does (StopsIdle k n)) ts due left) in
+      record {
+        end = end;
+        leads = on_as f s end end _ _ (lines_both rs (stopped k)) refl
+            (on_both f s old end (lines_by rs) (line_of item ∷ []) (on_both f s u old [] (lines_by rs) begun (stop_leads f valid p s tells k c steps h legal more ts)) (on_line f old end (line_of item) (inr (refl, refl))));
+        tells = stop_tells f valid p s tells k c steps h legal p.names _ end refl tells.names refl refl refl;
+        due = refl;
+        left = refl;
+      }
+
+  busy_comes : (k n : ℕ) → p.epoch ≡ word_after p.list Word.Epoch → (IsIdleFor p k n → ⊥) → s.left ≡ Does (StopsIdle k n) ∷ ts → Comes f s [] p ts
+  busy_comes k n reads busy left = record {
+    end = record s { left = ts };
+    leads = on_as f s _ (record s { left = ts }) [] [] refl (ap (λ t. record (stopping t s k) { left = ts }) (sym (idle_isnt k n reads busy))) (on_task f s (Does (StopsIdle k n)) ts due left);
+    tells = same_tells (record s { left = ts }) p.records refl refl refl refl refl;
+    due = due;
+    left = refl;
+  }
+
+  -- ---- THE ACT
+  at_end : (q r : Progress) → q ≡ r → Written f p s r ts → Written f p s q ts
+  at_end q r same written = subst (λ (x : Progress). Written f p s x ts) (sym same) written
+
+  legal_end : (q r : Progress) → q ≡ r → Legal f q.list → Legal f r.list
+  legal_end q r same legal = subst (λ (x : Progress). Legal f x.list) same legal
+
+  pub act_written : (act : Act) (q : Progress) → s.left ≡ Does act ∷ ts → (did : Advances f act p q) → ActRefusesTruly f act p q did → ReadsWell act p → Legal f q.list → Written f p s q ts
+  act_written (MarksPhase n) q left did truly reads legal = at_end q _ did (Record.Phase n ∷ [], refl, phase_comes n left)
+  act_written MarksClose q left did truly reads legal = at_end q _ did (Record.Close ∷ [], refl, close_comes left)
+  act_written (Wakes k) q left did truly reads legal = at_end q _ did.1 ([], sym (append-nil p.records), woken_comes k did.0 left (legal_end q _ did.1 legal).0.answer_is)
+  act_written (Operates op) q left did truly reads legal =
+      at_end q _ did.2 (_, refl, what_comes f valid p s ts tells due op.actor did.0 (legal_end q _ did.2 legal) op.what did.1 truly (on_task f s (Does (Operates op)) ts due left))
+  act_written (Settles k) q left did truly reads legal = at_end q _ did ([], sym (append-nil p.records), settled_comes k left)
+  act_written (Ticks asked) q left did truly reads legal = at_end q _ did.1 (_, refl, tick_comes asked did.0 left (legal_end q _ did.1 legal).0.answer_is)
+  act_written MakesPass q left did truly reads legal = at_end q _ did.4 (_, refl, pass_comes f valid p s ts tells due left did.0 did.1 did.2 did.3 (legal_end q _ did.4 legal))
+  act_written ReadsEpoch q left did truly reads legal = at_end q _ did.1 ([], sym (append-nil p.records), read_comes did.0 left)
+  act_written (StopsIdle k n) q left (inl so) truly reads legal = at_end q _ so.4 (_, refl, idle_comes k n so.1 so.2 reads so.0 so.3 (legal_end q _ so.4 legal) left)
+  act_written (StopsIdle k n) q left (inr stays) truly reads legal = at_end q p stays.1 ([], sym (append-nil p.records), busy_comes k n reads stays.0 left)
+  act_written (Ends k) q left did truly reads legal = at_end q _ did.3 (_, refl, ended_comes k did.0 did.1 did.2 (legal_end q _ did.3 legal) left)

@@ -1,0 +1,17 @@
+mod Going
+mod Pieces
+mod Telling
+mod FlushKinds
+mod Flushing
+mod Outcomes
+mod Tries
+mod Passes
+mod Requests
+mod Stopping
+mod Frees
+mod Operations
+mod Acts
+mod Order
+mod Reports
+pub mod OnePlan
+pub mod Whole

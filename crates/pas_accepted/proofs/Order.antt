@@ -1,0 +1,96 @@
+-- Whenever a thread may be stopped as idle, the scavenger read the epoch just before.
+use Rattle.std.proofs.Common.{◌≡◌, ℕ, ◌+◌, Bool, true, false, List, [], ◌∷◌, ◌++◌, inl, inr, refl, sym, ◌∙◌, subst, append_assoc, true≢false}
+use Rattle.std.specs.Prelude.{map}
+use Rattle.pas_profile.specs.declared.profile.Profile.{Profile}
+use Rattle.pas_profile.specs.declared.word.Word.TheVariants as Word
+use Rattle.pas_steps.specs.Lists.{Legal, word_after}
+use Rattle.pas_trace.specs.Acts.{Act, ReadsEpoch, StopsIdle, Wakes, Ends, active_threads, acts_from, acts_of, acts_of_chore, acts_of_op, acts_of_ops, acts_of_work, close_acts, idle_stops, idle_threads, numbers_from, phase_acts}
+use Rattle.pas_trace.specs.Asked.{work_of}
+use Rattle.pas_trace.specs.declared.plan.Chore.{Chore}
+use Rattle.pas_trace.specs.declared.plan.Op.{Op}
+use Rattle.pas_trace.specs.declared.plan.Work.{Work}
+use Rattle.pas_free_log.specs.Frames.{freeing}
+use Rattle.pas_answers.specs.Answers.{Progress}
+use Rattle.pas_answers.specs.Reaching.{Advances}
+use Rattle.pas_check.proofs.Ticks.{epoch_kept}
+use Rattle.pas_accepted.proofs.Acts.{ReadsWell}
+use Rattle.pas_accepted.proofs.FlushKinds.{stop_only}
+
+-- ---- whether the epoch that the scavenger read is known to be that of the word
+abbrev pub read_after : Bool → Act → Bool
+read_after known ReadsEpoch = true
+read_after known (StopsIdle k n) = known
+read_after known act = false
+
+abbrev pub IsReadFor : Bool → Act → Type 0
+IsReadFor known (StopsIdle k n) = known ≡ true
+IsReadFor known act = Unit {0}
+
+abbrev pub AreRead : Bool → List Act → Type 0
+AreRead known [] = Unit {0}
+AreRead known (act ∷ acts) = IsReadFor known act × AreRead (read_after known act) acts
+
+abbrev pub IsRead : Bool → Progress → Type 0
+IsRead known p = known ≡ true → p.epoch ≡ word_after p.list Word.Epoch
+
+pub reads_well : (known : Bool) (act : Act) (p : Progress) → IsReadFor known act → IsRead known p → ReadsWell act p
+reads_well known (StopsIdle k n) p is read = read is
+reads_well known act p is read = tt
+
+never : {A : Type 0} → false ≡ true → A
+never is = absurd (true≢false (sym is))
+
+read_as : (known : Bool) (p q : Progress) → q ≡ p → IsRead known p → IsRead known q
+read_as known p q same read = subst (IsRead known) (sym same) read
+
+pub still_read : (f : Profile) (known : Bool) (act : Act) (p q : Progress) → Advances f act p q → Legal f q.list → IsRead known p → IsRead (read_after known act) q
+still_read f known ReadsEpoch p q did legal read = λ is. subst (λ (x : Progress). x.epoch ≡ word_after x.list Word.Epoch) (sym did.1) (subst (λ (x : Progress). Legal f x.list) did.1 legal).0.answer_is
+still_read f known (StopsIdle k n) p q (inl so) legal read = read_as known _ q so.4 (λ is. read is ∙ sym (epoch_kept freeing refl k so.1 p.list (stop_only k (p.caches k) so.2 so.1 so.3)))
+still_read f known (StopsIdle k n) p q (inr stays) legal read = read_as known p q stays.1 read
+still_read f known act p q did legal read = never
+
+-- ---- it is so in the acts of every plan
+abbrev Anyhow : List Act → Type 0
+Anyhow acts = (known : Bool) → AreRead known acts
+
+stops_on : (n : ℕ) (idle : List ℕ) (rest : List Act) → Anyhow rest → AreRead true (idle_stops n idle ++ rest)
+stops_on n [] rest on = on true
+stops_on n (k ∷ idle) rest on = (refl, stops_on n idle rest on)
+
+chore_on : (idle : List ℕ) (chore : Chore) (rest : List Act) → Anyhow rest → Anyhow (acts_of_chore idle chore ++ rest)
+chore_on idle (Chore.Tick epoch) rest on known = (tt, on false)
+chore_on idle Chore.Pass rest on known = (tt, on false)
+chore_on idle (Chore.Idle n) rest on known = (tt, stops_on n idle rest on)
+
+work_on : (idle : List ℕ) (op : Op) (work : Work) (rest : List Act) → Anyhow rest → Anyhow (acts_of_work idle op work ++ rest)
+work_on idle op (Work.Own task) rest on known = (tt, (tt, on false))
+work_on idle op (Work.Chore chore) rest on known = chore_on idle chore rest on known
+
+ops_on : (idle : List ℕ) (ops : List Op) (rest : List Act) → Anyhow rest → Anyhow (acts_of_ops idle ops ++ rest)
+ops_on idle [] rest on known = on known
+ops_on idle (op ∷ ops) rest on known =
+    subst (AreRead known) (sym (append_assoc (acts_of_op idle op) (acts_of_ops idle ops) rest)) (work_on idle op (work_of op.what) (acts_of_ops idle ops ++ rest) (ops_on idle ops rest on) known)
+
+wakes_on : (ks : List ℕ) (rest : List Act) → Anyhow rest → Anyhow (map Wakes ks ++ rest)
+wakes_on [] rest on known = on known
+wakes_on (k ∷ ks) rest on known = (tt, wakes_on ks rest on false)
+
+phase_on : (threads : ℕ) (ops : List Op) (rest : List Act) → Anyhow rest → Anyhow (phase_acts threads ops ++ rest)
+phase_on threads ops rest on known =
+    let idle : List ℕ = idle_threads threads ops in
+    subst (AreRead known) (sym (append_assoc (map Wakes (active_threads threads ops)) (acts_of_ops idle ops) rest)) (wakes_on (active_threads threads ops) (acts_of_ops idle ops ++ rest) (ops_on idle ops rest on) known)
+
+ends_on : (ks : List ℕ) → Anyhow (map Ends ks)
+ends_on [] known = tt
+ends_on (k ∷ ks) known = (tt, ends_on ks false)
+
+close_on : (threads : ℕ) → Anyhow (close_acts threads)
+close_on threads known = (tt, ends_on (numbers_from 1 threads) false)
+
+from_on : (threads n : ℕ) (phases : List (List Op)) → Anyhow (acts_from threads n phases)
+from_on threads n [] known = close_on threads known
+from_on threads n (phase ∷ phases) known = (tt, phase_on threads phase (acts_from threads (n + 1) phases) (from_on threads (n + 1) phases) false)
+
+pub acts_read : (threads : ℕ) (phases : List (List Op)) (known : Bool) → AreRead known (acts_of threads phases)
+acts_read threads [] known = close_on threads known
+acts_read threads (phase ∷ phases) known = phase_on threads phase (acts_from threads 2 phases) (from_on threads 2 phases) known

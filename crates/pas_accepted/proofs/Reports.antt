@@ -1,0 +1,128 @@
+-- The report of a replay is allowed line by line.
+use Rattle.std.proofs.Common.{◌≡◌, ℕ, zero, suc, ◌≤◌, Bool, true, false, List, [], ◌∷◌, ◌++◌, Option, Some, None, codes, inr, refl, ap, sym, ◌∙◌, subst, arith, append-nil, append_assoc}
+use Rattle.std.specs.Fmt.{decimal}
+use Rattle.pas_profile.specs.declared.directory.Directory.{Directory}
+use Rattle.pas_profile.specs.declared.event.Event.{Event}
+use Rattle.pas_profile.specs.declared.profile.Profile.{Profile}
+use Rattle.pas_machine.specs.State.{deed_in, epoch_in}
+use Rattle.pas_machine.specs.Totals.{backed_total, deeds_total, ended_total, given_total, live_total}
+use Rattle.pas_steps.specs.Lists.{Whole, visible}
+use Rattle.pas_report.specs.Lines.{kind_text}
+use Rattle.pas_report.specs.Marks.{Marked, marks_after, marks_text}
+use Rattle.pas_report.specs.Reports.{live_on, machine_page, machine_pages, page_text, report_text, total_line, totals_text, uncovered_on}
+use Rattle.pas_report.specs.Rests.{AreTrueMarks}
+use Rattle.pas_check.specs.Accepted.{IsWhole}
+use Rattle.pas_check.specs.Begins.{page_due, pages_due}
+use Rattle.pas_check.specs.Lines.{lines_in}
+use Rattle.pas_check.specs.States.{Due, Heads, Reports, Shows, Stand, Totals}
+use Rattle.pas_check.specs.Takes.{AreAllowedMarks, head_line}
+use Rattle.pas_check.proofs.Cuts.{cut_line, is_line, kind_first, number_first}
+use Rattle.pas_accepted.proofs.Going.{LeadsOn, on_as, on_both, on_line, on_same, on_task}
+
+-- ---- its lines
+abbrev page_line : List Event → ℕ → Option Directory → Marked → List (List ℕ)
+page_line es page None m = []
+page_line es page (Some d) m = machine_page es page (Some d) m ∷ []
+
+abbrev page_lines : List Event → (ℕ → Marked) → ℕ → List (List ℕ)
+page_lines es marks zero = []
+page_lines es marks (suc n) = page_lines es marks n ++ page_line es (suc n) (deed_in es (suc n)) (marks (suc n))
+
+abbrev pub report_lines : Profile → List Event → (ℕ → Marked) → List (List ℕ)
+report_lines f es marks = head_line ∷ (page_lines es marks f.pages ++ total_line f es ∷ [])
+
+marks_end : (b o p h : Bool) → is_line (marks_text record { backed = b; offered = o; parked = p; hinted = h } ++ codes "\n") ≡ true
+marks_end true true true true = refl
+marks_end true true true false = refl
+marks_end true true false true = refl
+marks_end true true false false = refl
+marks_end true false true true = refl
+marks_end true false true false = refl
+marks_end true false false true = refl
+marks_end true false false false = refl
+marks_end false true true true = refl
+marks_end false true true false = refl
+marks_end false true false true = refl
+marks_end false true false false = refl
+marks_end false false true true = refl
+marks_end false false true false = refl
+marks_end false false false true = refl
+marks_end false false false false = refl
+
+page_ends : (page : ℕ) (d : Directory) (live free stamp : ℕ) (m : Marked) → is_line (page_text page d live free stamp m) ≡ true
+page_ends page d live free stamp m =
+    let marks : List ℕ = codes " marks " ++ (marks_text m ++ codes "\n") in
+    let stamps : List ℕ = codes " stamp " ++ (decimal stamp ++ marks) in
+    let frees : List ℕ = codes " free " ++ (decimal free ++ stamps) in
+    let lives : List ℕ = codes " live " ++ (decimal live ++ frees) in
+    number_first page (codes " heap " ++ (decimal d.heap ++ (codes " " ++ (kind_text d.kind ++ lives)))) ∙ number_first d.heap (codes " " ++ (kind_text d.kind ++ lives)) ∙ kind_first d.kind lives
+    ∙ number_first live frees ∙ number_first free stamps ∙ number_first stamp marks ∙ marks_end m.backed m.offered m.parked m.hinted
+
+totals_end : (deeds backed live given ended : ℕ) → is_line (totals_text deeds backed live given ended) ≡ true
+totals_end deeds backed live given ended =
+    let ends : List ℕ = codes " ended " ++ (decimal ended ++ codes "\n") in
+    let gives : List ℕ = codes " given " ++ (decimal given ++ ends) in
+    let lives : List ℕ = codes " live " ++ (decimal live ++ gives) in
+    number_first deeds (codes " backed " ++ (decimal backed ++ lives)) ∙ number_first backed lives ∙ number_first live gives ∙ number_first given ends ∙ number_first ended (codes "\n")
+
+cut_page : (es : List Event) (page : ℕ) (o : Option Directory) (m : Marked) (rest : List ℕ) → lines_in (machine_page es page o m ++ rest) ≡ page_line es page o m ++ lines_in rest
+cut_page es page None m rest = refl
+cut_page es page (Some d) m rest = cut_line (machine_page es page (Some d) m) rest (page_ends page d (live_on es page) (uncovered_on es page) (epoch_in es page) m)
+
+cut_pages : (es : List Event) (marks : ℕ → Marked) (n : ℕ) (rest : List ℕ) → lines_in (machine_pages es marks n ++ rest) ≡ page_lines es marks n ++ lines_in rest
+cut_pages es marks zero rest = refl
+cut_pages es marks (suc n) rest =
+    let page : List ℕ = machine_page es (suc n) (deed_in es (suc n)) (marks (suc n)) in
+    ap lines_in (append_assoc (machine_pages es marks n) page rest) ∙ cut_pages es marks n (page ++ rest) ∙ ap (λ ls. page_lines es marks n ++ ls) (cut_page es (suc n) (deed_in es (suc n)) (marks (suc n)) rest)
+    ∙ sym (append_assoc (page_lines es marks n) (page_line es (suc n) (deed_in es (suc n)) (marks (suc n))) (lines_in rest))
+
+pub cut_report : (f : Profile) (es : List Event) (marks : ℕ → Marked) → lines_in (report_text f es marks) ≡ report_lines f es marks
+cut_report f es marks =
+    let total : List ℕ = total_line f es in
+    let last : lines_in total ≡ total ∷ []
+    = ap lines_in (sym (append-nil total)) ∙ cut_line total [] (totals_end (deeds_total f es) (backed_total f es) (live_total f es) (given_total f es) (ended_total f es)) in
+    cut_line (codes "report\n") (machine_pages es marks f.pages ++ total) refl ∙ ap (λ ls. head_line ∷ ls) (cut_pages es marks f.pages total ∙ ap (λ ls. page_lines es marks f.pages ++ ls) last)
+
+-- ---- each is allowed
+module _ (f : Profile) (l : Whole) (true_marks : AreTrueMarks f l) (r : Stand) where
+  -- where this is due
+  abbrev showing : List Due → Stand
+  showing due = record r { events = visible l; due = due; left = [] }
+
+  allowed : (page : ℕ) (d : Directory) (more : List Due) → 1 ≤ page → page ≤ f.pages → deed_in (visible l) page ≡ Some d → AreAllowedMarks (showing (Shows page d ∷ more)) page d (marks_after l page)
+  allowed page d more low high deed = record {
+    backed = true_marks.backed page;
+    offered_or_parked = true_marks.offered_or_parked page (λ none. let bad : Some d ≡ None = sym deed ∙ none in absurd (cc));
+    offered = λ b lt usable bare. true_marks.offered page (low, high) d deed b lt usable bare;
+    hinted = λ backed bare. true_marks.hinted page (low, high) backed bare;
+  }
+
+  page_leads : (page : ℕ) (o : Option Directory) (more : List Due) → 1 ≤ page → page ≤ f.pages → deed_in (visible l) page ≡ o → LeadsOn f (showing (page_due page o ++ more)) (page_line (visible l) page o (marks_after l page)) (showing more)
+  page_leads page None more low high deed = on_same f (showing more) (showing more) refl
+  page_leads page (Some d) more low high deed =
+      on_line f (showing (Shows page d ∷ more)) (showing more) (machine_page (visible l) page (Some d) (marks_after l page)) (inr record { marks = marks_after l page; allowed = allowed page d more low high deed; line_is = refl; next_is = refl })
+
+  pages_lead : (n : ℕ) (more : List Due) → n ≤ f.pages → LeadsOn f (showing (pages_due (visible l) n ++ more)) (page_lines (visible l) (marks_after l) n) (showing more)
+  pages_lead zero more le = on_same f (showing more) (showing more) refl
+  pages_lead (suc n) more le =
+      let es : List Event = visible l in
+      let here : List Due = page_due (suc n) (deed_in es (suc n)) in
+      let s : Stand = showing (pages_due es (suc n) ++ more) in
+      let t : Stand = showing (pages_due es n ++ (here ++ more)) in
+      on_both f s t (showing more) [] (page_lines es (marks_after l) (suc n)) (on_same f s t (ap (λ ds. showing ds) (append_assoc (pages_due es n) here more)))
+      (on_both f t (showing (here ++ more)) (showing more) (page_lines es (marks_after l) n) (page_line es (suc n) (deed_in es (suc n)) (marks_after l (suc n))) (pages_lead n (here ++ more) (omega (arith, le)))
+      (page_leads (suc n) (deed_in es (suc n)) more (omega arith) le refl))
+
+  -- THE REPORT
+  pub report_whole : r.events ≡ visible l → r.due ≡ [] → r.left ≡ Reports ∷ [] → IsWhole f r (report_lines f (visible l) (marks_after l))
+  report_whole events due left =
+      let es : List Event = visible l in
+      let pages : List Due = pages_due es f.pages ++ Totals ∷ [] in
+      let begun : LeadsOn f r [] (showing (Heads ∷ pages)) = on_as f r _ (showing (Heads ∷ pages)) [] [] refl (ap (λ xs. record r { events = xs; due = Heads ∷ (pages_due xs f.pages ++ Totals ∷ []); left = [] }) (sym events)) (on_task f r Reports [] due left) in
+      let head : LeadsOn f (showing (Heads ∷ pages)) (head_line ∷ []) (showing pages) = on_line f (showing (Heads ∷ pages)) (showing pages) head_line (inr (refl, refl)) in
+      let total : LeadsOn f (showing (Totals ∷ [])) (total_line f es ∷ []) (showing []) = on_line f (showing (Totals ∷ [])) (showing []) (total_line f es) (inr (refl, refl)) in
+      let rest : LeadsOn f (showing pages) (page_lines es (marks_after l) f.pages ++ total_line f es ∷ []) (showing [])
+      = on_both f (showing pages) (showing (Totals ∷ [])) (showing []) (page_lines es (marks_after l) f.pages) (total_line f es ∷ []) (pages_lead f.pages (Totals ∷ []) (omega arith)) total in
+      let all : LeadsOn f r (report_lines f es (marks_after l)) (showing [])
+      = on_both f r (showing (Heads ∷ pages)) (showing []) [] (report_lines f es (marks_after l)) begun (on_both f (showing (Heads ∷ pages)) (showing pages) (showing []) (head_line ∷ []) (page_lines es (marks_after l) f.pages ++ total_line f es ∷ []) head rest) in
+      subst (IsWhole f r) (append-nil (report_lines f es (marks_after l))) (all [] (showing [], refl, refl))

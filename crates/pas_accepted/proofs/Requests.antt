@@ -1,0 +1,162 @@
+-- A request: deeds and backs, and then the give of its block or a refusal, which is true.
+use Rattle.std.proofs.Common.{◌≡◌, ◌≢◌, ℕ, ◌/◌, Bool, true, false, List, [], ◌∷◌, ◌++◌, Option, Some, None, Result, Ok, Err, inl, inr, refl, ap, sym, ◌∙◌, subst, append-nil}
+use Rattle.std.specs.Prelude.{MatchResult}
+use Rattle.std.specs.List.{AllByRecursion}
+use Rattle.pas_bits.specs.Runs.{in_run}
+use Rattle.pas_profile.specs.Blocks.{grain_of, length_of}
+use Rattle.pas_profile.specs.Directories.{IsKind, deed_word_of}
+use Rattle.pas_profile.specs.Profiles.{IsValid}
+use Rattle.pas_profile.specs.Requests.{is_shared, kind_of_route, route_in}
+use Rattle.pas_profile.specs.declared.directory.Directory.{Directory}
+use Rattle.pas_profile.specs.declared.directory.Route.{Route}
+use Rattle.pas_profile.specs.declared.event.Event.{Event}
+use Rattle.pas_profile.specs.declared.event.NoRoom.{NoRoom}
+use Rattle.pas_profile.specs.declared.event.NoRoom.TheVariants.{Held, NoSpace}
+use Rattle.pas_profile.specs.declared.name.Block.{Block}
+use Rattle.pas_profile.specs.declared.profile.Profile.{Profile}
+use Rattle.pas_profile.specs.declared.word.Word.TheVariants as Word
+use Rattle.pas_profile.proofs.ClassFacts.{class_known, class_suits}
+use Rattle.pas_profile.proofs.Codecs.{deed_word_of-positive, same_from_deed_word}
+use Rattle.pas_machine.specs.Machine.{Run}
+use Rattle.pas_machine.specs.State.{deed_in}
+use Rattle.pas_core.specs.Good.{word_of_deed}
+use Rattle.pas_core.proofs.Deeds.{deed_of, directory_is_of, known_is}
+use Rattle.pas_core.proofs.MachineRuns.{runs}
+use Rattle.pas_core.proofs.Rights.{deeds_known}
+use Rattle.pas_steps.specs.Desks.{triples}
+use Rattle.pas_steps.specs.Events.{actor_of, events_by}
+use Rattle.pas_steps.specs.Lists.{Legal, Whole, part, visible, word_after}
+use Rattle.pas_steps.specs.Views.{KnowsDeed, known_deed}
+use Rattle.pas_steps.specs.declared.step.Made.{Made}
+use Rattle.pas_steps.proofs.Events.{events_own}
+use Rattle.pas_steps.proofs.Parts.{part_of_own}
+use Rattle.pas_search.specs.Telling.{IsTrueReason}
+use Rattle.pas_cache.specs.Refusals.{IsTrulyRefused, IsTrulyRefusedBy}
+use Rattle.pas_cache.specs.Serves.{IsDeedOf, Wanted}
+use Rattle.pas_cache.specs.Serves.{IsPreparing as Prepares}
+use Rattle.pas_segregated.specs.declared.slots.Slots.{Slots}
+use Rattle.pas_report.specs.Lines.{line_of_answer, line_of_event}
+use Rattle.pas_report.specs.declared.record.Record.{Record}
+use Rattle.pas_report.specs.declared.record.Said.{Said}
+use Rattle.pas_trace.specs.Named.{named}
+use Rattle.pas_trace.specs.declared.item.Request.{Request}
+use Rattle.pas_answers.specs.Answers.{IsGiven, RefusalEnds, RequestEnds, name_of, records_of, said_by, said_of_request, said_of_room, wanted_by}
+use Rattle.pas_check.specs.States.{Serves, Stand}
+use Rattle.pas_check.specs.Takes.{IsPreparing, IsRefusal, directory_of}
+use Rattle.pas_accepted.proofs.Going.{LeadsOn, on_as, on_both, on_line, on_same}
+use Rattle.pas_accepted.proofs.Pieces.{lines_both, lines_by, lines_more, visible_piece}
+
+-- ---- the directory of a request
+kind_routed : (f : Profile) (size align : ℕ) (shared : Bool) (route : Route) → route_in f size align ≡ route → IsKind (kind_of_route shared route)
+kind_routed f size align true (Route.Class class) is = tt
+kind_routed f size align false (Route.Class class) is = class_known f.classes size align class (class_suits f.classes size align class is)
+kind_routed f size align shared Route.Bitfit is = tt
+kind_routed f size align shared Route.Large is = tt
+
+pub kind_asked : (f : Profile) (r : Request) → IsKind (directory_of f r).kind
+kind_asked f r = kind_routed f r.size r.align (is_shared f r.heap) (route_in f r.size r.align) refl
+
+directory_told : (o : Option Directory) (d : Directory) → IsKind d.kind → ((x : Directory) → o ≡ Some x → IsKind x.kind) → word_of_deed o ≡ deed_word_of d → o ≡ Some d
+directory_told None d is all word = absurd (deed_word_of-positive d (sym word))
+directory_told (Some x) d is all word = ap (λ y. Some y) (same_from_deed_word x d (all x refl) is word)
+
+-- a deed word of this directory is the page's deed
+deed_told : (f : Profile) (l : Whole) (page : ℕ) (d : Directory) → Legal f l → IsKind d.kind → word_after l (Word.Deed page) ≡ deed_word_of d → deed_in (visible l) page ≡ Some d
+deed_told f l page d legal is word = directory_told (deed_in (visible l) page) d is (λ x found. (directory_is_of f l legal page x found).kind) (sym (deed_of f l legal page) ∙ word)
+
+deed_known : (f : Profile) (l : Whole) (k page : ℕ) (d : Directory) → Legal f l → IsKind d.kind → KnowsDeed page d (part k l) → deed_in (visible l) page ≡ Some d
+deed_known f l k page d legal is knows =
+    let some : known_deed (part k l) page ≢ 0 = λ none. deed_word_of-positive d (sym knows ∙ none) in
+    deed_told f l page d legal is (sym (known_is (known_deed (part k l) page) (word_after l (Word.Deed page)) (deeds_known f l legal k page) some) ∙ knows)
+
+-- ---- deeds and backs
+-- where the request goes on, after these events
+abbrev pub serving : Stand → ℕ → Request → List Event → Stand
+serving w k r es = record w { events = es; due = Serves k r ∷ [] }
+
+prepared_by : (k : ℕ) (d : Directory) (e : Event) → Prepares d e → actor_of e ≡ k → IsPreparing k d e
+prepared_by k d e (Prepares.Deeds j page) own = inl (page, ap (λ i. Event.Deed i page d) own)
+prepared_by k d e (Prepares.Backs j page) own = inr (page, ap (λ i. Event.Back i page) own)
+
+all_prepared : (k : ℕ) (d : Directory) (es : List Event) → AllByRecursion (Prepares d) es → AllByRecursion (λ e. actor_of e ≡ k) es → AllByRecursion (IsPreparing k d) es
+all_prepared k d [] all own = tt
+all_prepared k d (e ∷ es) all own = (prepared_by k d e all.0 own.0, all_prepared k d es all.1 own.1)
+
+prepares_lead : (f : Profile) (w : Stand) (k : ℕ) (r : Request) (es : List Event) → AllByRecursion (IsPreparing k (directory_of f r)) es → Run f (es ++ w.events) → LeadsOn f (serving w k r w.events) (lines_by (records_of es)) (serving w k r (es ++ w.events))
+prepares_lead f w k r [] all run = on_same f (serving w k r w.events) (serving w k r w.events) refl
+prepares_lead f w k r (e ∷ es) all run =
+    let old : Stand = serving w k r (es ++ w.events) in
+    let new : Stand = serving w k r (e ∷ (es ++ w.events)) in
+    on_as f (serving w k r w.events) new new _ _ (lines_more e es) refl
+    (on_both f (serving w k r w.events) old new _ _ (prepares_lead f w k r es all.1 run.1) (on_line f old new (line_of_event e) (inr (inl record { event = e; prepares = all.0; admitted = run.0; line_is = refl; next_is = refl }))))
+
+-- ---- the end
+deeds_prepare : (d : Directory) (e : Event) → IsDeedOf d e → Prepares d e
+deeds_prepare d e (IsDeedOf.Deeds k page) = Prepares.Deeds k page
+
+all_deeds : (d : Directory) (es : List Event) → AllByRecursion (IsDeedOf d) es → AllByRecursion (Prepares d) es
+all_deeds d [] all = tt
+all_deeds d (e ∷ es) all = (deeds_prepare d e all.0, all_deeds d es all.1)
+
+refusal_prepares : (route : Route) (d : Directory) (es : List Event) → RefusalEnds route d es → AllByRecursion (Prepares d) es
+refusal_prepares (Route.Class class) d es none = subst (AllByRecursion (Prepares d)) (sym none) tt
+refusal_prepares Route.Bitfit d es none = subst (AllByRecursion (Prepares d)) (sym none) tt
+refusal_prepares Route.Large d es all = all_deeds d es all
+
+reason_by : (route : Route) (f : Profile) (w : Wanted) (locals : List Slots) (entry exit : Whole) (room : NoRoom) → IsTrulyRefusedBy route f w locals entry exit room → IsTrueReason f w.directory exit room
+reason_by (Route.Class class) f w locals entry exit room h = h.reason
+reason_by Route.Bitfit f w locals entry exit room h = h.reason
+reason_by Route.Large f w locals entry exit room h = h.2
+
+-- after the request
+abbrev pub served : Stand → Request → Result Block NoRoom → List Event → Stand
+served w r answer es = record w { events = es; names = named r.name (name_of answer) ∷ w.names; due = [] }
+
+module _ (f : Profile) (valid : IsValid f) (w : Stand) (k : ℕ) (r : Request) (l : Whole) (steps : List Made) (events : w.events ≡ visible l) (legal : Legal f (triples k steps ++ l)) where
+  run : Run f (visible (triples k steps ++ l))
+  run = runs f (triples k steps ++ l) valid legal
+
+  visible_is : (es : List Event) → events_by k (part k l) steps ≡ es → visible (triples k steps ++ l) ≡ es ++ w.events
+  visible_is es is = visible_piece k steps l ∙ ap (λ xs. xs ++ visible l) is ∙ ap (λ xs. es ++ xs) (sym events)
+
+  given_leads : (block : Block) → IsGiven k (wanted_by f r) (part k l) steps block
+      → LeadsOn f (serving w k r w.events) (lines_by (records_of (events_by k (part k l) steps) ++ [])) (served w r (Ok block) (visible (triples k steps ++ l)))
+  given_leads block h =
+      let give : Event = Event.Give k block in
+      let before : List Event = h.before in
+      let shown : visible (triples k steps ++ l) ≡ (give ∷ before) ++ w.events = visible_is (give ∷ before) h.events in
+      let all : Run f ((give ∷ before) ++ w.events) = subst (Run f) shown run in
+      let own : AllByRecursion (λ e. actor_of e ≡ k) (give ∷ before) = subst (AllByRecursion (λ e. actor_of e ≡ k)) h.events (events_own k (part k l) steps) in
+      let old : Stand = serving w k r (before ++ w.events) in
+      let new : Stand = served w r (Ok block) ((give ∷ before) ++ w.events) in
+      let deeds : (x : ℕ) → in_run (grain_of block.name) (length_of block) x ≡ true → deed_in (before ++ w.events) (x / 256) ≡ Some (directory_of f r)
+      = λ x inside. subst (λ es. deed_in es (x / 256) ≡ Some (directory_of f r)) shown
+      (deed_known f (triples k steps ++ l) k (x / 256) (directory_of f r) legal (kind_asked f r) (subst (KnowsDeed (x / 256) (directory_of f r)) (sym (part_of_own k steps l)) (h.of_directory x inside))) in
+      on_as f (serving w k r w.events) new (served w r (Ok block) (visible (triples k steps ++ l))) _ _ (ap lines_by (append-nil (records_of (events_by k (part k l) steps))) ∙ ap (λ es. lines_by (records_of es)) h.events ∙ lines_more give before)
+      (ap (served w r (Ok block)) shown)
+      (on_both f (serving w k r w.events) old new _ _ (prepares_lead f w k r before (all_prepared k (directory_of f r) before h.prepared own.1) all.1)
+      (on_line f old new (line_of_event give) (inr (inr (inl record { block = block; is_for = record { heap = h.of_heap; room = h.room; aligned = h.aligned; deeds = deeds }; admitted = all.0; line_is = refl; next_is = refl })))))
+
+  refuses : (room : NoRoom) → IsTrueReason f (directory_of f r) (triples k steps ++ l) room → (es : List Event) → visible (triples k steps ++ l) ≡ es → IsRefusal f (serving w k r es) r (said_of_room r.name room)
+  refuses NoSpace true_reason es shown = inl refl
+  refuses (Held page) true_reason es shown =
+      inr (page, subst (λ xs. deed_in xs page ≡ Some (directory_of f r)) shown (deed_told f (triples k steps ++ l) page (directory_of f r) legal (kind_asked f r) true_reason.0.of_directory), refl)
+
+  refused_leads : (room : NoRoom) → RefusalEnds (wanted_by f r).route (directory_of f r) (events_by k (part k l) steps) → IsTrueReason f (directory_of f r) (triples k steps ++ l) room
+      → LeadsOn f (serving w k r w.events) (lines_by (records_of (events_by k (part k l) steps) ++ Record.Said k (said_of_room r.name room) ∷ [])) (served w r (Err room) (visible (triples k steps ++ l)))
+  refused_leads room ends true_reason =
+      let es : List Event = events_by k (part k l) steps in
+      let shown : visible (triples k steps ++ l) ≡ es ++ w.events = visible_is es refl in
+      let said : Said = said_of_room r.name room in
+      let old : Stand = serving w k r (es ++ w.events) in
+      let new : Stand = served w r (Err room) (es ++ w.events) in
+      on_as f (serving w k r w.events) new (served w r (Err room) (visible (triples k steps ++ l))) _ _ (lines_both (records_of es) (Record.Said k said ∷ [])) (ap (served w r (Err room)) shown)
+      (on_both f (serving w k r w.events) old new _ _ (prepares_lead f w k r es (all_prepared k (directory_of f r) es (refusal_prepares (wanted_by f r).route (directory_of f r) es ends) (events_own k (part k l) steps)) (subst (Run f) shown run))
+      (on_line f old new (line_of_answer k said) (inr (inr (inr record { said = said; refuses = refuses room true_reason (es ++ w.events) shown; line_is = refl; next_is = refl })))))
+
+  -- THE REQUEST, as it was answered
+  pub request_leads : (locals : List Slots) (answer : Result Block NoRoom) → RequestEnds k (wanted_by f r) (part k l) steps answer
+      → MatchResult answer (λ block. Unit {0}) (IsTrulyRefused f (wanted_by f r) locals l (triples k steps ++ l))
+      → LeadsOn f (serving w k r w.events) (lines_by (records_of (events_by k (part k l) steps) ++ said_by k (said_of_request r.name answer))) (served w r answer (visible (triples k steps ++ l)))
+  request_leads locals (Ok block) ends truly = given_leads block ends
+  request_leads locals (Err room) ends truly = refused_leads room ends (reason_by (wanted_by f r).route f (wanted_by f r) locals l (triples k steps ++ l) room truly)

@@ -1,0 +1,143 @@
+-- The numbers of a plan's acts fit their places.
+use Rattle.std.proofs.Common.{◌≡◌, ℕ, zero, suc, ◌+◌, ◌^◌, ◌<◌, ◌≤◌, Bool, true, false, cond, List, [], ◌∷◌, ◌++◌, map, max, length, refl, sym, subst, arith}
+use Rattle.std.specs.Prelude.{MatchOption}
+use Rattle.std.specs.List.{AllByRecursion, filter}
+use Rattle.pas_profile.specs.Directories.{IsKind}
+use Rattle.pas_profile.specs.Profiles.{IsAdmitted, IsValid}
+use Rattle.pas_profile.specs.Requests.{is_shared, kind_of_route, route_in}
+use Rattle.pas_profile.specs.Routes.{IsRouteOf, room_by}
+use Rattle.pas_profile.specs.declared.directory.Route.{Route}
+use Rattle.pas_profile.specs.declared.directory.Route.TheVariants.{Class, Bitfit, Large}
+use Rattle.pas_profile.specs.declared.profile.Profile.{Profile}
+use Rattle.pas_profile.proofs.ClassFacts.{class_known, route_is}
+use Rattle.pas_profile.proofs.Sizes.{class_size_le}
+use Rattle.pas_trace.specs.Acts.{Act, StopsIdle, Wakes, Ends, is_active, numbers_from, acts_from, acts_of, acts_of_chore, acts_of_op, acts_of_ops, acts_of_work, active_threads, close_acts, idle_threads, phase_acts, threads_where}
+use Rattle.pas_trace.specs.Asked.{epoch_of, of_task, request_of, work_of}
+use Rattle.pas_trace.specs.EveryPlan.{AreBelow, AreSound, IsActorBy, IsSoundWork, IsSoundTask, all_ops, asked_after}
+use Rattle.pas_trace.specs.declared.plan.Chore.{Chore}
+use Rattle.pas_trace.specs.declared.plan.Op.{Op}
+use Rattle.pas_trace.specs.declared.plan.Task.{Task}
+use Rattle.pas_trace.specs.declared.plan.Work.{Work}
+use Rattle.pas_check.specs.Bounds.{FitsRequest}
+use Rattle.pas_check.specs.Calls.{asked_for}
+use Rattle.pas_check.specs.Checks.{AllFit, ArePlanned, FitsAct, FitsWhat, IsPlanned, IsThread}
+
+-- ---- a request's
+kind_routed : (shared : Bool) (classes size align : ℕ) (route : Route) → IsRouteOf classes size align route → IsKind (kind_of_route shared route)
+kind_routed true classes size align (Class class) is = tt
+kind_routed false classes size align (Class class) is = class_known classes size align class is
+kind_routed shared classes size align Bitfit is = tt
+kind_routed shared classes size align Large is = tt
+
+room_small : (route : Route) (size : ℕ) → size ≤ 2 ^ 26 → room_by route size < 2 ^ 32
+room_small (Class class) size few = let small = class_size_le class in omega (arith, small)
+room_small Bitfit size few = omega (arith, few)
+room_small Large size few = omega (arith, few)
+
+request_fits : (f : Profile) (k name heap size align : ℕ) → IsValid f → IsAdmitted f size align heap → k < 2 ^ 8 → name < 2 ^ 32 → FitsRequest f k (asked_for name heap size align)
+request_fits f k name heap size align valid may few low = record {
+  actor = few;
+  name = low;
+  heap = (let of = may.of_profile in let most = valid.heaps in omega (arith, of, most));
+  kind = kind_routed (is_shared f heap) f.classes size align (route_in f size align) (route_is f.classes size align);
+  room = (let within = may.within in let most = valid.pages in room_small (route_in f size align) (max size 1) (omega (arith, within, most)));
+}
+
+-- ---- lists of acts
+all_both : (f : Profile) (xs ys : List Act) → AllFit f xs → AllFit f ys → AllFit f (xs ++ ys)
+all_both f [] ys all more = more
+all_both f (x ∷ xs) ys all more = (all.0, all_both f xs ys all.1 more)
+
+abbrev pub AreThreads : List ℕ → Type 0
+AreThreads ks = AllByRecursion IsThread ks
+
+all_made : (f : Profile) (to : ℕ → Act) → ((k : ℕ) → IsThread k → FitsAct f (to k)) → (ks : List ℕ) → AreThreads ks → AllFit f (map to ks)
+all_made f to each [] all = tt
+all_made f to each (k ∷ ks) all = (each k all.0, all_made f to each ks all.1)
+
+numbers_are : (k n : ℕ) → 0 < k → k + n ≤ 2 ^ 8 → AreThreads (numbers_from k n)
+numbers_are k zero some few = tt
+numbers_are k (suc n) some few = ((some, omega (arith, few)), numbers_are (k + 1) n (omega arith) (omega (arith, few)))
+
+kept_or_not : (t : Bool) (k : ℕ) (ks : List ℕ) → IsThread k → AreThreads ks → AreThreads (cond t (k ∷ ks) ks)
+kept_or_not true k ks is all = (is, all)
+kept_or_not false k ks is all = all
+
+chosen_are : (chosen : ℕ → Bool) (ks : List ℕ) → AreThreads ks → AreThreads (filter chosen ks)
+chosen_are chosen [] all = tt
+chosen_are chosen (k ∷ ks) all = kept_or_not (chosen k) k (filter chosen ks) all.0 (chosen_are chosen ks all.1)
+
+-- ---- operations of a plan
+pub planned_front : (f : Profile) (limit : ℕ) (xs ys : List Op) → ArePlanned f limit (xs ++ ys) → ArePlanned f limit xs
+planned_front f limit [] ys all = tt
+planned_front f limit (x ∷ xs) ys all = (all.0, planned_front f limit xs ys all.1)
+
+pub planned_back : (f : Profile) (limit : ℕ) (xs ys : List Op) → ArePlanned f limit (xs ++ ys) → ArePlanned f limit ys
+planned_back f limit [] ys all = all
+planned_back f limit (x ∷ xs) ys all = planned_back f limit xs ys all.1
+
+pub all_planned : (f : Profile) (limit : ℕ) (asked : List ℕ) (ops : List Op) → AreSound f asked ops → AreBelow limit ops → ArePlanned f limit ops
+all_planned f limit asked [] sound below = tt
+all_planned f limit asked (op ∷ ops) sound below =
+    (record { actor = sound.0; sound = (asked, sound.1); named = below.0 }, all_planned f limit (asked_after op.what asked) ops sound.2 below.1)
+
+module _ (f : Profile) (limit : ℕ) (valid : IsValid f) (few : limit ≤ 2 ^ 32) where
+  threads_are : (chosen : ℕ → Bool) → AreThreads (threads_where chosen f.threads)
+  threads_are chosen = let most = valid.threads in chosen_are chosen (numbers_from 1 f.threads) (numbers_are 1 f.threads (omega arith) (omega (arith, most)))
+
+  -- ---- an operation
+  task_fits : (k : ℕ) (asked : List ℕ) (task : Task) → k < 2 ^ 8 → MatchOption (request_of task) (Unit {0}) (λ r. r.name < limit) → IsSoundTask f asked task
+      → MatchOption (request_of task) (Unit {0}) (λ r. FitsRequest f k r)
+  task_fits k asked (Task.Request name heap size align) small below sound = request_fits f k name heap size align valid sound.0 small (omega (arith, below, few))
+  task_fits k asked (Task.Free name) small below sound = tt
+  task_fits k asked (Task.FreeRaw block) small below sound = tt
+  task_fits k asked Task.Flush small below sound = tt
+  task_fits k asked Task.Stop small below sound = tt
+
+  chore_fits : (idle : List ℕ) (chore : Chore) → AreThreads idle → MatchOption (epoch_of chore) (Unit {0}) (λ e. e < 2 ^ 40) → AllFit f (acts_of_chore idle chore)
+  chore_fits idle (Chore.Tick e) all sound = (omega (arith, sound), tt)
+  chore_fits idle Chore.Pass all sound = (tt, tt)
+  chore_fits idle (Chore.Idle n) all sound = (tt, all_made f (λ k. StopsIdle k n) (λ k is. is) idle all)
+
+  work_fits : (idle : List ℕ) (op : Op) (work : Work) → AreThreads idle → work_of op.what ≡ work → IsPlanned f limit op → AllFit f (acts_of_work idle op work)
+  work_fits idle op (Work.Own task) all is planned =
+      let actor : IsActorBy f (Work.Own task) op.actor = subst (λ (w : Work). IsActorBy f w op.actor) is planned.actor in
+      let some : 1 ≤ op.actor = actor.0 in
+      let last : op.actor ≤ f.threads = actor.1 in
+      let most = valid.threads in
+      let small : op.actor < 2 ^ 8 = omega (arith, last, most) in
+      let below : MatchOption (request_of task) (Unit {0}) (λ r. r.name < limit) =
+      subst (λ (w : Work). MatchOption (of_task request_of w) (Unit {0}) (λ r. r.name < limit)) is planned.named in
+      let sound : IsSoundTask f planned.sound.0 task = subst (IsSoundWork f planned.sound.0) is planned.sound.1 in
+      let fits : FitsWhat f op.actor op.what = subst (λ (w : Work). MatchOption (of_task request_of w) (Unit {0}) (λ r. FitsRequest f op.actor r)) (sym is)
+      (task_fits op.actor planned.sound.0 task small below sound) in
+      (((some, small), fits), (tt, tt))
+  work_fits idle op (Work.Chore chore) all is planned = chore_fits idle chore all (subst (IsSoundWork f planned.sound.0) is planned.sound.1)
+
+  ops_fit : (idle : List ℕ) → AreThreads idle → (ops : List Op) → ArePlanned f limit ops → AllFit f (acts_of_ops idle ops)
+  ops_fit idle all [] planned = tt
+  ops_fit idle all (op ∷ ops) planned =
+      all_both f (acts_of_op idle op) (acts_of_ops idle ops) (work_fits idle op (work_of op.what) all refl planned.0) (ops_fit idle all ops planned.1)
+
+  phase_fits : (ops : List Op) → ArePlanned f limit ops → AllFit f (phase_acts f.threads ops)
+  phase_fits ops planned =
+      all_both f (map Wakes (active_threads f.threads ops)) (acts_of_ops (idle_threads f.threads ops) ops)
+      (all_made f Wakes (λ k is. tt) (active_threads f.threads ops) (threads_are (is_active ops)))
+      (ops_fit (idle_threads f.threads ops) (threads_are _) ops planned)
+
+  close_fits : AllFit f (close_acts f.threads)
+  close_fits = let most = valid.threads in (tt, all_made f Ends (λ k is. is) (numbers_from 1 f.threads) (numbers_are 1 f.threads (omega arith) (omega (arith, most))))
+
+  pub later_fits : (n : ℕ) (phases : List (List Op)) → n + length phases < 2 ^ 32 → ArePlanned f limit (all_ops phases) → AllFit f (acts_from f.threads n phases)
+  later_fits n [] short planned = close_fits
+  later_fits n (phase ∷ phases) short planned = (
+    omega (arith, short),
+    all_both f (phase_acts f.threads phase) (acts_from f.threads (n + 1) phases) (phase_fits phase (planned_front f limit phase (all_ops phases) planned))
+        (later_fits (n + 1) phases (omega (arith, short)) (planned_back f limit phase (all_ops phases) planned)),
+  )
+
+  pub acts_fit : (phases : List (List Op)) → length phases < 2 ^ 31 → ArePlanned f limit (all_ops phases) → AllFit f (acts_of f.threads phases)
+  acts_fit [] short planned = close_fits
+  acts_fit (phase ∷ phases) short planned =
+      all_both f (phase_acts f.threads phase) (acts_from f.threads 2 phases) (phase_fits phase (planned_front f limit phase (all_ops phases) planned))
+      (later_fits 2 phases (omega (arith, short)) (planned_back f limit phase (all_ops phases) planned))

@@ -1,0 +1,94 @@
+-- Acts, one after the other.
+use Rattle.std.proofs.Common.{◌≡◌, ℕ, Bool, true, false, if◌then◌else◌, List, [], ◌∷◌, ◌++◌, map, refl, ap, subst, ◌∙◌, arith}
+use Rattle.std.specs.List.{filter}
+use Rattle.pas_profile.specs.declared.profile.Profile.{Profile}
+use Rattle.pas_trace.specs.Acts.{Act, MakesPass}
+use Rattle.pas_check.specs.Checks.{ActsTaken, IsSized, IsSizedAs, IsSoFar, TakenTo}
+use Rattle.pas_check.specs.Begins.{begun_act}
+use Rattle.pas_check.specs.Leading.{IsWithin}
+use Rattle.pas_check.specs.States.{Task, Does, Reports, Stand}
+use Rattle.pas_check.specs.Tasks.{ActTaken, PassTaken}
+use Rattle.pas_check.specs.declared.acting.Judge.{Judge}
+use Rattle.pas_check.specs.declared.cutting.Cursor.{Cursor}
+use Rattle.pas_check.proofs.Actings.{nothing_begun}
+use Rattle.pas_check.proofs.Followed.{is_followed}
+use Rattle.pas_check.proofs.Leads.{leads_fails, leads_on}
+
+-- the acts said otherwise
+pub so_far_as : {f : Profile} {text : List ℕ} {first : Stand} {judge : Judge} {at : Cursor} {acts others : List Act} → acts ≡ others
+    → IsSoFar f text first judge at acts → IsSoFar f text first judge at others
+so_far_as {f} {text} {first} {judge} {at} {acts} {others} is so = subst (λ (al : List Act). IsSoFar f text first judge at al) is so
+
+module _ (text : List ℕ) (old new : Judge) (from to : Cursor) where
+  pub taken_as : (taken : Bool) (acts others left rest : List Act) → acts ≡ others → left ≡ rest → TakenTo text old from new to acts left taken
+      → TakenTo text old from new to others rest taken
+  taken_as taken acts others left rest is same done = subst (λ (al : List Act). TakenTo text old from new to al rest taken) is
+      (subst (λ (al : List Act). TakenTo text old from new to acts al taken) same done)
+
+  -- one act
+  pub act_taken : (act : Act) (taken : Bool) → ((f : Profile) → ActTaken f text old from new to act taken) → ActsTaken text old from new to (act ∷ []) taken
+  act_taken act true done = λ more f first so.
+      let r = done f so.stand (map Does more ++ Reports ∷ []) (record { stands = so.stands; due = so.due; left = so.left }) in
+      record { stand = r.0; led = leads_on so.led r.1; stands = r.2; due = r.3; left = r.4; fit = so.fit.1 }
+  act_taken act false done = λ more f first so. leads_fails so.led (done f so.stand (map Does more ++ Reports ∷ []) (record { stands = so.stands; due = so.due; left = so.left }))
+
+  -- a pass
+  pub pass_taken : (taken : Bool) → ((f : Profile) → PassTaken f text old from new to taken) → ActsTaken text old from new to (MakesPass ∷ []) taken
+  pass_taken true done = λ more f first so.
+      let ts : List Task = map Does more ++ Reports ∷ [] in
+      let epoch = so.stands.epoch in
+      let small = so.stands.small in
+      let r = done f so.stand ts (record { stands = so.stands; due = so.due; left = so.left })
+      (is_followed f more so.fit.1 (record so.stand { left = ts }) (omega (arith, epoch, small)) refl) in
+      record { stand = r.0; led = leads_on so.led r.1; stands = r.2; due = r.3; left = r.4; fit = so.fit.1 }
+  pass_taken false done = λ more f first so.
+      let ts : List Task = map Does more ++ Reports ∷ [] in
+      let epoch = so.stands.epoch in
+      let small = so.stands.small in
+      leads_fails so.led (done f so.stand ts (record { stands = so.stands; due = so.due; left = so.left })
+      (is_followed f more so.fit.1 (record so.stand { left = ts }) (omega (arith, epoch, small)) refl))
+
+-- one after another, in the middle of which the judge is another one
+pub taken_on : (text : List ℕ) (old mid new : Judge) (from at to : Cursor) (acts between left : List Act) (taken : Bool) → TakenTo text old from mid at acts between true
+    → TakenTo text mid at new to between left taken → TakenTo text old from new to acts left taken
+taken_on text old mid new from at to acts between left true one two = λ f first so. two f first (one f first so)
+taken_on text old mid new from at to acts between left false one two = λ f first so. two f first (one f first so)
+
+-- an act that has no line and changes nothing
+pub idly_taken : (text : List ℕ) (judge : Judge) (at : Cursor) (act : Act) → IsWithin text at → ((f : Profile) (s : Stand) → begun_act f s act ≡ s)
+    → ActsTaken text judge at judge at (act ∷ []) true
+idly_taken text judge at act within idle = act_taken text judge judge at at act true (λ f. nothing_begun f text judge at act within (λ s stands. idle f s))
+
+pub nothing_taken : (text : List ℕ) (judge : Judge) (at : Cursor) (acts : List Act) → TakenTo text judge at judge at acts acts true
+nothing_taken text judge at acts = λ f first so. so
+
+-- the next acts, which were taken
+pub then_taken : (text : List ℕ) (old mid new : Judge) (from at to : Cursor) (all there acts rest : List Act) (taken : Bool) → there ≡ acts ++ rest
+    → TakenTo text old from mid at all there true → ActsTaken text mid at new to acts taken → TakenTo text old from new to all rest taken
+then_taken text old mid new from at to all there acts rest taken is far done =
+    taken_on text old mid new from at to all (acts ++ rest) rest taken (taken_as text old mid from at true all all there (acts ++ rest) refl is far) (done rest)
+
+-- as much room as before
+pub sized_on : {old mid new : Judge} → IsSizedAs old mid → IsSizedAs mid new → IsSizedAs old new
+sized_on {old} {mid} {new} one two = record {
+  profile = two.profile ∙ one.profile;
+  logs = two.logs ∙ one.logs;
+  awake = two.awake ∙ one.awake;
+  names = two.names ∙ one.names;
+}
+
+pub none_taken : (text : List ℕ) (judge : Judge) (at : Cursor) → ActsTaken text judge at judge at [] true
+none_taken text judge at = λ more. nothing_taken text judge at more
+
+-- one number, where it is chosen or not
+pub chosen_alone : (chosen : ℕ → Bool) (k : ℕ) (on : Bool) → chosen k ≡ on → filter chosen (k ∷ []) ≡ (if on then k ∷ [] else [])
+chosen_alone chosen k on is = ap (λ (b : Bool). if b then k ∷ [] else []) is
+
+pub sized_as_before : {old new : Judge} → IsSizedAs old new → IsSized old → IsSized new
+sized_as_before {old} {new} same sized =
+    let logs = same.logs in
+    let awake = same.awake in
+    let had = sized.logs in
+    let woke = sized.awake in
+    let threads = ap (λ (f : Profile). f.threads) same.profile in
+    record { logs = omega (arith, logs, had, threads); awake = omega (arith, awake, woke, threads) }

@@ -1,0 +1,123 @@
+-- What follows a pass fits its places, where the acts that are left do.
+use Rattle.std.proofs.Common.{◌≡◌, ℕ, ◌+◌, ◌/◌, ◌^◌, ◌<◌, nat_le, max, Bool, true, false, List, [], ◌∷◌, ◌++◌, map, length, Option, None, Some, inl, inr, refl, ap, sym, subst, ◌∙◌, arith}
+use Rattle.std.proofs.lemmas.Option.{none-some}
+use Rattle.pas_profile.specs.Blocks.{address_of}
+use Rattle.pas_profile.specs.declared.event.Event.{Event}
+use Rattle.pas_profile.specs.declared.name.Name.{Name}
+use Rattle.pas_profile.specs.declared.profile.Profile.{Profile}
+use Rattle.pas_report.specs.declared.record.Record.{Record}
+use Rattle.pas_report.specs.declared.record.Said.{Said}
+use Rattle.pas_trace.specs.Acts.{Act, Operates, Settles, Ticks, MakesPass, ReadsEpoch, StopsIdle, MarksPhase, Wakes, MarksClose, Ends}
+use Rattle.pas_trace.specs.Named.{standing_for}
+use Rattle.pas_trace.specs.declared.plan.What.{What}
+use Rattle.pas_trace.specs.declared.plan.What.TheVariants.{Alloc, Free, Raw, Flush, Stop, Tick, Pass, Idle}
+use Rattle.pas_check.specs.Begins.{after_task, begun_act, begun_from, begun_what, entries_due, flushing, freeing, freeing_at, freeing_named, is_aligned, is_page, logging, past_outcomes, settled_with, stopping, tells}
+use Rattle.pas_check.specs.Bounds.{FitsNext}
+use Rattle.pas_check.specs.Calls.{IsFollowed, outcome_in}
+use Rattle.pas_check.specs.Checks.{AllFit, FitsAct, FitsWhat, IsThread}
+use Rattle.pas_check.specs.States.{Due, Writes, Task, Does, Reports, Stand}
+use Rattle.pas_check.specs.Takes.{IsOutcome}
+use Rattle.pas_check.proofs.Beginnings.{begins_no_pass}
+use Rattle.pas_check.proofs.Examinings.{outcome_is}
+
+-- ---- no outcome of a pass
+no_outcome : (item : Record) → ((epoch : ℕ) → outcome_in epoch item ≡ None) → IsOutcome item → ⊥
+no_outcome item none out = none-some _ (sym (none out.0) ∙ ap (outcome_in out.0) out.3 ∙ outcome_is out.0 out.1 out.2)
+
+-- ---- a task is begun
+record IsBegun (f : Profile) (s b : Stand) : Type 0 where
+  fits : FitsNext f b.due
+  events : b.events ≡ s.events
+  epoch : b.epoch < 2 ^ 64
+
+entries_fit : (f : Profile) (k : ℕ) (log : List Name) (more : List Due) → IsThread k → FitsNext f more → FitsNext f (entries_due k log ++ more)
+entries_fit f k [] more thread fits = fits
+entries_fit f k (name ∷ log) more thread fits = (thread.1, inl thread.0)
+
+module _ (f : Profile) (s : Stand) (due : s.due ≡ []) (small : s.epoch < 2 ^ 64) where
+  same : IsBegun f s s
+  same = record { fits = subst (FitsNext f) (sym due) tt; events = refl; epoch = small }
+
+  said : (k : ℕ) (words : Said) → IsThread k → IsBegun f s (tells s k words)
+  said k words thread = record { fits = inl thread; events = refl; epoch = small }
+
+  flushes : (k : ℕ) (log : List Name) (more : List Due) → IsThread k → FitsNext f more → IsBegun f s (flushing s k log more)
+  flushes k log more thread fits = record { fits = entries_fit f k (s.logs k) more thread fits; events = refl; epoch = small }
+
+  logs : (full : Bool) (k : ℕ) (name : Name) → IsThread k → IsBegun f s (logging full s k name)
+  logs true k name thread = flushes k (name ∷ []) [] thread tt
+  logs false k name thread = record { fits = subst (FitsNext f) (sym due) tt; events = refl; epoch = small }
+
+  frees_at : (inside aligned : Bool) (k : ℕ) (name : Name) → IsThread k → IsBegun f s (freeing_at inside aligned s k name)
+  frees_at false aligned k name thread = said k (Said.Outside name) thread
+  frees_at true false k name thread = said k (Said.Unaligned name) thread
+  frees_at true true k name thread = logs (nat_le 64 (length (s.logs k))) k name thread
+
+  frees : (k : ℕ) (name : Name) → IsThread k → IsBegun f s (freeing f s k name)
+  frees k name thread = frees_at (is_page f (address_of name / 4096)) (is_aligned name) k name thread
+
+  frees_named : (k name : ℕ) (block : Option (Option Name)) → IsThread k → IsBegun f s (freeing_named f s k name block)
+  frees_named k name None thread = same
+  frees_named k name (Some None) thread = said k (Said.Skipped name) thread
+  frees_named k name (Some (Some block)) thread = frees k block thread
+
+  operates : (k : ℕ) (what : What) → IsThread k → FitsWhat f k what → IsBegun f s (begun_what f s k what)
+  operates k (Alloc name heap size align) thread fits = record { fits = fits; events = refl; epoch = small }
+  operates k (Free name) thread fits = frees_named k name (standing_for s.names name) thread
+  operates k (Raw block) thread fits = frees k block thread
+  operates k Flush thread fits = flushes k [] [] thread tt
+  operates k Stop thread fits = flushes k [] [] thread tt
+  operates k (Tick e) thread fits = same
+  operates k Pass thread fits = same
+  operates k (Idle n) thread fits = same
+
+  stops : (idle : Bool) (k : ℕ) → IsThread k → IsBegun f s (stopping idle s k)
+  stops true k thread = flushes k [] (Writes (Record.Said 0 (Said.Stopped k)) ∷ []) thread (inr ((omega arith, thread.1), no_outcome (Record.Said 0 (Said.Stopped k)) (λ e. refl)))
+  stops false k thread = same
+
+  begins : (act : Act) → FitsAct f act → IsBegun f s (begun_act f s act)
+  begins (Operates op) fits = operates op.actor op.what fits.0 fits.1
+  begins (Settles k) fits = same
+  begins (Ticks e) fits =
+      let great : max s.epoch e < 2 ^ 64 = omega (arith, fits, small) in
+      record { fits = inr ((omega arith, great), no_outcome (Record.Said 0 (Said.Tick (max s.epoch e))) (λ n. refl)); events = refl; epoch = great }
+  begins MakesPass fits = record { fits = inr ((omega arith, small), no_outcome (Record.Said 0 (Said.Pass s.epoch)) (λ n. refl)); events = refl; epoch = small }
+  begins ReadsEpoch fits = same
+  begins (StopsIdle k n) fits = stops (nat_le (s.idle_since k + n) s.epoch) k fits
+  begins (MarksPhase n) fits = record { fits = inr (fits, no_outcome (Record.Phase n) (λ e. refl)); events = refl; epoch = small }
+  begins (Wakes k) fits = record { fits = subst (FitsNext f) (sym due) tt; events = refl; epoch = small }
+  begins MarksClose fits = record { fits = inr (tt, no_outcome Record.Close (λ e. refl)); events = refl; epoch = small }
+  begins (Ends k) fits = flushes k [] [] fits tt
+
+-- ---- .. up to the first that has a line
+record IsWell (f : Profile) (es : List Event) (b : Stand) : Type 0 where
+  fits : FitsNext f b.due
+  no_pass : past_outcomes b.due ≡ b.due
+  events : b.events ≡ es
+  epoch : b.epoch < 2 ^ 64
+
+settles : (f : Profile) (es : List Event) (b other : Stand) (ds : List Due) → b.due ≡ ds → FitsNext f ds → past_outcomes ds ≡ ds → b.events ≡ es → b.epoch < 2 ^ 64
+    → (ds ≡ [] → IsWell f es other) → IsWell f es (settled_with ds b other)
+settles f es b other [] is fits no_pass events epoch rest = rest refl
+settles f es b other (d ∷ ds) is fits no_pass events epoch rest = record {
+  fits = subst (FitsNext f) (sym is) fits;
+  no_pass = subst (λ (due : List Due). past_outcomes due ≡ due) (sym is) no_pass;
+  events = events;
+  epoch = epoch;
+}
+
+well_from : (f : Profile) (es : List Event) (acts : List Act) → AllFit f acts → (u : Stand) → u.due ≡ [] → u.events ≡ es → u.epoch < 2 ^ 64
+    → IsWell f es (begun_from f u (map Does acts ++ Reports ∷ []))
+well_from f es [] fit u due events epoch = record { fits = tt; no_pass = refl; events = events; epoch = epoch }
+well_from f es (act ∷ acts) fit u due events epoch =
+    let rest : List Task = map Does acts ++ Reports ∷ [] in
+    let b : Stand = after_task f u (Does act) rest in
+    let begun = begins f u due epoch act fit.0 in
+    settles f es b (begun_from f b rest) b.due refl begun.fits (begins_no_pass f u (Does act) (subst (λ (ds : List Due). past_outcomes ds ≡ ds) (sym due) refl))
+    (begun.events ∙ events) begun.epoch (λ none. well_from f es acts fit.1 b none (begun.events ∙ events) begun.epoch)
+
+pub is_followed : (f : Profile) (acts : List Act) → AllFit f acts → (s : Stand) → s.epoch < 2 ^ 64 → s.left ≡ map Does acts ++ Reports ∷ [] → IsFollowed f s
+is_followed f acts fit s epoch left =
+    let well : (es : List Event) → IsWell f es (begun_from f (record s { events = es; due = [] }) s.left)
+    = λ es. subst (λ (ts : List Task). IsWell f es (begun_from f (record s { events = es; due = [] }) ts)) (sym left) (well_from f es acts fit (record s { events = es; due = [] }) refl refl epoch) in
+    record { fits = λ es. (well es).fits; no_pass = λ es. (well es).no_pass; events = λ es. (well es).events; epoch = λ es. (well es).epoch }

@@ -1,0 +1,124 @@
+-- What a check comes to.
+use Rattle.std.proofs.Common.{◌≡◌, ℕ, ◌+◌, ◌^◌, ◌<◌, ◌≤◌, Bool, true, false, List, [], ◌∷◌, length, map, inl, inr, refl, ap, sym, subst, arith}
+use Rattle.std.proofs.lemmas.List.{length-map}
+use Rattle.pas_profile.specs.declared.profile.Profile.{Profile}
+use Rattle.pas_machine.specs.Machines.{profile_of}
+use Rattle.pas_trace.specs.Acts.{acts_of}
+use Rattle.pas_trace.specs.EveryPlan.{all_ops}
+use Rattle.pas_trace.specs.Plans.{IsPlanOf, ops_of, phases_of}
+use Rattle.pas_trace.specs.declared.plan.Phase.{Phase}
+use Rattle.pas_trace.specs.declared.plan.Plan.{Plan}
+use Rattle.pas_trace.proofs.EveryPlan.{every_plan}
+use Rattle.pas_check.specs.Accepted.{IsStopped, IsVerdict, IsWhole}
+use Rattle.pas_check.specs.Begins.{after_task}
+use Rattle.pas_check.specs.Checks.{ArePlanned, IsOpened, IsSoFar, TakenTo, opening, threads_in}
+use Rattle.pas_check.specs.Leading.{Fails, IsLed, IsWithin, Leads, lines_from}
+use Rattle.pas_check.specs.Shown.{IsKnown}
+use Rattle.pas_check.specs.States.{Reports, Stand, at_first, with_due}
+use Rattle.pas_check.specs.Tables.{names_held}
+use Rattle.pas_check.specs.Takes.{Takes}
+use Rattle.pas_check.specs.declared.acting.Judge.{Judge}
+use Rattle.pas_check.specs.declared.cutting.Cursor.{Cursor}
+use Rattle.pas_check.specs.declared.verdict.Verdict.TheVariants.{Yes, No}
+use Rattle.pas_check.proofs.ActsOfPlans.{acts_fit, all_planned}
+use Rattle.pas_check.proofs.Beginnings.{begun_alike}
+use Rattle.pas_check.proofs.Chains.{so_far_as}
+use Rattle.pas_check.proofs.Leads.{fails_line, leads_alike, leads_fails, leads_nowhere, leads_on}
+
+-- ---- a plan's operations
+pub plan_few : (text : List ℕ) (plan : Plan) → IsPlanOf text plan → length text ≤ 16777216 → length (phases_of plan.phases) < 2 ^ 31
+plan_few text plan is short = let few = (every_plan is).phases in omega (arith, few, short)
+
+pub plan_planned : (text : List ℕ) (plan : Plan) → IsPlanOf text plan → ArePlanned plan.profile plan.names_limit (all_ops (map ops_of (phases_of plan.phases)))
+plan_planned text plan is =
+    all_planned plan.profile plan.names_limit [] (all_ops (map ops_of (phases_of plan.phases))) (every_plan is).operations (every_plan is).names
+
+pub planned_there : (text : List ℕ) (plan : Plan) (judge : Judge) (phases : List Phase) → IsPlanOf text plan → IsOpened plan judge → phases ≡ phases_of plan.phases
+    → ArePlanned (profile_of judge.machine) (names_held judge.names) (all_ops (map ops_of phases))
+planned_there text plan judge phases is opened same =
+    subst (λ (f : Profile). ArePlanned f (names_held judge.names) (all_ops (map ops_of phases))) (sym opened.profile)
+    (subst (λ (n : ℕ). ArePlanned plan.profile n (all_ops (map ops_of phases))) (sym opened.names)
+    (subst (λ (ps : List Phase). ArePlanned plan.profile plan.names_limit (all_ops (map ops_of ps))) (sym same) (plan_planned text plan is)))
+
+pub opening_within : (transcript : List ℕ) → IsWithin transcript opening
+opening_within transcript = record { bytes = omega arith; lines = omega arith }
+
+-- ---- the check begins
+module _ (text : List ℕ) (plan : Plan) (transcript : List ℕ) (judge : Judge) (is : IsPlanOf text plan) (short : length text ≤ 16777216) (opened : IsOpened plan judge)
+    (within : IsWithin transcript opening) where
+  pub so_far : IsSoFar plan.profile transcript (at_first plan) judge opening (acts_of plan.profile.threads (map ops_of (phases_of plan.phases)))
+  so_far =
+      let few = plan_few text plan is short in
+      let same = length-map (phases_of plan.phases) ops_of in
+      record {
+        stand = at_first plan;
+        led = leads_nowhere plan.profile transcript (at_first plan) opening within;
+        stands = opened.stands;
+        due = refl;
+        left = refl;
+        fit = acts_fit plan.profile plan.names_limit (every_plan is).valid opened.few (map ops_of (phases_of plan.phases)) (omega (arith, few, same)) (plan_planned text plan is);
+      }
+
+-- ---- the first line that isn't allowed
+pub no_verdict : (plan : Plan) (transcript : List ℕ) (n : ℕ) → Fails plan.profile transcript (at_first plan) opening n → IsVerdict plan transcript (No n)
+no_verdict plan transcript n fails =
+    let e : fails.further ≡ n = (let is = fails.number_is in omega (arith, is)) in
+    subst (λ (m : ℕ). IsStopped plan.profile (at_first plan) (lines_from transcript opening) m) e fails.stopped
+
+-- ---- the acts
+module _ (text : List ℕ) (plan : Plan) (transcript : List ℕ) (old new : Judge) (to : Cursor) (is : IsPlanOf text plan) (short : length text ≤ 16777216) (opened : IsOpened plan old)
+    (within : IsWithin transcript opening) where
+  same_threads : acts_of (threads_in old) (map ops_of (phases_of plan.phases)) ≡ acts_of plan.profile.threads (map ops_of (phases_of plan.phases))
+  same_threads = ap (λ (f : Profile). acts_of f.threads (map ops_of (phases_of plan.phases))) opened.profile
+
+  -- from the cursor, with the phases as they are called there
+  module _ (from : Cursor) (phases : List Phase) (start : from ≡ opening) (same : phases ≡ phases_of plan.phases) where
+    there : (taken : Bool) → TakenTo transcript old from new to (acts_of (threads_in old) (map ops_of phases)) [] taken
+        → TakenTo transcript old opening new to (acts_of (threads_in old) (map ops_of (phases_of plan.phases))) [] taken
+    there taken done = subst (λ (ps : List Phase). TakenTo transcript old opening new to (acts_of (threads_in old) (map ops_of ps)) [] taken) same
+        (subst (λ (at : Cursor). TakenTo transcript old at new to (acts_of (threads_in old) (map ops_of phases)) [] taken) start done)
+
+    pub acts_amiss : TakenTo transcript old from new to (acts_of (threads_in old) (map ops_of phases)) [] false → IsVerdict plan transcript (No to.lines)
+    acts_amiss done = no_verdict plan transcript to.lines (there false done plan.profile (at_first plan) (so_far_as (sym same_threads) (so_far text plan transcript old is short opened within)))
+
+    pub acts_on : TakenTo transcript old from new to (acts_of (threads_in old) (map ops_of phases)) [] true → IsSoFar plan.profile transcript (at_first plan) new to []
+    acts_on done = there true done plan.profile (at_first plan) (so_far_as (sym same_threads) (so_far text plan transcript old is short opened within))
+
+-- ---- after the acts
+module _ (plan : Plan) (transcript : List ℕ) (judge : Judge) (at : Cursor) (so : IsSoFar plan.profile transcript (at_first plan) judge at []) where
+  pub known : at.lines ≤ 2 ^ 24 → IsKnown judge.machine
+  known low = record {
+    events = so.stand.events;
+    stands = so.stands.events;
+    few = (let few = so.stands.kept.few in omega (arith, few, low));
+    kinds = so.stands.kept.kinds;
+  }
+
+  abbrev pub reported : Stand
+  reported = after_task plan.profile so.stand Reports []
+
+  begins : Leads plan.profile transcript (at_first plan) opening reported at
+  begins = leads_on so.led (leads_alike plan.profile transcript so.stand reported at so.led.within (begun_alike plan.profile so.stand Reports [] so.due so.left))
+
+  module _ (to : Cursor) (f : Profile) (same : f ≡ plan.profile) where
+    report_led : (taken : Bool) → IsLed f transcript reported at (with_due reported []) to taken → IsLed plan.profile transcript reported at (with_due reported []) to taken
+    report_led taken led = subst (λ (g : Profile). IsLed g transcript reported at (with_due reported []) to taken) same led
+
+    pub report_amiss : IsLed f transcript reported at (with_due reported []) to false → IsVerdict plan transcript (No to.lines)
+    report_amiss led = no_verdict plan transcript to.lines (leads_fails begins (report_led false led))
+
+    module _ (led : IsLed f transcript reported at (with_due reported []) to true) where
+      ended : Leads plan.profile transcript (at_first plan) opening (with_due reported []) to
+      ended = leads_on begins (report_led true led)
+
+      pub ended_well : lines_from transcript to ≡ [] → IsVerdict plan transcript Yes
+      ended_well none = ended.whole.1 (subst (λ (ls : List (List ℕ)). IsWhole plan.profile (with_due reported []) ls) (sym none) (with_due reported [], refl, refl))
+
+      pub goes_on : (line : List ℕ) (last : Cursor) → lines_from transcript to ≡ line ∷ lines_from transcript last → last.lines ≡ to.lines + 1 → IsVerdict plan transcript (No last.lines)
+      goes_on line last has count =
+          no_verdict plan transcript last.lines (subst (Fails plan.profile transcript (at_first plan) opening) (sym count)
+          (leads_fails ended (fails_line plan.profile transcript (with_due reported []) to line (lines_from transcript last) has never)))
+        where
+          never : (next : Stand) → Takes plan.profile (with_due reported []) line next → ⊥
+          never next (inl x) = x
+          never next (inr y) = y

@@ -1,0 +1,63 @@
+use Rattle.std.proofs.Common.{◌≡◌, ℕ, ◌+◌, ◌-◌, ◌++◌, ◌∷◌, [], true, false, map, refl, ap, arith}
+use Rattle.pas_profile.specs.declared.profile.Profile.{Profile}
+use Rattle.pas_trace.specs.Acts.{Ends, numbers_from}
+use Rattle.pas_check.specs.Checks.{threads_in}
+use Rattle.pas_check.proofs.Chains.{act_taken, nothing_taken, sized_on, taken_as, then_taken}
+use Rattle.pas_check.proofs.ThreadsInOrder.{next_number, no_number}
+use Rattle.pas_check.proofs.checking.end_all.Goals as goal
+
+pub loop-index-init : goal.loop-index-init
+loop-index-init c = record {
+  sized = record { profile = refl; logs = refl; awake = refl; names = refl };
+  within = c.requires.within;
+  far = λ more.
+      let n = threads_in c.args.judge.now in
+      let e : n ≡ n - 0 = omega arith in
+      taken_as c.args.text.now c.args.judge.now c.args.judge.now c.args.cursor.now c.args.cursor.now true _ _ (map Ends (numbers_from 1 n) ++ more) (map Ends (numbers_from 1 (n - 0)) ++ more) refl
+      (ap (λ (m : ℕ). map Ends (numbers_from 1 m) ++ more) e) (nothing_taken c.args.text.now c.args.judge.now c.args.cursor.now (map Ends (numbers_from 1 n) ++ more));
+}
+
+pub flush-requires-clause-within : goal.flush-requires-clause-within
+flush-requires-clause-within c = c.loop-index.invariant.within
+
+pub flush-requires-clause-held : goal.flush-requires-clause-held
+flush-requires-clause-held c =
+    let test = c.loop-index-test.true in
+    let count = ap (λ (f : Profile). f.threads) c.profile-threads.ensures in
+    let held = c.requires.sized.logs in
+    let same = c.loop-index.invariant.sized.logs in
+    omega (arith, test, count, held, same)
+
+pub returns-in-Ok-false-clause-taken : goal.returns-in-Ok-false-clause-taken
+returns-in-Ok-false-clause-taken c = λ more.
+    let test = c.loop-index-test.true in
+    let count = ap (λ (f : Profile). f.threads) c.profile-threads.ensures in
+    let i = c.loop-index.index in
+    let n = threads_in c.args.judge.now in
+    then_taken c.args.text.now c.args.judge.now c.loop-index.judge c.flush.new.judge c.args.cursor.now c.loop-index.cursor c.flush.new.cursor _ _ (Ends (i + 1) ∷ [])
+    (map Ends (numbers_from (i + 1 + 1) (n - (i + 1))) ++ more) false (next_number Ends i n more (omega (arith, test, count))) (c.loop-index.invariant.far more)
+    (act_taken c.args.text.now c.loop-index.judge c.flush.new.judge c.loop-index.cursor c.flush.new.cursor (Ends (i + 1)) false
+    (λ f. (rw c.in-Ok-false.field-0-test at c.in-Ok-false.ensures.taken) f (Ends (i + 1)) (λ s. refl)))
+
+pub loop-index-preserved : goal.loop-index-preserved
+loop-index-preserved c =
+    let test = c.loop-index-test.true in
+    let count = ap (λ (f : Profile). f.threads) c.profile-threads.ensures in
+    let i = c.loop-index.index in
+    let n = threads_in c.args.judge.now in
+    let within = rw c.in-Ok-true.field-0-test at c.in-Ok-true.ensures.within in
+    record {
+      sized = sized_on c.loop-index.invariant.sized c.in-Ok-true.ensures.sized;
+      within = within;
+      far = λ more. then_taken c.args.text.now c.args.judge.now c.loop-index.judge c.flush.new.judge c.args.cursor.now c.loop-index.cursor c.flush.new.cursor _ _ (Ends (i + 1) ∷ [])
+          (map Ends (numbers_from (i + 1 + 1) (n - (i + 1))) ++ more) true (next_number Ends i n more (omega (arith, test, count))) (c.loop-index.invariant.far more)
+          (act_taken c.args.text.now c.loop-index.judge c.flush.new.judge c.loop-index.cursor c.flush.new.cursor (Ends (i + 1)) true
+          (λ f. (rw c.in-Ok-true.field-0-test at c.in-Ok-true.ensures.taken) f (Ends (i + 1)) (λ s. refl)));
+    }
+
+pub returns-clause-taken : goal.returns-clause-taken
+returns-clause-taken c = λ more.
+    let test = c.loop-index-test.false in
+    let count = ap (λ (f : Profile). f.threads) c.profile-threads.ensures in
+    taken_as c.args.text.now c.args.judge.now c.loop-index.judge c.args.cursor.now c.loop-index.cursor true _ _ _ more refl
+    (no_number Ends c.loop-index.index (threads_in c.args.judge.now) more (omega (arith, test, count))) (c.loop-index.invariant.far more)

@@ -1,0 +1,77 @@
+use Rattle.std.proofs.Common.{◌≡◌, ◌+◌, ◌++◌, ◌∷◌, [], List, true, false, drop, get_or, map, refl, ap, subst, sym, ◌∙◌, drop_of_length-le, arith}
+use Rattle.pas_profile.specs.Profiles.{IsValid}
+use Rattle.pas_profile.specs.declared.profile.Profile.{Profile}
+use Rattle.pas_machine.specs.Machines.{profile_of}
+use Rattle.pas_trace.specs.Acts.{MarksPhase, acts_from, phase_acts}
+use Rattle.pas_trace.specs.Plans.{ops_of}
+use Rattle.pas_trace.specs.declared.plan.Op.{Op}
+use Rattle.pas_trace.specs.declared.plan.Phase.{Phase}
+use Rattle.pas_check.specs.Checks.{ArePlanned, threads_in}
+use Rattle.pas_check.specs.Tables.{names_held}
+use Rattle.pas_check.proofs.Chains.{act_taken, sized_as_before, sized_on, taken_as, then_taken}
+use Rattle.pas_check.proofs.Phases.{phase_at, phase_done, phases_there, planned_as}
+use Rattle.pas_check.proofs.checking.take_later.Goals as goal
+
+pub returns-then-not-mark_phase-clause-taken : goal.returns-then-not-mark_phase-clause-taken
+returns-then-not-mark_phase-clause-taken c =
+    let n = threads_in c.args.judge.now in
+    let d = c.phase-item.result in
+    let i = c.loop-phase.phase-index in
+    let number = c.loop-phase.number + 1 in
+    then_taken c.args.text.now c.args.judge.now c.loop-phase.judge c.loop-phase.judge c.args.cursor.now c.loop-phase.cursor c.mark_phase.new.cursor _ _ (MarksPhase number ∷ [])
+    (phase_acts n (ops_of (get_or c.args.phases.now i d)) ++ acts_from n (number + 1) (map ops_of (drop (i + 1) c.args.phases.now))) false
+    (phase_at n number c.args.phases.now i d c.loop-phase-test.true) c.loop-phase.invariant.far
+    (act_taken c.args.text.now c.loop-phase.judge c.loop-phase.judge c.loop-phase.cursor c.mark_phase.new.cursor (MarksPhase number) false c.if-not-mark_phase.ensures.taken)
+
+pub take_phase-requires-clause-valid : goal.take_phase-requires-clause-valid
+take_phase-requires-clause-valid c = subst IsValid (sym c.loop-phase.invariant.sized.profile) c.requires.valid
+
+pub take_phase-requires-clause-sized : goal.take_phase-requires-clause-sized
+take_phase-requires-clause-sized c = sized_as_before c.loop-phase.invariant.sized c.requires.sized
+
+pub take_phase-requires-clause-planned : goal.take_phase-requires-clause-planned
+take_phase-requires-clause-planned c =
+    let old = c.args.judge.now in
+    let d = c.phase-item.result in
+    let i = c.loop-phase.phase-index in
+    let here = (phases_there (profile_of old.machine) (names_held old.names) c.args.phases.now i d c.loop-phase-test.true c.loop-phase.invariant.planned).0 in
+    let is : ops_of (get_or c.args.phases.now i d) ≡ c.as_slice.result.now = ap ops_of (sym c.phase-item.is) ∙ sym c.as_slice.ensures in
+    planned_as old c.loop-phase.judge c.as_slice.result.now c.loop-phase.invariant.sized (subst (λ (os : List Op). ArePlanned (profile_of old.machine) (names_held old.names) os) is here)
+
+pub returns-in-Ok-false-clause-taken : goal.returns-in-Ok-false-clause-taken
+returns-in-Ok-false-clause-taken c =
+    let n = threads_in c.args.judge.now in
+    let d = c.phase-item.result in
+    let i = c.loop-phase.phase-index in
+    let number = c.loop-phase.number + 1 in
+    phase_done c.args.text.now c.args.judge.now c.loop-phase.judge c.take_phase.new.judge c.args.cursor.now c.loop-phase.cursor c.mark_phase.new.cursor c.take_phase.new.cursor number
+    c.as_slice.result.now (ops_of (get_or c.args.phases.now i d)) _ _ (acts_from n (number + 1) (map ops_of (drop (i + 1) c.args.phases.now))) false
+    (ap (λ (f : Profile). f.threads) c.loop-phase.invariant.sized.profile) (c.as_slice.ensures ∙ ap ops_of c.phase-item.is)
+    (phase_at n number c.args.phases.now i d c.loop-phase-test.true) c.loop-phase.invariant.far c.if-not-mark_phase.ensures.taken
+    (rw c.in-Ok-false.field-0-test at c.in-Ok-false.ensures.taken)
+
+pub loop-phase-preserved : goal.loop-phase-preserved
+loop-phase-preserved c =
+    let old = c.args.judge.now in
+    let n = threads_in old in
+    let d = c.phase-item.result in
+    let i = c.loop-phase.phase-index in
+    let number = c.loop-phase.number + 1 in
+    let within = rw c.in-Ok-true.field-0-test at c.in-Ok-true.ensures.within in
+    record {
+      sized = sized_on c.loop-phase.invariant.sized c.in-Ok-true.ensures.sized;
+      within = within;
+      count = (let count = c.loop-phase.invariant.count in omega (arith, count));
+      planned = (phases_there (profile_of old.machine) (names_held old.names) c.args.phases.now i d c.loop-phase-test.true c.loop-phase.invariant.planned).1;
+      far = phase_done c.args.text.now old c.loop-phase.judge c.take_phase.new.judge c.args.cursor.now c.loop-phase.cursor c.mark_phase.new.cursor c.take_phase.new.cursor number
+          c.as_slice.result.now (ops_of (get_or c.args.phases.now i d)) _ _ (acts_from n (number + 1) (map ops_of (drop (i + 1) c.args.phases.now))) true
+          (ap (λ (f : Profile). f.threads) c.loop-phase.invariant.sized.profile) (c.as_slice.ensures ∙ ap ops_of c.phase-item.is)
+          (phase_at n number c.args.phases.now i d c.loop-phase-test.true) c.loop-phase.invariant.far c.if-not-mark_phase.ensures.taken
+          (rw c.in-Ok-true.field-0-test at c.in-Ok-true.ensures.taken);
+    }
+
+pub returns-clause-taken : goal.returns-clause-taken
+returns-clause-taken c =
+    let n = threads_in c.args.judge.now in
+    taken_as c.args.text.now c.args.judge.now c.loop-phase.judge c.args.cursor.now c.loop-phase.cursor true _ _ _ _ refl
+    (ap (λ (ps : List Phase). acts_from n (c.loop-phase.number + 1) (map ops_of ps)) (drop_of_length-le c.args.phases.now c.loop-phase-test.false)) c.loop-phase.invariant.far

@@ -1,0 +1,10 @@
+-- each grain so far has a block
+use Rattle.std.proofs.Common.{◌≡◌, ℕ, ◌<◌, true, List}
+use Rattle.pas_profile.specs.declared.event.Event.{Event}
+use Rattle.pas_machine.specs.Machines.{StandsFor}
+use Rattle.pas_report.specs.Reports.{is_covered}
+use Rattle.pas_check.specs.Shown.{grain_on}
+use Rattle.pas_check.proofs.reporting.has_room.Given as goal
+
+abbrev pub invariant-loop-grain : goal.invariant-loop-grain
+invariant-loop-grain l = (es : List Event) → StandsFor l.machine es → (b : ℕ) → b < l.grain → is_covered es (grain_on l.page b) ≡ true

@@ -1,0 +1,72 @@
+use Rattle.std.proofs.Common.{◌≡◌, ◌≤◌, ◌^◌, List, [], length, ap, sym, arith}
+use Rattle.pas_profile.specs.declared.profile.Profile.{Profile}
+use Rattle.pas_machine.specs.Machines.{profile_of}
+use Rattle.pas_trace.specs.declared.plan.Phase.{Phase}
+use Rattle.pas_trace.proofs.EveryPlan.{every_plan}
+use Rattle.pas_check.specs.Begins.{report_due}
+use Rattle.pas_check.specs.Checks.{IsSoFar}
+use Rattle.pas_check.specs.States.{at_first}
+use Rattle.pas_check.proofs.Wholes.{acts_amiss, acts_on, ended_well, goes_on, known, opening_within, plan_few, planned_there, report_amiss, reported}
+use Rattle.pas_check.proofs.whole.check.Goals as goal
+use Rattle.pas_check.proofs.whole.check.Goals.{In-Ok-true}
+
+pub try_new-requires : goal.try_new-requires
+try_new-requires c = (every_plan c.requires.plan.2).valid
+
+pub take_acts-requires-clause-few : goal.take_acts-requires-clause-few
+take_acts-requires-clause-few c =
+    let few = plan_few c.requires.plan.0 c.args.plan.now c.requires.plan.2 c.requires.plan.1 in
+    let same = ap (λ (ps : List Phase). length ps) c.as_slice.ensures in
+    omega (arith, few, same)
+
+pub take_acts-requires-clause-planned : goal.take_acts-requires-clause-planned
+take_acts-requires-clause-planned c = planned_there c.requires.plan.0 c.args.plan.now c.in-Ok.judge c.as_slice.result.now c.requires.plan.2 c.in-Ok.ensures c.as_slice.ensures
+
+pub returns-in-Ok-false : goal.returns-in-Ok-false
+returns-in-Ok-false c =
+    acts_amiss c.requires.plan.0 c.args.plan.now c.args.transcript.now c.in-Ok.judge c.take_acts.new.judge c.take_acts.new.cursor c.requires.plan.2 c.requires.plan.1 c.in-Ok.ensures
+    (opening_within c.args.transcript.now) c.first-cursor.result c.as_slice.result.now c.first-cursor.ensures c.as_slice.ensures
+    (rw c.in-Ok-false.field-0-test at c.in-Ok-false.ensures.taken)
+
+-- after the acts
+so_far : (c : In-Ok-true) → IsSoFar c.args.plan.now.profile c.args.transcript.now (at_first c.args.plan.now) c.take_acts.new.judge c.take_acts.new.cursor []
+so_far c =
+    acts_on c.requires.plan.0 c.args.plan.now c.args.transcript.now c.in-Ok.judge c.take_acts.new.judge c.take_acts.new.cursor c.requires.plan.2 c.requires.plan.1 c.in-Ok.ensures
+    (opening_within c.args.transcript.now) c.first-cursor.result c.as_slice.result.now c.first-cursor.ensures c.as_slice.ensures
+    (rw c.in-Ok-true.field-0-test at c.in-Ok-true.ensures.taken)
+
+-- its report
+reports : (c : In-Ok-true) → report_due (profile_of c.take_acts.new.judge.machine) (so_far c).stand.events ≡ report_due c.args.plan.now.profile (so_far c).stand.events
+reports c = ap (λ (f : Profile). report_due f (so_far c).stand.events) (so_far c).stands.profile
+
+pub take_report-requires-clause-known : goal.take_report-requires-clause-known
+take_report-requires-clause-known c =
+    let d = (goal.at.take_report-requires-clause-known c).In-Ok-true in
+    let within = rw c.in-Ok-true.field-0-test at c.in-Ok-true.ensures.within in
+    let short = c.requires.short in
+    let low : c.take_acts.new.cursor.lines ≤ 2 ^ 24 = (let a = within.lines in let b = within.bytes in omega (arith, a, b, short)) in
+    known c.args.plan.now c.args.transcript.now c.take_acts.new.judge c.take_acts.new.cursor (so_far d) low
+
+pub returns-then-not-take_report : goal.returns-then-not-take_report
+returns-then-not-take_report c =
+    let d = (goal.at.returns-then-not-take_report c).In-Ok-true in
+    let so = so_far d in
+    let s = reported c.args.plan.now c.args.transcript.now c.take_acts.new.judge c.take_acts.new.cursor so in
+    report_amiss c.args.plan.now c.args.transcript.now c.take_acts.new.judge c.take_acts.new.cursor so c.take_report.new.cursor (profile_of c.take_acts.new.judge.machine) so.stands.profile
+    (c.if-not-take_report.ensures.led s so.stands.events (sym (reports d)))
+
+pub returns-in-None : goal.returns-in-None
+returns-in-None c =
+    let d = (goal.at.returns-in-None c).In-Ok-true in
+    let so = so_far d in
+    let s = reported c.args.plan.now c.args.transcript.now c.take_acts.new.judge c.take_acts.new.cursor so in
+    ended_well c.args.plan.now c.args.transcript.now c.take_acts.new.judge c.take_acts.new.cursor so c.take_report.new.cursor (profile_of c.take_acts.new.judge.machine) so.stands.profile
+    (c.if-not-take_report.ensures.led s so.stands.events (sym (reports d))) c.in-None.ensures.none
+
+pub returns : goal.returns
+returns c =
+    let d = (goal.at.returns c).In-Ok-true in
+    let so = so_far d in
+    let s = reported c.args.plan.now c.args.transcript.now c.take_acts.new.judge c.take_acts.new.cursor so in
+    goes_on c.args.plan.now c.args.transcript.now c.take_acts.new.judge c.take_acts.new.cursor so c.take_report.new.cursor (profile_of c.take_acts.new.judge.machine) so.stands.profile
+    (c.if-not-take_report.ensures.led s so.stands.events (sym (reports d))) _ c.next_line.new.cursor c.in-Some.ensures.some c.next_line.ensures.count

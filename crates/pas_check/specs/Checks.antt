@@ -1,0 +1,97 @@
+-- How far the check of a plan has come, and what its acts do to that.
+use Rattle.std.specs.Prelude.{ℕ, ◌+◌, ◌^◌, ◌<◌, ◌≤◌, ◌≡◌, Bool, true, false, List, [], ◌∷◌, ◌++◌, length, map, MatchOption}
+use Rattle.std.specs.List.{AllByRecursion}
+use Rattle.pas_profile.specs.declared.profile.Profile.{Profile}
+use Rattle.pas_machine.specs.Machines.{profile_of}
+use Rattle.pas_trace.specs.Acts.{Act, Operates, Settles, Ticks, MakesPass, ReadsEpoch, StopsIdle, MarksPhase, Wakes, MarksClose, Ends}
+use Rattle.pas_trace.specs.Asked.{request_in}
+use Rattle.pas_trace.specs.EveryPlan.{IsActorOf, IsBelow, IsSoundWhat}
+use Rattle.pas_trace.specs.declared.plan.Op.{Op}
+use Rattle.pas_trace.specs.declared.plan.Plan.{Plan}
+use Rattle.pas_trace.specs.declared.plan.What.{What}
+use Rattle.pas_check.specs.Bounds.{FitsRequest}
+use Rattle.pas_check.specs.Leading.{Fails, Leads}
+use Rattle.pas_check.specs.States.{Does, Reports, Stand, at_first}
+use Rattle.pas_check.specs.Tables.{logs_held, names_held}
+use Rattle.pas_check.specs.Tasks.{Stands}
+use Rattle.pas_check.specs.declared.acting.Judge.{Judge}
+use Rattle.pas_check.specs.declared.cutting.Cursor.{Cursor}
+
+-- ---- what a judge has room for
+abbrev pub threads_in : Judge → ℕ
+threads_in judge = (profile_of judge.machine).threads
+
+-- a log and an epoch for each thread of the region
+pub record IsSized (judge : Judge) : Type 0 where
+  pub logs : logs_held judge.logs ≡ threads_in judge + 1
+  pub awake : length judge.awake.items ≡ threads_in judge + 1
+
+-- .. as much as another one, in the same region
+pub record IsSizedAs (old new : Judge) : Type 0 where
+  pub profile : profile_of new.machine ≡ profile_of old.machine
+  pub logs : logs_held new.logs ≡ logs_held old.logs
+  pub awake : length new.awake.items ≡ length old.awake.items
+  pub names : names_held new.names ≡ names_held old.names
+
+-- ---- operations of a plan
+-- the actor may make the operation, after some others, and its names are below the limit
+pub record IsPlanned (f : Profile) (limit : ℕ) (op : Op) : Type 0 where
+  pub actor : IsActorOf f op.what op.actor
+  pub sound : (asked : List ℕ) × IsSoundWhat f asked op.what
+  pub named : IsBelow limit op.what
+
+abbrev pub ArePlanned : Profile → ℕ → List Op → Type 0
+ArePlanned f limit ops = AllByRecursion (IsPlanned f limit) ops
+
+-- ---- acts whose numbers fit their places
+abbrev pub IsThread : ℕ → Type 0
+IsThread k = (0 < k) × (k < 2 ^ 8)
+
+abbrev pub FitsWhat : Profile → ℕ → What → Type 0
+FitsWhat f k what = MatchOption (request_in what) (Unit {0}) (λ r. FitsRequest f k r)
+
+abbrev pub FitsAct : Profile → Act → Type 0
+FitsAct f (Operates op) = IsThread op.actor × FitsWhat f op.actor op.what
+FitsAct f (Settles k) = Unit {0}
+FitsAct f (Ticks e) = e < 2 ^ 64
+FitsAct f MakesPass = Unit {0}
+FitsAct f ReadsEpoch = Unit {0}
+FitsAct f (StopsIdle k n) = IsThread k
+FitsAct f (MarksPhase n) = n < 2 ^ 32
+FitsAct f (Wakes k) = Unit {0}
+FitsAct f MarksClose = Unit {0}
+FitsAct f (Ends k) = IsThread k
+
+abbrev pub AllFit : Profile → List Act → Type 0
+AllFit f acts = AllByRecursion (FitsAct f) acts
+
+-- ---- the check goes on
+abbrev pub opening : Cursor
+opening = record { bytes = 0; lines = 0 }
+
+-- The lines up to the cursor lead from the first state to where these acts are left, and the report: nothing is due, and the judge stands for it.
+pub record IsSoFar (f : Profile) (text : List ℕ) (first : Stand) (judge : Judge) (at : Cursor) (acts : List Act) : Type 0 where
+  pub stand : Stand
+  pub led : Leads f text first opening stand at
+  pub stands : Stands f judge stand at
+  pub due : stand.due ≡ []
+  pub left : stand.left ≡ map Does acts ++ Reports ∷ []
+  pub fit : AllFit f acts
+
+-- Where just these acts are left, their lines lead to where the others are left; or one of them can't be taken.
+abbrev pub TakenTo : List ℕ → Judge → Cursor → Judge → Cursor → List Act → List Act → Bool → Type 0
+TakenTo text old from new to acts left true = (f : Profile) (first : Stand) → IsSoFar f text first old from acts → IsSoFar f text first new to left
+TakenTo text old from new to acts left false = (f : Profile) (first : Stand) → IsSoFar f text first old from acts → Fails f text first opening to.lines
+
+-- .. where these are the next ones, whatever follows them
+abbrev pub ActsTaken : List ℕ → Judge → Cursor → Judge → Cursor → List Act → Bool → Type 0
+ActsTaken text old from new to acts taken = (more : List Act) → TakenTo text old from new to (acts ++ more) more taken
+
+-- ---- the check begins
+-- the judge stands before the first line of the plan's transcripts, with room for its threads and its names
+pub record IsOpened (plan : Plan) (judge : Judge) : Type 0 where
+  pub profile : profile_of judge.machine ≡ plan.profile
+  pub stands : Stands plan.profile judge (at_first plan) opening
+  pub sized : IsSized judge
+  pub names : names_held judge.names ≡ plan.names_limit
+  pub few : plan.names_limit ≤ 2 ^ 32

@@ -1,0 +1,284 @@
+//! The acts of a plan, in order, and the close.
+ghost use Rattle.std.specs.Prelude.{ℕ, ◌≡◌, ◌+◌, ◌<◌, ◌≤◌, ◌^◌, not, true, List, [], ◌∷◌, ◌++◌, map, length, IfOk};
+ghost use Rattle.std.specs.List.{filter};
+ghost use Rattle.pas_bits.specs.Masks.{is_set};
+ghost use Rattle.pas_profile.specs.Profiles.{IsValid};
+ghost use Rattle.pas_machine.specs.Machines.{profile_of};
+ghost use Rattle.pas_trace.specs.Acts.{Act, Ends, MarksClose, MarksPhase, ReadsEpoch, Wakes, acts_from, acts_of, acts_of_op, acts_of_ops, close_acts, idle_stops, numbers_from, phase_acts, threads_where};
+ghost use Rattle.pas_trace.specs.EveryPlan.{all_ops};
+ghost use Rattle.pas_trace.specs.Plans.{ops_of};
+ghost use Rattle.pas_check.specs.Checks.{ActsTaken, TakenTo, ArePlanned, IsPlanned, IsSized, IsSizedAs, threads_in};
+ghost use Rattle.pas_check.specs.Leading.{IsWithin, StaysWithin};
+ghost use Rattle.pas_check.specs.Tables.{logs_held, names_held};
+ghost use Rattle.pas_check.specs.declared.cutting.Cursor.{Cursor as TheCursor};
+
+use crate::acting::{Judge, flush, mark_close, mark_phase, operate, pass, stop_idle, tick, wake};
+use crate::awake::active;
+use crate::cutting::Cursor;
+use pas_bits::Mask4;
+use pas_profile::NoMemory;
+use pas_trace::{Chore, Op, Phase, Work};
+
+/// Each of these threads wakes.
+fn wake_all(judge: &mut Judge, awake: Mask4)
+    requires sized { IsSized judge.old }
+    ensures sized { IsSizedAs judge.old judge.new }
+    ensures taken { (text : List ℕ) (at : TheCursor) → IsWithin text at
+        → ActsTaken text judge.old at judge.new at (map Wakes (threads_where (is_set awake) (threads_in judge.old))) true }
+{
+    let threads = judge.machine.profile().threads;
+    for index in 0..threads {
+        let thread = index + 1;
+        if awake.get(thread) {
+            wake(judge, thread);
+        }
+    }
+}
+
+/// Takes the lines of the stop of a thread that isn't awake, where it was idle for so many epochs.
+fn stop_unless_awake(
+    judge: &mut Judge,
+    text: &[u8],
+    cursor: &mut Cursor,
+    awake: Mask4,
+    epochs: u64,
+    thread: u8,
+) -> Result<bool, NoMemory>
+    requires within { IsWithin text.now cursor.old }
+    requires short { length text.now ≤ 16777216 }
+    requires held { thread < logs_held judge.old.logs }
+    requires known { thread < length judge.old.awake.items }
+    ensures sized { IfOk result (λ taken. IsSizedAs judge.old judge.new) }
+    ensures taken { IfOk result (λ taken. ActsTaken text.now judge.old cursor.old judge.new cursor.new (idle_stops epochs (filter (λ k. not (is_set awake k)) (thread ∷ []))) taken) }
+    ensures within { IfOk result (StaysWithin text.now cursor.new) }
+{
+    if awake.get(thread) {
+        return Ok(true);
+    }
+    stop_idle(judge, text, cursor, thread, epochs)
+}
+
+/// Takes the lines of an idle operation: the stop of each thread that isn't awake, in order, where it was idle for so many epochs.
+fn stop_all_idle(
+    judge: &mut Judge,
+    text: &[u8],
+    cursor: &mut Cursor,
+    awake: Mask4,
+    epochs: u64,
+) -> Result<bool, NoMemory>
+    requires within { IsWithin text.now cursor.old }
+    requires short { length text.now ≤ 16777216 }
+    requires sized { IsSized judge.old }
+    ensures sized { IfOk result (λ taken. IsSizedAs judge.old judge.new) }
+    ensures taken { IfOk result (λ taken. ActsTaken text.now judge.old cursor.old judge.new cursor.new
+        (ReadsEpoch ∷ idle_stops epochs (threads_where (λ k. not (is_set awake k)) (threads_in judge.old))) taken) }
+    ensures within { IfOk result (StaysWithin text.now cursor.new) }
+{
+    let threads = judge.machine.profile().threads;
+    for index in 0..threads {
+        match stop_unless_awake(judge, text, cursor, awake, epochs, index + 1) {
+            Ok(true) => {}
+            Ok(false) => return Ok(false),
+            Err(NoMemory) => return Err(NoMemory),
+        }
+    }
+    Ok(true)
+}
+
+/// Takes the lines of an operation, in a phase in which these threads are awake.
+fn perform(
+    judge: &mut Judge,
+    text: &[u8],
+    cursor: &mut Cursor,
+    awake: Mask4,
+    op: Op,
+) -> Result<bool, NoMemory>
+    requires within { IsWithin text.now cursor.old }
+    requires short { length text.now ≤ 16777216 }
+    requires valid { IsValid (profile_of judge.old.machine) }
+    requires sized { IsSized judge.old }
+    requires planned { IsPlanned (profile_of judge.old.machine) (names_held judge.old.names) op }
+    ensures sized { IfOk result (λ taken. IsSizedAs judge.old judge.new) }
+    ensures taken { IfOk result (λ taken. ActsTaken text.now judge.old cursor.old judge.new cursor.new
+        (acts_of_op (threads_where (λ k. not (is_set awake k)) (threads_in judge.old)) op) taken) }
+    ensures within { IfOk result (StaysWithin text.now cursor.new) }
+{
+    match op.work() {
+        Work::Own(_) => operate(judge, text, cursor, op),
+        Work::Chore(Chore::Tick(epoch)) => {
+            let told = tick(judge, text, cursor, epoch);
+            Ok(told)
+        }
+        Work::Chore(Chore::Pass) => pass(judge, text, cursor),
+        Work::Chore(Chore::Idle(epochs)) => stop_all_idle(judge, text, cursor, awake, epochs),
+    }
+}
+
+/// Takes the lines of the operations of a phase, in order.
+fn perform_all(
+    judge: &mut Judge,
+    text: &[u8],
+    cursor: &mut Cursor,
+    awake: Mask4,
+    ops: &[Op],
+) -> Result<bool, NoMemory>
+    requires within { IsWithin text.now cursor.old }
+    requires short { length text.now ≤ 16777216 }
+    requires valid { IsValid (profile_of judge.old.machine) }
+    requires sized { IsSized judge.old }
+    requires planned { ArePlanned (profile_of judge.old.machine) (names_held judge.old.names) ops.now }
+    ensures sized { IfOk result (λ taken. IsSizedAs judge.old judge.new) }
+    ensures taken { IfOk result (λ taken. ActsTaken text.now judge.old cursor.old judge.new cursor.new
+        (acts_of_ops (threads_where (λ k. not (is_set awake k)) (threads_in judge.old)) ops.now) taken) }
+    ensures within { IfOk result (StaysWithin text.now cursor.new) }
+{
+    for op in ops {
+        match perform(judge, text, cursor, awake, *op) {
+            Ok(true) => {}
+            Ok(false) => return Ok(false),
+            Err(NoMemory) => return Err(NoMemory),
+        }
+    }
+    Ok(true)
+}
+
+/// Takes the lines of a phase after its mark: its threads wake, and its operations follow.
+fn take_phase(
+    judge: &mut Judge,
+    text: &[u8],
+    cursor: &mut Cursor,
+    ops: &[Op],
+) -> Result<bool, NoMemory>
+    requires within { IsWithin text.now cursor.old }
+    requires short { length text.now ≤ 16777216 }
+    requires valid { IsValid (profile_of judge.old.machine) }
+    requires sized { IsSized judge.old }
+    requires planned { ArePlanned (profile_of judge.old.machine) (names_held judge.old.names) ops.now }
+    ensures sized { IfOk result (λ taken. IsSizedAs judge.old judge.new) }
+    ensures taken { IfOk result (λ taken. ActsTaken text.now judge.old cursor.old judge.new cursor.new (phase_acts (threads_in judge.old) ops.now) taken) }
+    ensures within { IfOk result (StaysWithin text.now cursor.new) }
+{
+    let awake = active(ops);
+    wake_all(judge, awake);
+    perform_all(judge, text, cursor, awake, ops)
+}
+
+/// Takes the lines of the later phases, the first of which is the second one, each with its mark.
+fn take_later(
+    judge: &mut Judge,
+    text: &[u8],
+    cursor: &mut Cursor,
+    phases: &[Phase],
+) -> Result<bool, NoMemory>
+    requires within { IsWithin text.now cursor.old }
+    requires short { length text.now ≤ 16777216 }
+    requires few { length phases.now < 2 ^ 31 }
+    requires valid { IsValid (profile_of judge.old.machine) }
+    requires sized { IsSized judge.old }
+    requires planned { ArePlanned (profile_of judge.old.machine) (names_held judge.old.names) (all_ops (map ops_of phases.now)) }
+    ensures sized { IfOk result (λ taken. IsSizedAs judge.old judge.new) }
+    ensures taken { IfOk result (λ taken. TakenTo text.now judge.old cursor.old judge.new cursor.new
+        (acts_from (threads_in judge.old) 2 (map ops_of phases.now)) (close_acts (threads_in judge.old)) taken) }
+    ensures within { IfOk result (StaysWithin text.now cursor.new) }
+{
+    let mut number = 1;
+    for phase in phases {
+        number += 1;
+        if !mark_phase(judge, text, cursor, number) {
+            return Ok(false);
+        }
+        match take_phase(judge, text, cursor, phase.as_slice()) {
+            Ok(true) => {}
+            Ok(false) => return Ok(false),
+            Err(NoMemory) => return Err(NoMemory),
+        }
+    }
+    Ok(true)
+}
+
+/// Takes the lines of the phases, in order.
+fn take_phases(
+    judge: &mut Judge,
+    text: &[u8],
+    cursor: &mut Cursor,
+    phases: &[Phase],
+) -> Result<bool, NoMemory>
+    requires within { IsWithin text.now cursor.old }
+    requires short { length text.now ≤ 16777216 }
+    requires few { length phases.now < 2 ^ 31 }
+    requires valid { IsValid (profile_of judge.old.machine) }
+    requires sized { IsSized judge.old }
+    requires planned { ArePlanned (profile_of judge.old.machine) (names_held judge.old.names) (all_ops (map ops_of phases.now)) }
+    ensures sized { IfOk result (λ taken. IsSizedAs judge.old judge.new) }
+    ensures taken { IfOk result (λ taken. TakenTo text.now judge.old cursor.old judge.new cursor.new
+        (acts_of (threads_in judge.old) (map ops_of phases.now)) (close_acts (threads_in judge.old)) taken) }
+    ensures within { IfOk result (StaysWithin text.now cursor.new) }
+{
+    if phases.len() == 0 {
+        return Ok(true);
+    }
+    match take_phase(judge, text, cursor, phases[0].as_slice()) {
+        Ok(true) => take_later(judge, text, cursor, &phases[1..]),
+        Ok(false) => Ok(false),
+        Err(NoMemory) => Err(NoMemory),
+    }
+}
+
+/// Takes the lines of each thread's end, in order.
+fn end_all(judge: &mut Judge, text: &[u8], cursor: &mut Cursor) -> Result<bool, NoMemory>
+    requires within { IsWithin text.now cursor.old }
+    requires short { length text.now ≤ 16777216 }
+    requires sized { IsSized judge.old }
+    ensures sized { IfOk result (λ taken. IsSizedAs judge.old judge.new) }
+    ensures taken { IfOk result (λ taken. ActsTaken text.now judge.old cursor.old judge.new cursor.new (map Ends (numbers_from 1 (threads_in judge.old))) taken) }
+    ensures within { IfOk result (StaysWithin text.now cursor.new) }
+{
+    let threads = judge.machine.profile().threads;
+    for index in 0..threads {
+        match flush(judge, text, cursor, index + 1) {
+            Ok(true) => {}
+            Ok(false) => return Ok(false),
+            Err(NoMemory) => return Err(NoMemory),
+        }
+    }
+    Ok(true)
+}
+
+/// Takes the lines of the close: its mark, and the end of each thread.
+fn take_close(judge: &mut Judge, text: &[u8], cursor: &mut Cursor) -> Result<bool, NoMemory>
+    requires within { IsWithin text.now cursor.old }
+    requires short { length text.now ≤ 16777216 }
+    requires sized { IsSized judge.old }
+    ensures sized { IfOk result (λ taken. IsSizedAs judge.old judge.new) }
+    ensures taken { IfOk result (λ taken. ActsTaken text.now judge.old cursor.old judge.new cursor.new (close_acts (threads_in judge.old)) taken) }
+    ensures within { IfOk result (StaysWithin text.now cursor.new) }
+{
+    if !mark_close(judge, text, cursor) {
+        return Ok(false);
+    }
+    end_all(judge, text, cursor)
+}
+
+/// Takes the lines of all acts of a plan of these phases: of the phases, and of the close.
+pub(crate) fn take_acts(
+    judge: &mut Judge,
+    text: &[u8],
+    cursor: &mut Cursor,
+    phases: &[Phase],
+) -> Result<bool, NoMemory>
+    requires within { IsWithin text.now cursor.old }
+    requires short { length text.now ≤ 16777216 }
+    requires few { length phases.now < 2 ^ 31 }
+    requires valid { IsValid (profile_of judge.old.machine) }
+    requires sized { IsSized judge.old }
+    requires planned { ArePlanned (profile_of judge.old.machine) (names_held judge.old.names) (all_ops (map ops_of phases.now)) }
+    ensures sized { IfOk result (λ taken. IsSizedAs judge.old judge.new) }
+    ensures taken { IfOk result (λ taken. TakenTo text.now judge.old cursor.old judge.new cursor.new (acts_of (threads_in judge.old) (map ops_of phases.now)) [] taken) }
+    ensures within { IfOk result (StaysWithin text.now cursor.new) }
+{
+    match take_phases(judge, text, cursor, phases) {
+        Ok(true) => take_close(judge, text, cursor),
+        Ok(false) => Ok(false),
+        Err(NoMemory) => Err(NoMemory),
+    }
+}

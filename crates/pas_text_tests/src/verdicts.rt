@@ -1,0 +1,110 @@
+//! Verdicts on worked transcripts, and on some that differ from them in one place.
+use pas_check::{Verdict, check};
+use pas_trace::read_trace;
+use std::alloc::Global;
+
+/// A trace, a transcript, and what is to be said of it.
+type Case = (&'static [u8], &'static [u8], Verdict);
+
+const FREED: &[u8] = b"pas 1 pages 4 threads 1 heaps 1 age 2\na 1 1 0 24 16\nf 1 1\n";
+
+const FREED_TWICE: &[u8] =
+    b"pas 1 pages 1 threads 2 heaps 1 age 2\na 1 1 0 16 16\nf 1 1\nstop 1\na 2 2 0 16 16\nf 1 1\nflush 1\n";
+
+/// A free whose first end is at epoch 3, and a tick before the second.
+const TICKED: &[u8] =
+    b"pas 1 pages 1 threads 1 heaps 1 age 2\na 1 1 0 16 16\na 1 2 0 16 16\ntick 3\nf 1 1\nflush 1\ntick 5\nf 1 2\n";
+
+/// A block, its end and a pass that gives the page back.
+const PASSED: &[u8] =
+    b"pas 1 pages 1 threads 1 heaps 1 age 2\na 1 1 0 4096 16\nf 1 1\nflush 1\nstop 1\ntick 2\npass\n";
+
+const CASES: [Case; 13] = [
+    (
+        FREED,
+        b"1 deed page 1 heap 0 class 32\n1 back page 1\n1 give 0x00001000 turn 0 room 32 heap 0\nclose\n1 freed 0x00001000 turn 0 epoch 0\nreport\npage 1 heap 0 class 32 live 0 free 256 stamp 0 marks backed+offered+hinted\ntotal deeds 1 backed 1 live 0 given 1 ended 1\n",
+        Verdict::Yes,
+    ),
+    // A free grain is wanting.
+    (
+        FREED,
+        b"1 deed page 1 heap 0 class 32\n1 back page 1\n1 give 0x00001000 turn 0 room 32 heap 0\nclose\n1 freed 0x00001000 turn 0 epoch 0\nreport\npage 1 heap 0 class 32 live 0 free 255 stamp 0 marks backed+offered+hinted\ntotal deeds 1 backed 1 live 0 given 1 ended 1\n",
+        Verdict::No(7),
+    ),
+    // The page isn't backed when the block is given.
+    (
+        FREED,
+        b"1 deed page 1 heap 0 class 32\n1 give 0x00001000 turn 0 room 32 heap 0\nclose\n",
+        Verdict::No(2),
+    ),
+    // The totals are wanting.
+    (
+        FREED,
+        b"1 deed page 1 heap 0 class 32\n1 back page 1\n1 give 0x00001000 turn 0 room 32 heap 0\nclose\n1 freed 0x00001000 turn 0 epoch 0\nreport\npage 1 heap 0 class 32 live 0 free 256 stamp 0 marks backed+offered+hinted\n",
+        Verdict::No(8),
+    ),
+    // The last line lacks its newline.
+    (
+        FREED,
+        b"1 deed page 1 heap 0 class 32\n1 back page 1\n1 give 0x00001000 turn 0 room 32 heap 0\nclose\n1 freed 0x00001000 turn 0 epoch 0\nreport\npage 1 heap 0 class 32 live 0 free 256 stamp 0 marks backed+offered+hinted\ntotal deeds 1 backed 1 live 0 given 1 ended 1",
+        Verdict::No(8),
+    ),
+    // A line follows the totals.
+    (
+        FREED,
+        b"1 deed page 1 heap 0 class 32\n1 back page 1\n1 give 0x00001000 turn 0 room 32 heap 0\nclose\n1 freed 0x00001000 turn 0 epoch 0\nreport\npage 1 heap 0 class 32 live 0 free 256 stamp 0 marks backed+offered+hinted\ntotal deeds 1 backed 1 live 0 given 1 ended 1\n\n",
+        Verdict::No(9),
+    ),
+    // Another allocator may refuse a request.
+    (
+        FREED,
+        b"1 no-space name 1\n1 skipped name 1\nclose\nreport\ntotal deeds 0 backed 0 live 0 given 0 ended 0\n",
+        Verdict::Yes,
+    ),
+    (FREED, b"", Verdict::No(1)),
+    // The log of thread 1 holds the first block of the address.
+    (
+        FREED_TWICE,
+        b"1 deed page 1 heap 0 class 16\n1 back page 1\n1 give 0x00001000 turn 0 room 16 heap 0\n1 freed 0x00001000 turn 0 epoch 0\n2 give 0x00001000 turn 1 room 16 heap 0\n1 ended 0x00001000 turn 0\nclose\nreport\npage 1 heap 0 class 16 live 1 free 255 stamp 0 marks backed+offered+hinted\ntotal deeds 1 backed 1 live 1 given 2 ended 1\n",
+        Verdict::Yes,
+    ),
+    (
+        FREED_TWICE,
+        b"1 deed page 1 heap 0 class 16\n1 back page 1\n1 give 0x00001000 turn 0 room 16 heap 0\n1 freed 0x00001000 turn 0 epoch 0\n2 give 0x00001000 turn 1 room 16 heap 0\n1 freed 0x00001000 turn 1 epoch 0\nclose\n",
+        Verdict::No(6),
+    ),
+    // An end has the epoch of the last tick, and not of the end before it.
+    (
+        TICKED,
+        b"1 deed page 1 heap 0 class 16\n1 back page 1\n1 give 0x00001000 turn 0 room 16 heap 0\n1 give 0x00001010 turn 0 room 16 heap 0\n0 tick 3\n1 freed 0x00001000 turn 0 epoch 3\n0 tick 5\nclose\n1 freed 0x00001010 turn 0 epoch 5\nreport\npage 1 heap 0 class 16 live 0 free 256 stamp 5 marks backed+parked+hinted\n",
+        Verdict::No(11),
+    ),
+    (
+        TICKED,
+        b"1 deed page 1 heap 0 class 16\n1 back page 1\n1 give 0x00001000 turn 0 room 16 heap 0\n1 give 0x00001010 turn 0 room 16 heap 0\n0 tick 3\n1 freed 0x00001000 turn 0 epoch 3\n0 tick 5\nclose\n1 freed 0x00001010 turn 0 epoch 3\n",
+        Verdict::No(9),
+    ),
+    (
+        PASSED,
+        b"1 deed page 1 heap 0 large\n1 back page 1\n1 give 0x00001000 turn 0 room 4096 heap 0\n1 freed 0x00001000 turn 0 epoch 0\n0 tick 2\n0 pass 2\n0 unback page 1 epoch 2\nclose\nreport\npage 1 heap 0 large live 0 free 256 stamp 0 marks offered\ntotal deeds 1 backed 0 live 0 given 1 ended 1\n",
+        Verdict::Yes,
+    ),
+];
+
+/// What is said of the transcript of the trace.
+fn judged(alloc: Global, trace: &[u8], transcript: &[u8]) -> Option<Verdict> {
+    if trace.len() > 16_777_216 || transcript.len() > 16_777_216 {
+        return None;
+    }
+    let Ok(plan) = read_trace(alloc, trace) else {
+        return None;
+    };
+    check(alloc, &plan, transcript).ok()
+}
+
+#[test]
+fn transcripts_are_judged(rt: HostRuntime) {
+    for (trace, transcript, verdict) in &CASES {
+        assert!(rt; judged(rt.alloc(), trace, transcript) == Some(*verdict));
+    }
+}

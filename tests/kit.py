@@ -1,0 +1,95 @@
+#!/usr/bin/env python3
+"""tests/kit.py [PROGRAM]
+
+Tests tools/kit.py, by which tools/prove calls the kit's rt. With kits that are written here: one that is no Python and one that makes the sums of
+crates by other code run as they are, with their words and their status; whether a kit keeps what passed is asked of its help, and tools/prove says so
+only then. With the kit of this machine: each crate's sum is kept as the kit makes it, its files are read once a run, and its version is told as rt
+tells it. Where no kit is in PATH that part is skipped, and said to be. The program isn't needed. Prints what was checked; the status is 1 where
+something was wrong."""
+import os
+import shutil
+import subprocess
+import sys
+import tempfile
+from pathlib import Path
+
+sys.dont_write_bytecode = True
+from logs import ROOT, called, check, end_checks
+import kit
+
+SHELL = '#!/bin/sh\n[ "$1" = help ] && { echo "rt ci [--anew]"; exit 0; }\necho "shell: $*"; exit 7\n'
+OTHER = """#!/usr/bin/env python3
+import sys
+class Crate:
+    def stamp(self): return "other"
+class rtlib:
+    Crate = Crate
+def main(words):
+    print("other:", *words, rtlib.Crate().stamp())
+    return 5
+if __name__ == "__main__": sys.exit(main(sys.argv[1:]))
+"""
+WORDS = [sys.executable, str(ROOT / "tools/kit.py"), "lib", "--jobs", "2"]
+LEAST = ", and less where an earlier run on this machine proved some"
+
+
+def with_kit(room, text):
+    """The environment in which rt is this text."""
+    (room / "rt").write_text(text)
+    (room / "rt").chmod(0o755)
+    return os.environ | {"PATH": f"{room}:{os.environ['PATH']}"}
+
+
+def test_other_kits(room):
+    for text, said, status, keeps in ((SHELL, "shell: lib --jobs 2\n", 7, True), (OTHER, "other: lib --jobs 2 other\n", 5, False)):
+        environment = with_kit(room, text)
+        ran = called(WORDS, env=environment)
+        check((ran.stdout, ran.returncode) == (said, status), f"a kit of another kind: {ran.stdout!r}, status {ran.returncode}")
+        told = called([sys.executable, str(ROOT / "tools/prove"), "--estimate"], env=environment)
+        check(told.returncode == 0 and (LEAST in told.stdout) == keeps, f"tools/prove says of a kit that {'keeps' if keeps else 'forgets'}: {told.stdout}")
+    none = called(WORDS, env=os.environ | {"PATH": str(room / "nothing")})
+    check(none.returncode == 1 and "there is no rt" in none.stderr, f"without a kit: {none.stderr}")
+    print("kits of other kinds, and none")
+
+
+def test_sums():
+    """The sums of some crates by the kit's own code, and kept: the same, and each crate's files are read once."""
+    os.chdir(ROOT)
+    rt = kit.load(kit.find())
+    check(rt is not None and hasattr(rt, "main"), "the kit's rt can't be read")
+    crates = {it.name: it for it in rt.rtlib.crates_below(str(ROOT))}
+    names = ["pas_bits", "pas_steps", "pas_scan", "pas_search"]
+    made = {name: crates[name].stamp() for name in names}
+    if not kit.keep_sums(rt.rtlib.Crate):
+        print(f"the sums of this kit ({called(['rt', 'version']).stdout.strip()}) are made by code that isn't known: it runs as it is")
+        return
+    read, files_of = [], rt.rtlib.files_of
+
+    def counted(folder):
+        read.append(folder)
+        return files_of(folder)
+
+    rt.rtlib.files_of = counted
+    check({name: crates[name].stamp() for name in names} == made, "a sum that is kept is another")
+    check(len(read) == len(set(read)) >= 5, f"files of {len(set(read))} crates were read {len(read)} times")
+    print(f"the sums of {len(names)} crates, by {len(read)} readings")
+
+
+def main():
+    if len(sys.argv) > 2 or sys.argv[1:2] in (["-h"], ["--help"]):
+        sys.exit(__doc__)
+    with tempfile.TemporaryDirectory() as room:
+        test_other_kits(Path(room))
+    helped = called([sys.executable, str(ROOT / "tools/kit.py"), "--help"])
+    check(helped.returncode == 0 and "tools/kit.py WORD.." in helped.stdout, f"--help: {helped.stdout}")
+    if shutil.which("rt"):
+        test_sums()
+        told = [subprocess.run([*words, "version"], stdout=subprocess.PIPE, text=True).stdout for words in (["rt"], WORDS[:2])]
+        check(told[0] == told[1] != "", f"rt version: {told}")
+    else:
+        print("SKIPPED: there is no kit in PATH")
+    end_checks()
+
+
+if __name__ == "__main__":
+    main()

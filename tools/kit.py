@@ -1,0 +1,96 @@
+#!/usr/bin/env python3
+"""Runs the kit's `rt` with these words, with the sum of each crate's files made once.
+
+For each library `rt` makes a sum of the crate's files and of the sums of those that it stands on, and so reads a crate
+once for each way that leads down to it: for pas_top 9,557 times, which takes half a minute of one processor, twice.
+Here a crate's sum is kept until the command ends. So no file of the crates may change meanwhile: tools/prove runs it on
+a copy. The verdict is the kit's: no code of it but that of the sum is another here, and where the kit makes the sum by
+other code than is known here, or isn't Python, the words go to it as they are.
+
+    tools/kit.py WORD..    as rt WORD..
+"""
+
+from __future__ import annotations
+
+import functools
+import hashlib
+import importlib.machinery
+import importlib.util
+import inspect
+import os
+import shutil
+import subprocess
+import sys
+from pathlib import Path
+from types import ModuleType
+
+# The code by which rattle-kit-13b makes the sum: of the files of the crate and of those below it, which no run writes.
+KNOWN_SUMS = {"bd65806bc231da43"}
+
+
+def find() -> str:
+    """Where the kit's rt is."""
+    found = shutil.which("rt")
+    if not found:
+        sys.exit("there is no rt, the kit's command, in PATH")
+    return os.path.realpath(found)
+
+
+@functools.lru_cache(maxsize=None)
+def knows(word: str) -> bool:
+    """Whether the kit's rt tells of this word in its help: kits differ."""
+    words = [find(), "help"]
+    told = subprocess.run(words, stdin=subprocess.DEVNULL, stdout=subprocess.PIPE, stderr=subprocess.STDOUT, text=True)
+    return word in told.stdout
+
+
+def command(*words: str) -> list[str]:
+    """How rt is called where nobody changes a file of the crates before it ends."""
+    return [sys.executable, str(Path(__file__).resolve()), *words]
+
+
+def load(path: str) -> ModuleType | None:
+    """The kit's rt as a module, if it is one of Python."""
+    try:
+        if not Path(path).read_bytes().startswith(b"#!/usr/bin/env python3"):
+            return None
+        loader = importlib.machinery.SourceFileLoader("kit_rt", path)
+        made = importlib.util.module_from_spec(importlib.util.spec_from_loader("kit_rt", loader))
+        sys.modules["kit_rt"] = made
+        loader.exec_module(made)
+        return made
+    except (ImportError, OSError, SyntaxError):
+        return None
+
+
+def keep_sums(crate: type) -> bool:
+    """Has each crate's sum kept, if it is made by code that is known."""
+    made = getattr(crate, "stamp", None)
+    if not made or hashlib.sha256(inspect.getsource(made).encode()).hexdigest()[:16] not in KNOWN_SUMS:
+        return False
+    sums: dict[tuple[str, str], str] = {}
+
+    def stamp(self) -> str:
+        of = self.folder, repr((self.said, self.has_c))
+        if of not in sums:
+            sums[of] = made(self)
+        return sums[of]
+
+    crate.stamp = stamp
+    return True
+
+
+def main() -> int:
+    words = sys.argv[1:]
+    if not words or words[0] in ("-h", "--help"):
+        print(__doc__, end="")
+        return 0 if words else 2
+    path = find()
+    kit = load(path)
+    if not kit or not hasattr(kit, "main") or not keep_sums(getattr(getattr(kit, "rtlib", None), "Crate", object)):
+        os.execv(path, [path, *words])
+    return kit.main(words)
+
+
+if __name__ == "__main__":
+    sys.exit(main())
