@@ -69,6 +69,14 @@ row_late_free : seen (codes "pas 1 pages 1 threads 2 heaps 1 age 2\na 1 1 0 16 1
 unfolding seen grains_that
 row_late_free = refl
 
+row_named_pages_in_use : seen (codes "pas 1 pages 4 threads 1 heaps 1 age 2\na 1 1 0 4096 16\nf 1 1\nflush 1\na 1 2 0 8192 16\na 1 3 0 4096 16\nf 1 2\nflush 1\na 1 4 0 4096 16\na 1 5 0 8192 16\n") ≡ shown (deed_of 1 1 0 Kind.Large ∷ back_of 1 1 ∷ give_of 1 4096 0 4096 0 ∷ freed_of 1 4096 0 0 ∷ deed_of 1 2 0 Kind.Large ∷ back_of 1 2 ∷ give_of 1 4096 1 8192 0 ∷ deed_of 1 3 0 Kind.Large ∷ back_of 1 3 ∷ give_of 1 12288 0 4096 0 ∷ freed_of 1 4096 1 0 ∷ give_of 1 4096 2 4096 0 ∷ no_space_of 1 5 ∷ closed ∷ []) (row_of 1 0 Kind.Large 1 0 0 (marked true false true true) ∷ row_of 2 0 Kind.Large 0 256 0 (marked true true false true) ∷ row_of 3 0 Kind.Large 1 0 0 (marked true false true false) ∷ []) (totalled 3 3 2 4 2)
+unfolding seen grains_that
+row_named_pages_in_use = refl
+
+row_named_run : seen (codes "pas 1 pages 4 threads 2 heaps 1 age 2\na 1 1 0 4096 16\nf 1 1\nphase\na 2 2 0 4096 16\nf 2 2\nflush 2\nphase\nidle 0\nphase\na 2 3 0 4096 16\n") ≡ shown (deed_of 1 1 0 Kind.Large ∷ back_of 1 1 ∷ give_of 1 4096 0 4096 0 ∷ phase_of 2 ∷ deed_of 2 2 0 Kind.Large ∷ back_of 2 2 ∷ give_of 2 8192 0 4096 0 ∷ freed_of 2 8192 0 0 ∷ phase_of 3 ∷ freed_of 1 4096 0 0 ∷ stopped_of 1 ∷ stopped_of 2 ∷ phase_of 4 ∷ give_of 2 8192 1 4096 0 ∷ closed ∷ []) (row_of 1 0 Kind.Large 0 256 0 (marked true true false true) ∷ row_of 2 0 Kind.Large 1 0 0 (marked true false true true) ∷ []) (totalled 2 2 1 3 2)
+unfolding seen grains_that
+row_named_run = refl
+
 row_one_block : seen (codes "pas 1 pages 4 threads 1 heaps 1 age 2\na 1 1 0 24 16\nf 1 1\n") ≡ shown (deed_of 1 1 0 (Kind.Class 1) ∷ back_of 1 1 ∷ give_of 1 4096 0 32 0 ∷ closed ∷ freed_of 1 4096 0 0 ∷ []) (row_of 1 0 (Kind.Class 1) 0 256 0 (marked true true false true) ∷ []) (totalled 1 1 0 1 1)
 unfolding seen grains_that
 row_one_block = refl

@@ -14,6 +14,7 @@ use Rattle.pas_report.specs.declared.record.Record.{Record}
 use Rattle.pas_report.specs.declared.record.Said.{Said}
 use Rattle.pas_answers.specs.Answers.{said_of_fault, standing_for}
 use Rattle.pas_one_text.specs.State.{World, each, block_at, shows, says, locals_of, log_of, set_log}
+use Rattle.pas_one_text.specs.Indexes.{notes}
 use Rattle.pas_one_text.specs.Pages.{page_numbers, minds}
 use Rattle.pas_one_text.specs.Classes.{gives_up}
 
@@ -26,9 +27,9 @@ pages_of f b = filter (meets_page (grain_of b.name) (length_of b)) (page_numbers
 abbrev pub reason : World → Name → Why
 reason w name = if nat_lt name.turn (ends_in w.events (address_of name)) then Why.Ended else Why.NoBlock
 
--- a logged name takes effect: where its block lives, the block ends and its grains come back to their pages
+-- a logged name takes effect: where its block lives, the block ends, its pages are noted where it is large, and its grains come back to their pages
 abbrev pub takes_effect : Profile → ℕ → Name → Option Block → World → World
-takes_effect f k name (Some b) w = if b.name.turn == name.turn then each minds (pages_of f b) (shows (Event.End k name w.epoch) w) else shows (Event.Reject k name (reason w name)) w
+takes_effect f k name (Some b) w = if b.name.turn == name.turn then each minds (pages_of f b) (notes k b (shows (Event.End k name w.epoch) w)) else shows (Event.Reject k name (reason w name)) w
 takes_effect f k name None w = shows (Event.Reject k name (reason w name)) w
 
 -- .. of the block at its address
