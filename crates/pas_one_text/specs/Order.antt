@@ -3,6 +3,7 @@ use Rattle.std.specs.Prelude.{ℕ, ◌/◌, List, [], map, Option, None, Some, R
 use Rattle.pas_profile.specs.Requests.{route_in, room_in}
 use Rattle.pas_profile.specs.declared.directory.Route.{Route}
 use Rattle.pas_profile.specs.declared.profile.Profile.{Profile}
+use Rattle.pas_free_log.specs.Logs.{entry_of}
 use Rattle.pas_trace.specs.declared.fault.TraceFault.{TraceFault}
 use Rattle.pas_trace.specs.declared.plan.Op.{Op}
 use Rattle.pas_trace.specs.declared.plan.What.{What}
@@ -28,7 +29,7 @@ serves f k name heap Route.Large room align w = serves_pages f k name heap (room
 abbrev pub operates : Profile → ℕ → What → World → World
 operates f k (What.Alloc name heap size align) w = serves f k name heap (route_in f size align) (room_in f size align) align w
 operates f k (What.Free name) w = frees_named f k name w
-operates f k (What.Raw block) w = frees f k block w
+operates f k (What.Raw block) w = frees f k (entry_of block) w
 operates f k What.Flush w = flushes f k w
 operates f k What.Stop w = stops f k w
 operates f k (What.Tick e) w = w

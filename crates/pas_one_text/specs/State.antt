@@ -7,6 +7,7 @@ use Rattle.pas_profile.specs.declared.event.Event.{Event}
 use Rattle.pas_profile.specs.declared.name.Block.{Block}
 use Rattle.pas_profile.specs.declared.name.Name.{Name}
 use Rattle.pas_large_index.specs.declared.span.Span.{Span}
+use Rattle.pas_free_log.specs.declared.log.Entry.{Entry}
 use Rattle.pas_free_log.specs.declared.noting.EndedRun.{EndedRun}
 use Rattle.pas_report.specs.declared.record.Record.{Record}
 use Rattle.pas_answers.specs.Answers.{Named, named}
@@ -20,12 +21,12 @@ pub record Local : Type 0 where
   pub slots : List ℕ
   pub keeps : Bool
 
--- THE CACHE of a thread: its local allocators, at most one of a heap and class, the one used longest ago first; the names of its frees that took no effect
--- yet, the oldest first; the pages of large blocks that it ended and didn't hand on yet, in order; and the epoch in which it last began a phase with an
--- operation of its own
+-- THE CACHE of a thread: its local allocators, at most one of a heap and class, the one used longest ago first; its frees that took no effect yet, the
+-- oldest first, each the name of a block, with a room where the free named one; the pages of large blocks that it ended and didn't hand on yet, in order;
+-- and the epoch in which it last began a phase with an operation of its own
 pub record Cache : Type 0 where
   pub locals : List Local
-  pub log : List Name
+  pub log : List Entry
   pub noted : List EndedRun
   pub began : ℕ
 
@@ -100,7 +101,7 @@ cache_of w k = cache_in w.caches k
 abbrev pub locals_of : World → ℕ → List Local
 locals_of w k = (cache_of w k).locals
 
-abbrev pub log_of : World → ℕ → List Name
+abbrev pub log_of : World → ℕ → List Entry
 log_of w k = (cache_of w k).log
 
 abbrev pub noted_of : World → ℕ → List EndedRun
@@ -113,7 +114,7 @@ set_cache k c w = record w { caches = with_cache w.caches k c }
 abbrev pub set_locals : ℕ → List Local → World → World
 set_locals k locals w = set_cache k (record (cache_of w k) { locals = locals }) w
 
-abbrev pub set_log : ℕ → List Name → World → World
+abbrev pub set_log : ℕ → List Entry → World → World
 set_log k log w = set_cache k (record (cache_of w k) { log = log }) w
 
 abbrev pub set_noted : ℕ → List EndedRun → World → World
