@@ -26,6 +26,7 @@ use Rattle.std.proofs.Common.{refl}
 """
 KINDS = "use Rattle.pas_profile.specs.declared.directory.Kind.TheVariants as Kind\n"
 GRAINS = "use Rattle.pas_report.specs.Reports.{grains_that}\n"
+COUNTS = "use Rattle.pas_one_text.specs.Pages.{each_of}\nuse Rattle.pas_one_text.specs.Passes.{free_bits}\n"
 REASONS = "use Rattle.pas_trace.specs.declared.fault.Reason.TheVariants as Reason\n"
 
 
@@ -112,8 +113,9 @@ def string_term(text: str) -> str:
 
 def row_text(name: str, word: str, trace: str, transcript: str) -> str:
     """A row by a word of Seen.antt: `seen`, or `counted`, which takes fewer steps."""
-    opened = {"seen": "seen grains_that", "counted": "counted"}[word]
-    said = "%s %s ≡ %s" % (word, string_term(trace), shown_term(transcript))
+    shown = shown_term(transcript)
+    opened = {"seen": "seen grains_that", "counted": "counted"}[word] + (" each_of free_bits" if shown.startswith("shown") else "")
+    said = "%s %s ≡ %s" % (word, string_term(trace), shown)
     return "%s : %s\nunfolding %s\n%s = refl\n" % (name, said, opened, name)
 
 
@@ -121,7 +123,7 @@ def file_text(comment: str, rows: list[str]) -> str:
     body = "\n".join(rows)
     words = ["seen", "counted", "shown", "faulty", "row_of", "marked", "totalled"] + [word for _, word in LINES]
     used = [word for word in words if re.search(r"\b%s\b" % word, body)]
-    wanted = [(KINDS, "Kind." in body), (GRAINS, "seen" in used), (REASONS, "faulty" in used)]
+    wanted = [(KINDS, "Kind." in body), (GRAINS, "seen" in used), (REASONS, "faulty" in used), (COUNTS, "shown" in used)]
     uses = "".join(line for line, is_wanted in wanted if is_wanted)
     plain = "true, false, [], ◌∷◌, " if "shown" in used else ""
     return "-- %s\n" % comment + HEADER % (plain, uses, ", ".join(used)) + "\n" + body

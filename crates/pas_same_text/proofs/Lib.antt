@@ -1,0 +1,3 @@
+mod CacheLists
+mod Frames
+mod SmallActs

@@ -1,0 +1,2 @@
+-- small
+use Rattle.std.proofs.Common.{◌≡◌, refl}

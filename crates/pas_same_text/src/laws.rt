@@ -1,0 +1,1 @@
+//! What each act owes. Each law is the contract of an empty function.
