@@ -84,3 +84,14 @@ same_with f caches own k c new of same new_same = record {
   many = many_with own k new ∙ same.many;
   each = λ j is. each_with f caches own j k c new is of same new_same (j == k) refl;
 }
+
+-- one that became what it was
+kept_at : (caches : Caches) (j k : ℕ) (t : Bool) → (j == k) ≡ t → caches j ≡ (if t then caches k else caches j)
+kept_at caches j k true e = ap caches (eqb-true j k e)
+kept_at caches j k false e = refl
+
+pub same_kept : (f : Profile) (caches : Caches) (own : List Cache) (k : ℕ) → AreSameCaches f caches own → AreSameCaches f (with_cached caches k (caches k)) own
+same_kept f caches own k same = record {
+  many = same.many;
+  each = λ j is. subst (λ (c : Cached). IsSameCache c (cache_in own j)) (kept_at caches j k (j == k) refl) (same.each j is);
+}

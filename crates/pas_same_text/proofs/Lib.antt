@@ -1,3 +1,11 @@
 mod CacheLists
 mod Frames
 mod SmallActs
+mod Tests
+mod LiveBlocks
+mod LoggedFrees
+mod Slots
+mod FreeGrains
+mod KeptPages
+mod RestingPages
+mod SameLocals

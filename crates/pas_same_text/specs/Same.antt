@@ -60,6 +60,12 @@ abbrev pub lives_in : List Event → List Block
 lives_in [] = []
 lives_in (e ∷ es) = live_after e (lives_in es)
 
+-- the events are those that the list shows, and the caches are the same: so what is free and what is kept follows
+pub record HasSame (f : Profile) (p : Progress) (w : World) : Type 0 where
+  pub events : w.events ≡ visible p.list
+  pub live : w.live ≡ lives_in w.events
+  pub caches : AreSameCaches f p.caches w.caches
+
 -- the events are those that the list shows, and the bits of hints and of offers are those of its words
 pub record ArePagesSame (f : Profile) (l : Whole) (w : World) : Type 0 where
   pub events : w.events ≡ visible l

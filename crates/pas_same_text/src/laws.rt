@@ -1,1 +1,55 @@
-//! What each act owes. Each law is the contract of an empty function.
+//! What each act owes: from a state of the text that is the replay's it leads to one that is. Each law is the contract of an empty function.
+ghost use Rattle.std.specs.Prelude.{ℕ, ◌+◌, ◌*◌, ◌<◌, ◌≡◌, true};
+ghost use Rattle.pas_profile.specs.declared.name.Name.{Name};
+ghost use Rattle.pas_profile.specs.declared.profile.Profile.{Profile};
+ghost use Rattle.pas_trace.specs.Acts.{Act};
+ghost use Rattle.pas_trace.specs.EveryPlan.{IsThread};
+ghost use Rattle.pas_trace.specs.declared.plan.What.TheVariants.{Raw};
+ghost use Rattle.pas_profile.specs.Directories.{number_of};
+ghost use Rattle.pas_profile.specs.Profiles.{IsDirectoryOf};
+ghost use Rattle.pas_profile.specs.declared.directory.Directory.{Directory};
+ghost use Rattle.pas_steps.specs.Lists.{part};
+ghost use Rattle.pas_steps.specs.Views.{has_right};
+ghost use Rattle.pas_core.specs.Rights.{eligible_bit};
+ghost use Rattle.pas_answers.specs.Answers.{Progress};
+ghost use Rattle.pas_one_text.specs.State.{World};
+ghost use Rattle.pas_one_text.specs.Pages.{is_free, is_kept, is_offered, has_room};
+ghost use Rattle.pas_same_text.specs.Acts.{IsAtRest, StaysSame, StaysSameWhere, HasLogRoom};
+ghost use Rattle.pas_same_text.specs.Words.{free_bit};
+
+/// A mark is a line.
+#[tactic(auto, using(crate::proofs::SmallActs::phase_same, crate::proofs::SmallActs::close_same))]
+pub fn marks_stay_the_same()
+    ensures phase { (f : Profile) (n : ℕ) → StaysSame f (Act.MarksPhase n) }
+    ensures close { (f : Profile) → StaysSame f Act.MarksClose }
+{}
+
+/// A thread that begins a phase has read the epoch of the text, and so has the scavenger for an idle operation. A tick raises that epoch.
+#[tactic(auto, using(crate::proofs::SmallActs::wake_same, crate::proofs::SmallActs::reading_same, crate::proofs::SmallActs::tick_same))]
+pub fn epochs_stay_the_same()
+    ensures wakes { (f : Profile) (k : ℕ) → IsThread f k → StaysSame f (Act.Wakes k) }
+    ensures reads { (f : Profile) → StaysSame f Act.ReadsEpoch }
+    ensures ticks { (f : Profile) (asked : ℕ) → StaysSame f (Act.Ticks asked) }
+{}
+
+/// What a thread noted goes from its cache.
+#[tactic(auto, using(crate::proofs::SmallActs::settling_same))]
+pub fn settling_stays_the_same()
+    ensures { (f : Profile) (k : ℕ) → IsThread f k → StaysSame f (Act.Settles k) }
+{}
+
+/// A free by an address is logged at the end of a log with room, or it is answered at once, since its page is none of the region's or its address is no grain's.
+#[tactic(auto, using(crate::proofs::LoggedFrees::raw_same))]
+pub fn frees_stay_the_same()
+    ensures { (f : Profile) (line k : ℕ) (block : Name) → IsThread f k → StaysSameWhere (HasLogRoom k) f (Act.Operates (record { line = line; actor = k; what = Raw block })) }
+{}
+
+/// Whenever all actors are at rest and the events, the live blocks and the caches are the same: a grain is free in the text exactly where its bit is set, and a
+/// page is kept exactly where some actor has its right. A page with room that nobody keeps is offered, and an offered page is offered in the text where it has room.
+pub fn states_are_told()
+    ensures free { (f : Profile) (p : Progress) (w : World) → IsAtRest f p w → (page b : ℕ) → b < 256 → is_free w page b ≡ free_bit p.list (256 * page + b) }
+    ensures kept { (f : Profile) (p : Progress) (w : World) → IsAtRest f p w → (page : ℕ) → is_kept w page ≡ true → (k : ℕ) × (has_right (part k p.list) page ≡ true) }
+    ensures keeps { (f : Profile) (p : Progress) (w : World) → IsAtRest f p w → (k page : ℕ) → has_right (part k p.list) page ≡ true → is_kept w page ≡ true }
+    ensures offered { (f : Profile) (p : Progress) (w : World) → IsAtRest f p w → (page : ℕ) (d : Directory) → IsDirectoryOf f d → is_offered w d page ≡ true → eligible_bit p.list (number_of d) page ≡ true }
+    ensures offers { (f : Profile) (p : Progress) (w : World) → IsAtRest f p w → (page : ℕ) (d : Directory) → IsDirectoryOf f d → eligible_bit p.list (number_of d) page ≡ true → has_room w d page ≡ true → is_offered w d page ≡ true }
+{}
