@@ -9,3 +9,4 @@ mod FreeGrains
 mod KeptPages
 mod RestingPages
 mod SameLocals
+mod CachedSlots

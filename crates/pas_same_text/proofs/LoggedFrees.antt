@@ -22,11 +22,11 @@ use Rattle.pas_report.specs.declared.record.Said.{Said as TheSaid}
 use Rattle.pas_report.specs.declared.record.Said.TheVariants as Said
 use Rattle.pas_trace.specs.Acts.{Act}
 use Rattle.pas_trace.specs.EveryPlan.{IsThread}
-use Rattle.pas_trace.specs.declared.plan.What.TheVariants.{Raw}
-use Rattle.pas_answers.specs.Answers.{Progress, Named, Answer, IsFreed, with_records, with_steps, records_of, said_by, said_of_fault}
+use Rattle.pas_trace.specs.declared.plan.What.TheVariants.{Free, Raw}
+use Rattle.pas_answers.specs.Answers.{Progress, Named, Answer, IsFreed, IsFreedBy, standing_for, with_records, with_steps, records_of, said_by, said_of_fault}
 use Rattle.pas_answers.specs.Answers.{with_cache as with_cached}
 use Rattle.pas_one_text.specs.State.{World, Cache, cache_of, set_cache, set_log, log_of, says}
-use Rattle.pas_one_text.specs.Frees.{adds, logs, frees, refuses_free, flushes}
+use Rattle.pas_one_text.specs.Frees.{adds, logs, frees, frees_what, frees_named, refuses_free, flushes}
 use Rattle.pas_same_text.specs.Same.{IsSame, IsSameCache}
 use Rattle.pas_same_text.specs.Acts.{IsTaken, StaysSameWhere, HasLogRoom}
 use Rattle.pas_same_text.proofs.CacheLists.{same_with, same_kept}
@@ -34,7 +34,7 @@ use Rattle.pas_same_text.proofs.Frames.{unchanged, pages_next}
 use Rattle.pas_same_text.proofs.SmallActs.{records_next, cache_state}
 
 -- a replay after an answer with these steps and what is said besides
-abbrev after_with : Progress → ℕ → List Made → Option TheSaid → List Named → Cached → Progress
+abbrev pub after_with : Progress → ℕ → List Made → Option TheSaid → List Named → Cached → Progress
 after_with p k steps said names c = with_records (record (with_steps p k steps c) { names = names }) (records_of (events_by k (part k p.list) steps) ++ said_by k said)
 
 -- ---- an answer without a step, which changes nothing but says something
@@ -149,3 +149,23 @@ raw_same f line k block is p p' w room taken =
     subst (λ (q : Progress). IsSame f q (frees f k (entry_of block) w)) (sym taken.advances.2)
     (subst (λ (ns : List Named). IsSame f (after_with p k a.steps a.said ns a.cache) (frees f k (entry_of block) w)) (sym names)
     (freed_same f k block p w a.cache a.steps a.said is taken.same test taken.advances.1.0))
+
+-- ---- a free by a name of the trace
+freed_named : (f : Profile) (k name : ℕ) (p : Progress) (w : World) (c' : Cached) (steps : List Made) (said : Option TheSaid) → IsThread f k → IsSame f p w → nat_le 64 (length (p.caches k).log) ≡ false
+    → (meant : Option (Option Name)) → IsFreedBy f k (p.caches k) c' name meant steps said → IsSame f (after_with p k steps said p.names c') (frees_what f k name meant w)
+freed_named f k name p w c' steps said is same room None freed = absurd freed
+freed_named f k name p w c' steps said is same room (Some None) freed =
+    subst (λ (s : Option TheSaid). IsSame f (after_with p k steps s p.names c') (says (Record.Said k (Said.Skipped name)) w)) (sym freed.2)
+    (subst (λ (ms : List Made). IsSame f (after_with p k ms (Some (Said.Skipped name)) p.names c') (says (Record.Said k (Said.Skipped name)) w)) (sym freed.0)
+    (subst (λ (c : Cached). IsSame f (after_with p k [] (Some (Said.Skipped name)) p.names c) (says (Record.Said k (Said.Skipped name)) w)) (sym freed.1) (said_same f k (Said.Skipped name) p w same)))
+freed_named f k name p w c' steps said is same room (Some (Some block)) freed = freed_same f k block p w c' steps said is same room freed
+
+pub named_same : (f : Profile) (line k name : ℕ) → IsThread f k → StaysSameWhere (HasLogRoom k) f (Act.Operates (record { line = line; actor = k; what = Free name }))
+named_same f line k name is p p' w room taken =
+    let a : Answer = taken.advances.0 in
+    let names : a.names ≡ p.names = taken.advances.1.1 in
+    let test : nat_le 64 (length (p.caches k).log) ≡ false = grind (arith, nat_tests, room) in
+    subst (λ (q : Progress). IsSame f q (frees_named f k name w)) (sym taken.advances.2)
+    (subst (λ (ns : List Named). IsSame f (after_with p k a.steps a.said ns a.cache) (frees_named f k name w)) (sym names)
+    (subst (λ (ns : List Named). IsSame f (after_with p k a.steps a.said p.names a.cache) (frees_what f k name (standing_for ns name) w)) (sym taken.same.names)
+    (freed_named f k name p w a.cache a.steps a.said is taken.same test (standing_for p.names name) taken.advances.1.0)))

@@ -16,10 +16,10 @@ for_same : (heap class : ℕ) (s : Slots) (l : Local) → IsSameLocal s l → is
 for_same heap class s l same = ap (λ (h : ℕ). (h == heap) && (l.class == class)) same.heap ∙ ap (λ (c : ℕ). (s.heap == heap) && (c == class)) same.class
 
 -- the one that is found in a list of the same
-record Finds (s : Slots) (found : Option Local) : Type 0 where
-  local : Local
-  is : found ≡ Some local
-  same : IsSameLocal s local
+pub record Finds (s : Slots) (found : Option Local) : Type 0 where
+  pub local : Local
+  pub is : found ≡ Some local
+  pub same : IsSameLocal s local
 
 or_first : Slots → Option Slots → Slots
 or_first x None = x
@@ -30,7 +30,7 @@ unfolding or_first
 found_one s x y rest more true same later is = record { local = y; is = refl; same = subst (λ (z : Slots). IsSameLocal z y) (ap (or_first x) is) same }
 found_one s x y rest more false same later is = later is
 
-found_same : (heap class : ℕ) (slots : List Slots) (locals : List Local) (s : Slots) → AreSameLocals slots locals → local_for heap class slots ≡ Some s → Finds s (find (is_for heap class) locals)
+pub found_same : (heap class : ℕ) (slots : List Slots) (locals : List Local) (s : Slots) → AreSameLocals slots locals → local_for heap class slots ≡ Some s → Finds s (find (is_for heap class) locals)
 found_same heap class [] [] s same is = absurd (none is)
   where
     is_some : Option Slots → Bool

@@ -1,10 +1,13 @@
 -- WHAT AN ACT OWES: from a state that is the replay's it leads to one that is.
-use Rattle.std.specs.Prelude.{ℕ, ◌<◌, length}
+use Rattle.std.specs.Prelude.{ℕ, ◌<◌, ◌≡◌, length, Some}
+use Rattle.pas_bits.specs.Masks.{HasMember}
 use Rattle.pas_profile.specs.Profiles.{IsValid}
 use Rattle.pas_profile.specs.declared.profile.Profile.{Profile}
 use Rattle.pas_steps.specs.Clear.{HasNothing}
 use Rattle.pas_steps.specs.Lists.{part, Legal}
+use Rattle.pas_segregated.specs.declared.slots.Slots.{Slots}
 use Rattle.pas_cache.specs.Caches.{AtRest}
+use Rattle.pas_cache.specs.Locals.{local_for}
 use Rattle.pas_trace.specs.Acts.{Act}
 use Rattle.pas_trace.specs.EveryPlan.{IsThread}
 use Rattle.pas_answers.specs.Answers.{Progress}
@@ -44,3 +47,7 @@ StaysSameWhere Q f act = (p p' : Progress) (w : World) → Q p → IsTaken f act
 -- thread k's log has room for one more
 abbrev pub HasLogRoom : ℕ → Progress → Type 0
 HasLogRoom k p = length (p.caches k).log < 64
+
+-- its local allocator of the heap and class has a slot
+abbrev pub HasCachedSlot : ℕ → ℕ → ℕ → Progress → Type 0
+HasCachedSlot heap class k p = (s : Slots) × (local_for heap class (p.caches k).locals ≡ Some s) × HasMember s.starts

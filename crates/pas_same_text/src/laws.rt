@@ -4,7 +4,9 @@ ghost use Rattle.pas_profile.specs.declared.name.Name.{Name};
 ghost use Rattle.pas_profile.specs.declared.profile.Profile.{Profile};
 ghost use Rattle.pas_trace.specs.Acts.{Act};
 ghost use Rattle.pas_trace.specs.EveryPlan.{IsThread};
-ghost use Rattle.pas_trace.specs.declared.plan.What.TheVariants.{Raw};
+ghost use Rattle.pas_trace.specs.declared.plan.What.TheVariants.{Alloc, Free, Raw};
+ghost use Rattle.pas_profile.specs.Requests.{route_in};
+ghost use Rattle.pas_profile.specs.declared.directory.Route.{Route};
 ghost use Rattle.pas_profile.specs.Directories.{number_of};
 ghost use Rattle.pas_profile.specs.Profiles.{IsDirectoryOf};
 ghost use Rattle.pas_profile.specs.declared.directory.Directory.{Directory};
@@ -14,7 +16,7 @@ ghost use Rattle.pas_core.specs.Rights.{eligible_bit};
 ghost use Rattle.pas_answers.specs.Answers.{Progress};
 ghost use Rattle.pas_one_text.specs.State.{World};
 ghost use Rattle.pas_one_text.specs.Pages.{is_free, is_kept, is_offered, has_room};
-ghost use Rattle.pas_same_text.specs.Acts.{IsAtRest, StaysSame, StaysSameWhere, HasLogRoom};
+ghost use Rattle.pas_same_text.specs.Acts.{IsAtRest, StaysSame, StaysSameWhere, HasLogRoom, HasCachedSlot};
 ghost use Rattle.pas_same_text.specs.Words.{free_bit};
 
 /// A mark is a line.
@@ -38,10 +40,11 @@ pub fn settling_stays_the_same()
     ensures { (f : Profile) (k : ℕ) → IsThread f k → StaysSame f (Act.Settles k) }
 {}
 
-/// A free by an address is logged at the end of a log with room, or it is answered at once, since its page is none of the region's or its address is no grain's.
-#[tactic(auto, using(crate::proofs::LoggedFrees::raw_same))]
+/// A free into a log with room is logged at its end, or it is answered at once: since its page is none of the region's or its address is no grain's, or since the
+/// request of its name was refused.
 pub fn frees_stay_the_same()
-    ensures { (f : Profile) (line k : ℕ) (block : Name) → IsThread f k → StaysSameWhere (HasLogRoom k) f (Act.Operates (record { line = line; actor = k; what = Raw block })) }
+    ensures raw { (f : Profile) (line k : ℕ) (block : Name) → IsThread f k → StaysSameWhere (HasLogRoom k) f (Act.Operates (record { line = line; actor = k; what = Raw block })) }
+    ensures named { (f : Profile) (line k name : ℕ) → IsThread f k → StaysSameWhere (HasLogRoom k) f (Act.Operates (record { line = line; actor = k; what = Free name })) }
 {}
 
 /// Whenever all actors are at rest and the events, the live blocks and the caches are the same: a grain is free in the text exactly where its bit is set, and a
@@ -52,4 +55,10 @@ pub fn states_are_told()
     ensures keeps { (f : Profile) (p : Progress) (w : World) → IsAtRest f p w → (k page : ℕ) → has_right (part k p.list) page ≡ true → is_kept w page ≡ true }
     ensures offered { (f : Profile) (p : Progress) (w : World) → IsAtRest f p w → (page : ℕ) (d : Directory) → IsDirectoryOf f d → is_offered w d page ≡ true → eligible_bit p.list (number_of d) page ≡ true }
     ensures offers { (f : Profile) (p : Progress) (w : World) → IsAtRest f p w → (page : ℕ) (d : Directory) → IsDirectoryOf f d → eligible_bit p.list (number_of d) page ≡ true → has_room w d page ≡ true → is_offered w d page ≡ true }
+{}
+
+/// A request of a class for which the thread's cache has a slot gives the lowest one, in the same name, and the local allocator is the one used last.
+pub fn cached_slots_stay_the_same()
+    ensures { (f : Profile) (line k name heap size align class : ℕ) → IsThread f k → route_in f size align ≡ Route.Class class
+        → StaysSameWhere (HasCachedSlot heap class k) f (Act.Operates (record { line = line; actor = k; what = Alloc name heap size align })) }
 {}
