@@ -10,3 +10,4 @@ mod KeptPages
 mod RestingPages
 mod SameLocals
 mod CachedSlots
+mod EntryEvents

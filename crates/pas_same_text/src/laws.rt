@@ -1,5 +1,5 @@
 //! What each act owes: from a state of the text that is the replay's it leads to one that is. Each law is the contract of an empty function.
-ghost use Rattle.std.specs.Prelude.{ℕ, ◌+◌, ◌*◌, ◌<◌, ◌≡◌, true};
+ghost use Rattle.std.specs.Prelude.{ℕ, ◌+◌, ◌*◌, ◌<◌, ◌≡◌, ◌∷◌, true};
 ghost use Rattle.pas_profile.specs.declared.name.Name.{Name};
 ghost use Rattle.pas_profile.specs.declared.profile.Profile.{Profile};
 ghost use Rattle.pas_trace.specs.Acts.{Act};
@@ -10,6 +10,12 @@ ghost use Rattle.pas_profile.specs.declared.directory.Route.{Route};
 ghost use Rattle.pas_profile.specs.Directories.{number_of};
 ghost use Rattle.pas_profile.specs.Profiles.{IsDirectoryOf};
 ghost use Rattle.pas_profile.specs.declared.directory.Directory.{Directory};
+ghost use Rattle.pas_profile.specs.declared.event.Event.{Event};
+ghost use Rattle.pas_machine.specs.Machine.{Run};
+ghost use Rattle.pas_free_log.specs.declared.log.Entry.{Entry};
+ghost use Rattle.pas_one_text.specs.Frees.{ends};
+ghost use Rattle.pas_same_text.specs.Same.{lives_in};
+ghost use Rattle.pas_same_text.specs.Entries.{IsShown, IsEntryEvent};
 ghost use Rattle.pas_steps.specs.Lists.{part};
 ghost use Rattle.pas_steps.specs.Views.{has_right};
 ghost use Rattle.pas_core.specs.Rights.{eligible_bit};
@@ -61,4 +67,9 @@ pub fn states_are_told()
 pub fn cached_slots_stay_the_same()
     ensures { (f : Profile) (line k name heap size align class : ℕ) → IsThread f k → route_in f size align ≡ Route.Class class
         → StaysSameWhere (HasCachedSlot heap class k) f (Act.Operates (record { line = line; actor = k; what = Alloc name heap size align })) }
+{}
+
+/// Whatever event the allocator's machine allows for a logged free, it is the one that the text shows for it: the end of its block, or the true reason why none ends.
+pub fn logged_frees_show_the_same()
+    ensures { (f : Profile) (k : ℕ) (entry : Entry) (w : World) → w.live ≡ lives_in w.events → (e : Event) → Run f (e ∷ w.events) → IsEntryEvent k entry w e → IsShown e w (ends f k entry w) }
 {}
