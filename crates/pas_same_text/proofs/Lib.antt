@@ -11,3 +11,4 @@ mod RestingPages
 mod SameLocals
 mod CachedSlots
 mod EntryEvents
+mod FlushEvents

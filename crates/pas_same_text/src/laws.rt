@@ -1,5 +1,5 @@
 //! What each act owes: from a state of the text that is the replay's it leads to one that is. Each law is the contract of an empty function.
-ghost use Rattle.std.specs.Prelude.{ℕ, ◌+◌, ◌*◌, ◌<◌, ◌≡◌, ◌∷◌, true};
+ghost use Rattle.std.specs.Prelude.{ℕ, ◌+◌, ◌*◌, ◌<◌, ◌≡◌, List, ◌∷◌, true};
 ghost use Rattle.pas_profile.specs.declared.name.Name.{Name};
 ghost use Rattle.pas_profile.specs.declared.profile.Profile.{Profile};
 ghost use Rattle.pas_trace.specs.Acts.{Act};
@@ -12,15 +12,16 @@ ghost use Rattle.pas_profile.specs.Profiles.{IsDirectoryOf};
 ghost use Rattle.pas_profile.specs.declared.directory.Directory.{Directory};
 ghost use Rattle.pas_profile.specs.declared.event.Event.{Event};
 ghost use Rattle.pas_machine.specs.Machine.{Run};
+ghost use Rattle.pas_free_log.specs.declared.ending.Outcome.{Outcome};
 ghost use Rattle.pas_free_log.specs.declared.log.Entry.{Entry};
 ghost use Rattle.pas_one_text.specs.Frees.{ends};
 ghost use Rattle.pas_same_text.specs.Same.{lives_in};
-ghost use Rattle.pas_same_text.specs.Entries.{IsShown, IsEntryEvent};
+ghost use Rattle.pas_same_text.specs.Entries.{IsShown, IsEntryEvent, HaveOutcomes, events_of_flush, are_unsized, onto, HasShown};
 ghost use Rattle.pas_steps.specs.Lists.{part};
 ghost use Rattle.pas_steps.specs.Views.{has_right};
 ghost use Rattle.pas_core.specs.Rights.{eligible_bit};
 ghost use Rattle.pas_answers.specs.Answers.{Progress};
-ghost use Rattle.pas_one_text.specs.State.{World};
+ghost use Rattle.pas_one_text.specs.State.{World, each};
 ghost use Rattle.pas_one_text.specs.Pages.{is_free, is_kept, is_offered, has_room};
 ghost use Rattle.pas_same_text.specs.Acts.{IsAtRest, StaysSame, StaysSameWhere, HasLogRoom, HasCachedSlot};
 ghost use Rattle.pas_same_text.specs.Words.{free_bit};
@@ -69,7 +70,10 @@ pub fn cached_slots_stay_the_same()
         → StaysSameWhere (HasCachedSlot heap class k) f (Act.Operates (record { line = line; actor = k; what = Alloc name heap size align })) }
 {}
 
-/// Whatever event the allocator's machine allows for a logged free, it is the one that the text shows for it: the end of its block, or the true reason why none ends.
+/// Whatever event the allocator's machine allows for a logged free, it is the one that the text shows for it: the end of its block, or the true reason why none ends. So a flush
+/// of frees that name no room shows one event for each, in the order of the log.
 pub fn logged_frees_show_the_same()
-    ensures { (f : Profile) (k : ℕ) (entry : Entry) (w : World) → w.live ≡ lives_in w.events → (e : Event) → Run f (e ∷ w.events) → IsEntryEvent k entry w e → IsShown e w (ends f k entry w) }
+    ensures one { (f : Profile) (k : ℕ) (entry : Entry) (w : World) → w.live ≡ lives_in w.events → (e : Event) → Run f (e ∷ w.events) → IsEntryEvent k entry w e → IsShown e w (ends f k entry w) }
+    ensures all { (f : Profile) (k epoch : ℕ) (entries : List Entry) (outcomes : List Outcome) (w : World) → HaveOutcomes entries outcomes → are_unsized entries ≡ true → w.live ≡ lives_in w.events → w.epoch ≡ epoch
+        → Run f (onto (events_of_flush k epoch entries outcomes) w.events) → HasShown (events_of_flush k epoch entries outcomes) w (each (ends f k) entries w) }
 {}
