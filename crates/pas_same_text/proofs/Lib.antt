@@ -12,3 +12,4 @@ mod SameLocals
 mod CachedSlots
 mod EntryEvents
 mod FlushEvents
+mod Flushes

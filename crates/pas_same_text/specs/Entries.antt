@@ -1,5 +1,5 @@
 -- WHAT A LOGGED FREE SHOWS.
-use Rattle.std.specs.Prelude.{ℕ, ◌≡◌, Bool, true, false, not, ◌&&◌, List, [], ◌∷◌, Some}
+use Rattle.std.specs.Prelude.{ℕ, ◌≡◌, Bool, true, false, not, ◌&&◌, List, [], ◌∷◌, ◌++◌, Some}
 use Rattle.pas_profile.specs.Blocks.{address_of}
 use Rattle.pas_profile.specs.declared.event.Event.{Event}
 use Rattle.pas_profile.specs.declared.event.Why.{Why}
@@ -9,7 +9,15 @@ use Rattle.pas_free_log.specs.Flushes.{event_for}
 use Rattle.pas_free_log.specs.Logs.{is_sized}
 use Rattle.pas_free_log.specs.declared.ending.Outcome.{Outcome}
 use Rattle.pas_report.specs.declared.record.Record.{Record}
-use Rattle.pas_one_text.specs.State.{World, live_after}
+use Rattle.pas_cache.specs.Changes.{EmptiesLog}
+use Rattle.pas_free_log.specs.declared.noting.EndedRun.{EndedRun}
+use Rattle.pas_profile.specs.Profiles.{IsValid}
+use Rattle.pas_profile.specs.declared.profile.Profile.{Profile}
+use Rattle.pas_profile.specs.declared.word.Word.TheVariants as Word
+use Rattle.pas_steps.specs.Desks.{triples}
+use Rattle.pas_steps.specs.Lists.{Whole, visible, word_after, Legal}
+use Rattle.pas_steps.specs.declared.step.Made.{Made}
+use Rattle.pas_one_text.specs.State.{World, live_after, log_of}
 use Rattle.pas_one_text.specs.Frees.{is_other_room}
 use Rattle.pas_same_text.specs.Same.{lives_in}
 
@@ -67,3 +75,14 @@ pub record HasShown (evs : List Event) (w w' : World) : Type 0 where
   pub live : w'.live ≡ lives_in w'.events
   pub names : w'.names ≡ w.names
   pub epoch : w'.epoch ≡ w.epoch
+
+-- A log without rooms was emptied by these steps of actor k, which came onto a legal list: the text has shown its events, and has this log.
+pub record IsFlushOf (f : Profile) (k : ℕ) (logged : List Entry) (noted noted' : List EndedRun) (steps : List Made) (l : Whole) (w : World) : Type 0 where
+  pub valid : IsValid f
+  pub legal : Legal f (triples k steps ++ l)
+  pub empties : EmptiesLog k logged noted noted' steps
+  pub unsized : are_unsized logged ≡ true
+  pub events : w.events ≡ visible l
+  pub live : w.live ≡ lives_in w.events
+  pub epoch : w.epoch ≡ word_after l Word.Epoch
+  pub log : log_of w k ≡ logged

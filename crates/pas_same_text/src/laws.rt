@@ -1,5 +1,5 @@
 //! What each act owes: from a state of the text that is the replay's it leads to one that is. Each law is the contract of an empty function.
-ghost use Rattle.std.specs.Prelude.{ℕ, ◌+◌, ◌*◌, ◌<◌, ◌≡◌, List, ◌∷◌, true};
+ghost use Rattle.std.specs.Prelude.{ℕ, ◌+◌, ◌*◌, ◌<◌, ◌≡◌, List, ◌∷◌, ◌++◌, true};
 ghost use Rattle.pas_profile.specs.declared.name.Name.{Name};
 ghost use Rattle.pas_profile.specs.declared.profile.Profile.{Profile};
 ghost use Rattle.pas_trace.specs.Acts.{Act};
@@ -14,10 +14,13 @@ ghost use Rattle.pas_profile.specs.declared.event.Event.{Event};
 ghost use Rattle.pas_machine.specs.Machine.{Run};
 ghost use Rattle.pas_free_log.specs.declared.ending.Outcome.{Outcome};
 ghost use Rattle.pas_free_log.specs.declared.log.Entry.{Entry};
-ghost use Rattle.pas_one_text.specs.Frees.{ends};
+ghost use Rattle.pas_one_text.specs.Frees.{ends, flushes};
 ghost use Rattle.pas_same_text.specs.Same.{lives_in};
-ghost use Rattle.pas_same_text.specs.Entries.{IsShown, IsEntryEvent, HaveOutcomes, events_of_flush, are_unsized, onto, HasShown};
-ghost use Rattle.pas_steps.specs.Lists.{part};
+ghost use Rattle.pas_same_text.specs.Entries.{IsShown, IsEntryEvent, HaveOutcomes, events_of_flush, are_unsized, onto, HasShown, IsFlushOf};
+ghost use Rattle.pas_steps.specs.Lists.{Whole, part, visible};
+ghost use Rattle.pas_steps.specs.Desks.{triples};
+ghost use Rattle.pas_steps.specs.declared.step.Made.{Made};
+ghost use Rattle.pas_free_log.specs.declared.noting.EndedRun.{EndedRun};
 ghost use Rattle.pas_steps.specs.Views.{has_right};
 ghost use Rattle.pas_core.specs.Rights.{eligible_bit};
 ghost use Rattle.pas_answers.specs.Answers.{Progress};
@@ -76,4 +79,11 @@ pub fn logged_frees_show_the_same()
     ensures one { (f : Profile) (k : ℕ) (entry : Entry) (w : World) → w.live ≡ lives_in w.events → (e : Event) → Run f (e ∷ w.events) → IsEntryEvent k entry w e → IsShown e w (ends f k entry w) }
     ensures all { (f : Profile) (k epoch : ℕ) (entries : List Entry) (outcomes : List Outcome) (w : World) → HaveOutcomes entries outcomes → are_unsized entries ≡ true → w.live ≡ lives_in w.events → w.epoch ≡ epoch
         → Run f (onto (events_of_flush k epoch entries outcomes) w.events) → HasShown (events_of_flush k epoch entries outcomes) w (each (ends f k) entries w) }
+{}
+
+/// The events of a flush of frees that name no room are those that the text shows for its log, and after it the same blocks live, in the same epoch.
+pub fn flushes_show_the_same()
+    ensures events { (f : Profile) (k : ℕ) (logged : List Entry) (noted noted' : List EndedRun) (steps : List Made) (l : Whole) (w : World) → IsFlushOf f k logged noted noted' steps l w → (flushes f k w).events ≡ visible (triples k steps ++ l) }
+    ensures live { (f : Profile) (k : ℕ) (logged : List Entry) (noted noted' : List EndedRun) (steps : List Made) (l : Whole) (w : World) → IsFlushOf f k logged noted noted' steps l w → (flushes f k w).live ≡ lives_in (flushes f k w).events }
+    ensures epoch { (f : Profile) (k : ℕ) (logged : List Entry) (noted noted' : List EndedRun) (steps : List Made) (l : Whole) (w : World) → IsFlushOf f k logged noted noted' steps l w → (flushes f k w).epoch ≡ w.epoch }
 {}
