@@ -1,13 +1,13 @@
 -- Lists of caches, of which one becomes another.
-use Rattle.std.proofs.Common.{◌≡◌, ℕ, zero, suc, ◌+◌, ◌-◌, ◌≤◌, ◌≢◌, ◌==◌, Bool, true, false, if◌then◌else◌, List, [], ◌∷◌, ◌++◌, length, refl, ap, sym, ◌∙◌, subst, arith}
-use Rattle.std.proofs.lemmas.Bool.{eq-eqb, eqb-true, ne_eqb, eqb-false, false≢true}
+use Rattle.std.proofs.Common.{◌≡◌, ℕ, suc, ◌-◌, ◌≤◌, ◌≢◌, ◌==◌, Bool, true, false, if◌then◌else◌, List, [], ◌∷◌, ◌++◌, length, refl, ap, sym, ◌∙◌, subst, arith}
+use Rattle.std.proofs.lemmas.Bool.{eq-eqb, eqb-true, ne_eqb, eqb-false}
 use Rattle.std.specs.List.{flat_map}
 use Rattle.pas_profile.specs.declared.profile.Profile.{Profile}
 use Rattle.pas_cache.specs.Contents.{Cached}
 use Rattle.pas_trace.specs.EveryPlan.{IsThread}
 use Rattle.pas_answers.specs.Answers.{Caches}
 use Rattle.pas_answers.specs.Answers.{with_cache as with_cached}
-use Rattle.pas_one_text.specs.State.{Local, Cache, no_cache, cache_in, with_cache}
+use Rattle.pas_one_text.specs.State.{Local, Cache, cache_in, with_cache}
 use Rattle.pas_same_text.specs.Same.{IsSameCache, AreSameCaches}
 
 -- the local allocators in all of them
@@ -71,8 +71,8 @@ each_with : (f : Profile) (caches : Caches) (own : List Cache) (j k : ℕ) (c : 
     → IsSameCache (with_cached caches k c j) (cache_in (with_cache own k new) j)
 each_with f caches own j k c new is of same new_same true e =
     let at : IsSameCache (with_cached caches k c k) (cache_in (with_cache own k new) k) =
-        subst (λ (x : Cached). IsSameCache x (cache_in (with_cache own k new) k)) (sym (same_own caches k c))
-        (subst (IsSameCache c) (sym (own_with own k new of.0 (omega (arith, of.1, same.many)))) new_same) in
+    subst (λ (x : Cached). IsSameCache x (cache_in (with_cache own k new) k)) (sym (same_own caches k c))
+    (subst (IsSameCache c) (sym (own_with own k new of.0 (omega (arith, of.1, same.many)))) new_same) in
     subst (λ (i : ℕ). IsSameCache (with_cached caches k c i) (cache_in (with_cache own k new) i)) (sym (eqb-true j k e)) at
 each_with f caches own j k c new is of same new_same false e =
     let ne : j ≢ k = eqb-false j k e in

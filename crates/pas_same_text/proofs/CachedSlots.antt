@@ -1,8 +1,7 @@
 -- A request of a class for which the thread's cache has a slot.
-use Rattle.std.proofs.Common.{◌≡◌, ℕ, zero, suc, ◌+◌, ◌*◌, ◌/◌, ◌%◌, ◌<◌, ◌≤◌, ◌≢◌, ◌==◌, Bool, true, false, not, ◌&&◌, if◌then◌else◌, List, [], ◌∷◌, ◌++◌, reverse, Option, None, Some, Result, Ok, Err, ◌⊎◌, inl, inr, refl, ap, sym, ◌∙◌, subst, arith}
-use Rattle.std.proofs.lemmas.Bool.{eqb-true, false≢true, true≢false}
+use Rattle.std.proofs.Common.{◌≡◌, ℕ, zero, suc, ◌+◌, ◌*◌, ◌<◌, ◌==◌, Bool, true, false, not, ◌&&◌, if◌then◌else◌, List, [], ◌∷◌, ◌++◌, Option, None, Some, Result, Ok, Err, inl, inr, refl, ap, sym, ◌∙◌, subst, arith}
+use Rattle.std.proofs.lemmas.Bool.{eqb-true, false≢true}
 use Rattle.std.specs.List.{find}
-use Rattle.pas_bits.specs.Bits.{has_bit}
 use Rattle.pas_bits.specs.Masks.{is_set, HasMember, IsLowestSet}
 use Rattle.pas_profile.specs.Blocks.{address_of}
 use Rattle.pas_profile.specs.Classes.{class_size}
@@ -18,8 +17,8 @@ use Rattle.pas_profile.specs.declared.profile.Profile.{Profile}
 use Rattle.pas_profile.specs.declared.word.Word.TheVariants as Word
 use Rattle.pas_machine.specs.State.{gives_in}
 use Rattle.pas_machine.specs.Machine.{Run}
-use Rattle.pas_steps.specs.Desks.{made, triple, triples}
-use Rattle.pas_steps.specs.Lists.{Whole, part, visible, Legal}
+use Rattle.pas_steps.specs.Desks.{made}
+use Rattle.pas_steps.specs.Lists.{part, visible}
 use Rattle.pas_steps.specs.Views.{usable_by_kind}
 use Rattle.pas_steps.specs.declared.step.Made.{Made}
 use Rattle.pas_steps.specs.declared.step.Step.TheVariants.{Look, Give}
@@ -37,11 +36,11 @@ use Rattle.pas_trace.specs.EveryPlan.{IsThread}
 use Rattle.pas_trace.specs.Acts.{Act}
 use Rattle.pas_trace.specs.declared.plan.What.TheVariants.{Alloc}
 use Rattle.pas_answers.specs.Answers.{Progress, Named, named, Answer, having, IsServed, after_answer, said_of_request, name_of}
-use Rattle.pas_one_text.specs.State.{Local, World, Cache, cache_of, locals_of, set_locals, set_cache}
+use Rattle.pas_one_text.specs.State.{Local, World, cache_of, locals_of}
 use Rattle.pas_one_text.specs.Classes.{is_for, others, gives_first, gives_up, fetches, serves_class, serves_class_by}
 use Rattle.pas_one_text.specs.Pages.{each_of, is_free, is_kept, is_of, has_room, is_offered}
-use Rattle.pas_one_text.specs.Searches.{some_of, address_on, name_at, gives, gives_block}
-use Rattle.pas_same_text.specs.Same.{IsSame, HasSame, IsSameCache, IsSameLocal, AreSameLocals, ArePagesSame, IsRising, lives_in, has_number}
+use Rattle.pas_one_text.specs.Searches.{some_of, address_on}
+use Rattle.pas_same_text.specs.Same.{IsSame, HasSame, IsSameCache, IsSameLocal, AreSameLocals, IsRising, has_number}
 use Rattle.pas_one_text.specs.Order.{serves}
 use Rattle.pas_same_text.specs.Acts.{IsBetween, StaysSameWhere, HasCachedSlot}
 use Rattle.pas_same_text.proofs.CacheLists.{same_with}
@@ -259,25 +258,25 @@ to_given f k name heap class p p' w s valid is between after same there member o
     let g = o.gives in
     let steps_are : o.steps ≡ give_steps o.block g.answer s.page g.start g.word = g.steps_are in
     let reached : p' ≡ given_to p k name o.block g.answer s.page g.start g.word o.cache =
-        o.after ∙ ap (λ (ms : List Made). after_with p k ms None (named name (Some o.block.name) ∷ p.names) o.cache) steps_are in
+    o.after ∙ ap (λ (ms : List Made). after_with p k ms None (named name (Some o.block.name) ∷ p.names) o.cache) steps_are in
     let kept : o.cache ≡ record (p.caches k) { locals = others_than s.heap s.class (p.caches k).locals ++ o.rest ∷ [] } =
-        o.cache_is ∙ (ap (λ (x : ℕ). record (p.caches k) { locals = others_than x class (p.caches k).locals ++ o.rest ∷ [] }) (sym of_heap)
-        ∙ ap (λ (x : ℕ). record (p.caches k) { locals = others_than s.heap x (p.caches k).locals ++ o.rest ∷ [] }) (sym of_class)) in
+    o.cache_is ∙ (ap (λ (x : ℕ). record (p.caches k) { locals = others_than x class (p.caches k).locals ++ o.rest ∷ [] }) (sym of_heap)
+    ∙ ap (λ (x : ℕ). record (p.caches k) { locals = others_than s.heap x (p.caches k).locals ++ o.rest ∷ [] }) (sym of_class)) in
     let given : Given f k name p w s o.rest l h.head h.more o.block g.answer s.page g.start g.word o.cache = record {
-        valid = valid;
-        thread = is;
-        same = same;
-        between = between;
-        after = subst (IsBetween f) reached after;
-        local = found.same;
-        slots = h.is;
-        lowest = g.lowest;
-        without = g.rest;
-        address = g.address;
-        room = g.room;
-        heap = g.heap;
-        cache = kept;
-      } in
+      valid = valid;
+      thread = is;
+      same = same;
+      between = between;
+      after = subst (IsBetween f) reached after;
+      local = found.same;
+      slots = h.is;
+      lowest = g.lowest;
+      without = g.rest;
+      address = g.address;
+      room = g.room;
+      heap = g.heap;
+      cache = kept;
+    } in
     subst (λ (x : World). IsSame f p' x) (sym (served_text f k name heap class w l h.head h.more found.is h.is))
     (subst (λ (q : Progress). IsSame f q (gives_first k name l (h.head ∷ h.more) w)) (sym reached)
     (given_same f k name p w s o.rest l h.head h.more o.block g.answer s.page g.start g.word o.cache given))
@@ -342,7 +341,7 @@ cached_same f line k name heap size align class is route p p' w has taken =
     let a : Answer = taken.advances.0 in
     let served : IsServed f k (record { name = name; heap = heap; size = size; align = align }) (having p.names (part k p.list) (p.caches k)) a = taken.advances.1 in
     let sv : ServesClass (filling_in (directory_for f heap size align) class) f (p.caches k) a.cache a.steps served.answer =
-        subst (λ (r : Route). ServesBy r f (wanted_for f heap size align) None (p.caches k) a.cache a.steps served.answer) route served.serves in
+    subst (λ (r : Route). ServesBy r f (wanted_for f heap size align) None (p.caches k) a.cache a.steps served.answer) route served.serves in
     let o : Served f k name heap class p p' w has.0 = served_by f k name heap size align class p p' w has.0 has.1 has.2 a served taken.advances.2 sv sv.locals.obtained in
     subst (λ (r : Route). IsSame f p' (serves f k name heap r (room_in f size align) align w)) (sym route)
     (to_given f k name heap class p p' w has.0 taken.valid is taken.before taken.after taken.same has.1 has.2 o)

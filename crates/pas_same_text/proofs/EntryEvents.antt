@@ -1,6 +1,6 @@
 -- What a logged free shows: the event that the machine allows it.
-use Rattle.std.proofs.Common.{◌≡◌, ℕ, zero, suc, ◌+◌, ◌*◌, ◌/◌, ◌<◌, ◌≤◌, ◌≢◌, ◌==◌, nat_lt, Bool, true, false, not, ◌&&◌, if◌then◌else◌, List, [], ◌∷◌, Option, None, Some, refl, ap, sym, ◌∙◌, subst, arith}
-use Rattle.std.proofs.lemmas.Bool.{eq-eqb, eqb-true, ne_eqb, eqb-false, false≢true, and_from}
+use Rattle.std.proofs.Common.{◌≡◌, ℕ, ◌<◌, ◌≤◌, ◌==◌, nat_lt, Bool, true, false, not, ◌&&◌, if◌then◌else◌, List, [], ◌∷◌, Option, None, Some, refl, ap, sym, ◌∙◌, subst, arith}
+use Rattle.std.proofs.lemmas.Bool.{eq-eqb, eqb-true, ne_eqb, eqb-false, and_from}
 use Rattle.std.proofs.lemmas.Bool.Decides.{nat_tests}
 use Rattle.std.specs.List.{find, filter}
 use Rattle.pas_profile.specs.Blocks.{address_of}
@@ -15,9 +15,7 @@ use Rattle.pas_machine.specs.State.{Live, live_in, backed_in, gives_in, ends_in}
 use Rattle.pas_machine.proofs.LiveBlocks.{all_counted}
 use Rattle.pas_free_log.specs.declared.log.Entry.{Entry}
 use Rattle.pas_free_log.specs.Logs.{is_sized}
-use Rattle.pas_report.specs.declared.record.Record.{Record}
-use Rattle.pas_answers.specs.Answers.{Named}
-use Rattle.pas_one_text.specs.State.{World, each, is_at, block_at, live_after, shows}
+use Rattle.pas_one_text.specs.State.{World, each, is_at, block_at, shows}
 use Rattle.pas_one_text.specs.Indexes.{notes}
 use Rattle.pas_one_text.specs.Pages.{is_empty, is_hinted, hints, minds}
 use Rattle.pas_one_text.specs.Frees.{pages_of, reason, is_other_room, ends_block, ends_if, rejects, takes_effect, ends}
@@ -135,8 +133,8 @@ module _ (f : Profile) (k : ℕ) (entry : Entry) (w : World) (live : w.live ≡ 
       let o : HasOtherRoom w.events entry.name room = other.1 in
       let differs : not (o.block.block.room == entry.room) ≡ true = ap not (ne_eqb o.block.block.room entry.room (λ same. o.differs (same ∙ sym is.1))) in
       let text : ends f k entry w ≡ rejects k entry.name (Why.SizeDiffers room) w =
-          lives_text f k entry w o.block true live o.lives o.turn_is (and_from (is_sized entry) (not (o.block.block.room == entry.room)) is.0 differs)
-          ∙ ap (λ (r : ℕ). rejects k entry.name (Why.SizeDiffers r) w) (sym is.1) in
+      lives_text f k entry w o.block true live o.lives o.turn_is (and_from (is_sized entry) (not (o.block.block.room == entry.room)) is.0 differs)
+      ∙ ap (λ (r : ℕ). rejects k entry.name (Why.SizeDiffers r) w) (sym is.1) in
       as_shown (Event.Reject k entry.name (Why.SizeDiffers room)) w (ends f k entry w) (rejects k entry.name (Why.SizeDiffers room) w) text (shown_now (Event.Reject k entry.name (Why.SizeDiffers room)) w)
 
   end_shown : IsLive w.events entry.name → ((b : Live) → live_in w.events (address_of entry.name) ≡ Some b → is_other_room entry b.block ≡ false) → IsShown (Event.End k entry.name w.epoch) w (ends f k entry w)

@@ -1,13 +1,11 @@
 -- What a flush shows: one event for each logged free, in the order of the log.
-use Rattle.std.proofs.Common.{◌≡◌, ℕ, ◌==◌, nat_lt, Bool, true, false, not, ◌&&◌, if◌then◌else◌, List, [], ◌∷◌, ◌++◌, map, reverse, refl, ap, sym, ◌∙◌, subst}
+use Rattle.std.proofs.Common.{◌≡◌, ℕ, ◌==◌, nat_lt, Bool, true, false, not, ◌&&◌, if◌then◌else◌, List, [], ◌∷◌, refl, ap, sym, ◌∙◌, subst}
 use Rattle.std.proofs.lemmas.Bool.{false≢true, true≢false}
 use Rattle.pas_profile.specs.Lives.{turn_of}
 use Rattle.pas_profile.specs.declared.event.Event.{Event}
 use Rattle.pas_profile.specs.declared.event.Why.{Why}
 use Rattle.pas_profile.specs.declared.profile.Profile.{Profile}
 use Rattle.pas_machine.specs.Machine.{Run}
-use Rattle.pas_machine.specs.State.{Live, live_in}
-use Rattle.pas_steps.specs.Events.{reason_of}
 use Rattle.pas_free_log.specs.Endings.{reason_by}
 use Rattle.pas_free_log.specs.Flushes.{event_for}
 use Rattle.pas_free_log.specs.Logs.{is_sized}
@@ -15,7 +13,7 @@ use Rattle.pas_free_log.specs.declared.ending.Outcome.{Outcome}
 use Rattle.pas_free_log.specs.declared.ending.Outcome.TheVariants.{Ended, Refused}
 use Rattle.pas_free_log.specs.declared.log.Entry.{Entry}
 use Rattle.pas_one_text.specs.State.{World, each, live_after}
-use Rattle.pas_one_text.specs.Frees.{is_other_room, ends}
+use Rattle.pas_one_text.specs.Frees.{ends}
 use Rattle.pas_same_text.specs.Entries.{IsShown, IsEntryReason, IsEntryEvent, HaveOutcomes, are_unsized, onto, events_of_flush, HasShown}
 use Rattle.pas_same_text.specs.Same.{lives_in}
 use Rattle.pas_same_text.proofs.EntryEvents.{entry_shown}

@@ -1,15 +1,14 @@
 -- The events of a flush, by its steps and in the text.
-use Rattle.std.proofs.Common.{◌≡◌, ℕ, Bool, true, false, List, [], ◌∷◌, ◌++◌, map, reverse, Some, None, Option, refl, ap, sym, ◌∙◌, subst, append_assoc}
+use Rattle.std.proofs.Common.{◌≡◌, ℕ, true, List, [], ◌∷◌, ◌++◌, map, reverse, refl, ap, sym, ◌∙◌, subst, append_assoc}
 use Rattle.std.proofs.lemmas.Grind.{reverse_onto}
-use Rattle.std.proofs.lemmas.List.{reverse-append, reverse-reverse}
-use Rattle.pas_profile.specs.Profiles.{IsValid}
+use Rattle.std.proofs.lemmas.List.{reverse-reverse}
 use Rattle.pas_profile.specs.declared.event.Event.{Event}
 use Rattle.pas_profile.specs.declared.profile.Profile.{Profile}
 use Rattle.pas_profile.specs.declared.word.Word.TheVariants as Word
 use Rattle.pas_machine.specs.Machine.{Run}
 use Rattle.pas_steps.specs.Desks.{made, triple, triples}
 use Rattle.pas_steps.specs.Events.{event_of, events_by, with_event}
-use Rattle.pas_steps.specs.Lists.{Whole, part, visible, word_after, Legal}
+use Rattle.pas_steps.specs.Lists.{Whole, part, visible, Legal}
 use Rattle.pas_steps.specs.Views.{View, epoch_of}
 use Rattle.pas_steps.specs.declared.step.Made.{Made}
 use Rattle.pas_steps.specs.declared.step.Step.TheVariants.{Look}
@@ -21,8 +20,7 @@ use Rattle.pas_free_log.specs.Flushes.{Settled, shown_for}
 use Rattle.pas_free_log.specs.declared.ending.Outcome.{Outcome}
 use Rattle.pas_free_log.specs.declared.log.Entry.{Entry}
 use Rattle.pas_free_log.specs.declared.noting.EndedRun.{EndedRun}
-use Rattle.pas_cache.specs.Changes.{EmptiesLog}
-use Rattle.pas_one_text.specs.State.{World, each, log_of, set_log}
+use Rattle.pas_one_text.specs.State.{World, each, set_log}
 use Rattle.pas_one_text.specs.Frees.{ends, flushes}
 use Rattle.pas_same_text.specs.Entries.{HaveOutcomes, events_of_flush, are_unsized, onto, HasShown, IsFlushOf}
 use Rattle.pas_same_text.specs.Same.{lives_in}
@@ -85,8 +83,8 @@ module _ (f : Profile) (k : ℕ) (logged : List Entry) (noted noted' : List Ende
   epoch_now : w.epoch ≡ is.empties.epoch
   epoch_now =
       let at : Legal f (triple k (made (Look Word.Epoch) is.empties.epoch) ∷ l) =
-          legal_before f (triples k is.empties.entries) (triple k (made (Look Word.Epoch) is.empties.epoch) ∷ l)
-          (subst (Legal f) (sym (triples_append k is.empties.entries (made (Look Word.Epoch) is.empties.epoch ∷ []) l)) look_legal) in
+      legal_before f (triples k is.empties.entries) (triple k (made (Look Word.Epoch) is.empties.epoch) ∷ l)
+      (subst (Legal f) (sym (triples_append k is.empties.entries (made (Look Word.Epoch) is.empties.epoch ∷ []) l)) look_legal) in
       is.epoch ∙ sym at.0.answer_is
 
   abbrev shown : List Event
@@ -103,7 +101,6 @@ module _ (f : Profile) (k : ℕ) (logged : List Entry) (noted noted' : List Ende
       visible_steps k steps l
       ∙ (ap (λ (evs : List Event). evs ++ visible l) (is.empties.events (part k l))
       ∙ (ap (λ (es : List Event). map (shown_for k is.empties.epoch) is.empties.settled ++ es) (sym is.events) ∙ sym (shown_are w.events)))
-
 
   text_shown : HasShown shown (set_log k [] w) (each (ends f k) (entries_of in_order) (set_log k [] w))
   text_shown = flush_shown f k is.empties.epoch (entries_of in_order) (outcomes_of in_order) (set_log k [] w) (paired in_order)

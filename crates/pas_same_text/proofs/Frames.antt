@@ -1,5 +1,5 @@
 -- What an act that changes no page keeps.
-use Rattle.std.proofs.Common.{◌≡◌, ℕ, ◌/◌, ◌%◌, ◌==◌, Bool, true, false, not, ◌&&◌, if◌then◌else◌, List, [], ◌∷◌, ◌++◌, refl, ap, sym, ◌∙◌, subst}
+use Rattle.std.proofs.Common.{◌≡◌, ℕ, ◌/◌, ◌%◌, ◌==◌, Bool, true, false, not, ◌&&◌, if◌then◌else◌, List, ◌∷◌, refl, ap, sym, ◌∙◌}
 use Rattle.pas_profile.specs.Directories.{number_of}
 use Rattle.pas_profile.specs.declared.directory.Directory.{Directory}
 use Rattle.pas_profile.specs.declared.event.Event.{Event}
@@ -13,8 +13,8 @@ use Rattle.pas_steps.specs.Lists.{Whole, word_after, visible}
 use Rattle.pas_steps.specs.Desks.{made, triple}
 use Rattle.pas_steps.specs.declared.step.Step.TheVariants.{Look, Tick}
 use Rattle.pas_core.specs.Rights.{empty_bit, eligible_bit}
-use Rattle.pas_one_text.specs.State.{Local, Cache, World}
-use Rattle.pas_one_text.specs.Pages.{is_offered, is_hinted, is_same, is_free_of, each_of}
+use Rattle.pas_one_text.specs.State.{Local, World}
+use Rattle.pas_one_text.specs.Pages.{is_offered, is_same, is_free_of, each_of}
 use Rattle.pas_bits.specs.Runs.{meets_page}
 use Rattle.pas_profile.specs.Blocks.{grain_of, length_of}
 use Rattle.pas_machine.specs.State.{deed_in}

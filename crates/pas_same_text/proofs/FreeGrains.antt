@@ -1,9 +1,7 @@
 -- A grain is free in the text exactly where its bit is set, and a page is kept exactly where an actor has its right: whenever all actors are at rest.
-use Rattle.std.proofs.Common.{◌≡◌, ℕ, zero, suc, ◌+◌, ◌*◌, ◌/◌, ◌%◌, ◌<◌, ◌≤◌, ◌≢◌, ◌==◌, Bool, true, false, not, ◌&&◌, ◌||◌, List, [], ◌∷◌, length, Some, ◌⊎◌, inl, inr, refl, ap, sym, ◌∙◌, subst, arith}
-use Rattle.std.specs.Prelude.{All}
-use Rattle.std.proofs.lemmas.Bool.{eq-eqb, false≢true, true≢false, false_from_ne_true, cases_lt}
-use Rattle.std.proofs.lemmas.List.Elements.{All-head, All-tail}
-use Rattle.std.specs.List.{list_any, filter}
+use Rattle.std.proofs.Common.{◌≡◌, ℕ, ◌+◌, ◌*◌, ◌/◌, ◌<◌, ◌≤◌, ◌≢◌, Bool, true, false, not, ◌&&◌, List, length, Some, ◌⊎◌, inl, inr, refl, ap, sym, ◌∙◌, subst, arith}
+use Rattle.std.proofs.lemmas.Bool.{eq-eqb, false≢true, false_from_ne_true, cases_lt}
+use Rattle.std.specs.List.{list_any}
 use Rattle.pas_bits.specs.Runs.{in_run, meets_page}
 use Rattle.pas_bits.proofs.Runs.{run_meets}
 use Rattle.pas_profile.specs.Blocks.{address_of, length_of}
@@ -12,23 +10,19 @@ use Rattle.pas_profile.specs.Profiles.{IsValid}
 use Rattle.pas_profile.specs.declared.name.Block.{Block}
 use Rattle.pas_profile.specs.declared.profile.Profile.{Profile}
 use Rattle.pas_machine.specs.State.{Live, live_in}
-use Rattle.pas_machine.specs.Machine.{Run}
 use Rattle.pas_machine.proofs.LiveBlocks.{lives_where}
-use Rattle.pas_steps.specs.Lists.{Whole, part, word_after, visible}
+use Rattle.pas_steps.specs.Lists.{part, visible}
 use Rattle.pas_steps.specs.Views.{View, holds, has_right}
-use Rattle.pas_core.specs.Good.{IsPartOf, IsFreeGrain, IsHeldByOne, IsCoveredByOne, IsInOnePlace}
+use Rattle.pas_core.specs.Good.{IsPartOf, IsInOnePlace}
 use Rattle.pas_core.proofs.MachineRuns.{runs, in_one_place}
 use Rattle.pas_core.proofs.Offers.{no_other_actor}
-use Rattle.pas_segregated.specs.declared.slots.Slots.{Slots}
-use Rattle.pas_cache.specs.Locals.{IsLocal, any_covers, any_keeps, keeps_right}
 use Rattle.pas_trace.specs.EveryPlan.{IsThread}
 use Rattle.pas_answers.specs.Answers.{Progress}
-use Rattle.pas_one_text.specs.State.{Local, World, cache_in}
-use Rattle.pas_one_text.specs.Pages.{is_free, is_kept, is_covered, is_cached, blocks_on, locals_on}
-use Rattle.pas_same_text.specs.Same.{HasSame, IsSameLocal, AreSameLocals, lives_in}
+use Rattle.pas_one_text.specs.State.{World, cache_in}
+use Rattle.pas_one_text.specs.Pages.{is_free, is_covered, is_cached, blocks_on, locals_on}
+use Rattle.pas_same_text.specs.Same.{HasSame, lives_in}
 use Rattle.pas_same_text.specs.Acts.{IsBetween}
 use Rattle.pas_same_text.specs.Words.{free_bit}
-use Rattle.pas_same_text.proofs.CacheLists.{all_locals}
 use Rattle.pas_same_text.proofs.LiveBlocks.{LivesSo, lives_so, lives_listed}
 use Rattle.pas_same_text.proofs.Slots.{has_grain, grains_same, IsOfCache, of_cache, in_all, cached_any, any_cached}
 use Rattle.pas_same_text.proofs.Tests.{and_second, any_filtered, filtered_any}
@@ -64,11 +58,11 @@ module _ (f : Profile) (p : Progress) (w : World) (valid : IsValid f) (between :
   covered_none : (page g : ℕ) → ((address : ℕ) (b : Live) → live_in (visible p.list) address ≡ Some b → IsPartOf g address b → ⊥) → is_covered (blocks_on w page) g ≡ false
   covered_none page g none = false_from_ne_true (is_covered (blocks_on w page) g) (λ h.
       let both : list_any (λ x. meets_page (first_grain x.name) (length_of x) page && in_run (first_grain x.name) (length_of x) g) w.live ≡ true =
-          any_filtered (λ x. in_run (first_grain x.name) (length_of x) g) (λ x. meets_page (first_grain x.name) (length_of x) page) w.live h in
+      any_filtered (λ x. in_run (first_grain x.name) (length_of x) g) (λ x. meets_page (first_grain x.name) (length_of x) page) w.live h in
       let any : list_any (λ x. meets_page (first_grain x.name) (length_of x) page && in_run (first_grain x.name) (length_of x) g) (lives_in (visible p.list)) ≡ true =
-          subst (λ (bs : List Block). list_any (λ x. meets_page (first_grain x.name) (length_of x) page && in_run (first_grain x.name) (length_of x) g) bs ≡ true) live_is both in
+      subst (λ (bs : List Block). list_any (λ x. meets_page (first_grain x.name) (length_of x) page && in_run (first_grain x.name) (length_of x) g) bs ≡ true) live_is both in
       let o : LivesSo (visible p.list) (λ x. meets_page (first_grain x.name) (length_of x) page && in_run (first_grain x.name) (length_of x) g) =
-          lives_so f (visible p.list) (λ x. meets_page (first_grain x.name) (length_of x) page && in_run (first_grain x.name) (length_of x) g) (runs f p.list valid between.legal) any in
+      lives_so f (visible p.list) (λ x. meets_page (first_grain x.name) (length_of x) page && in_run (first_grain x.name) (length_of x) g) (runs f p.list valid between.legal) any in
       none o.address o.live o.lives
       (ap (λ (a : ℕ). in_run (a / 16) (length_of o.live.block) g) (sym o.at) ∙ and_second (meets_page (first_grain o.live.block.name) (length_of o.live.block) page) (in_run (first_grain o.live.block.name) (length_of o.live.block) g) o.so))
 

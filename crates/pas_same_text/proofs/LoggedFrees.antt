@@ -1,9 +1,8 @@
 -- Frees that are answered at once, and frees into a log with room.
-use Rattle.std.proofs.Common.{◌≡◌, ℕ, ◌+◌, ◌*◌, ◌/◌, ◌%◌, ◌<◌, ◌≤◌, ◌≢◌, ◌==◌, nat_le, nat_lt, Bool, true, false, ◌&&◌, if◌then◌else◌, List, [], ◌∷◌, ◌++◌, length, reverse, Option, None, Some, ◌⊎◌, inl, inr, refl, ap, sym, ◌∙◌, subst, arith}
-use Rattle.std.proofs.lemmas.Bool.{eq-eqb, eqb-true, ne_eqb, eqb-false, false_from_ne_true}
+use Rattle.std.proofs.Common.{◌≡◌, ℕ, ◌+◌, ◌*◌, ◌/◌, ◌%◌, ◌<◌, ◌≤◌, ◌==◌, nat_le, nat_lt, Bool, true, false, ◌&&◌, if◌then◌else◌, List, [], ◌∷◌, ◌++◌, length, Option, None, Some, inl, inr, refl, ap, sym, ◌∙◌, subst, arith}
+use Rattle.std.proofs.lemmas.Bool.{eq-eqb, ne_eqb, false_from_ne_true}
 use Rattle.std.proofs.lemmas.Bool.Decides.{nat_tests}
 use Rattle.pas_profile.specs.Blocks.{address_of}
-use Rattle.pas_profile.specs.Profiles.{IsPage}
 use Rattle.pas_profile.specs.declared.event.FreeFault.{FreeFault}
 use Rattle.pas_profile.specs.declared.event.FreeFault.TheVariants.{Outside, Unaligned}
 use Rattle.pas_profile.specs.declared.name.Name.{Name}
@@ -24,11 +23,10 @@ use Rattle.pas_trace.specs.Acts.{Act}
 use Rattle.pas_trace.specs.EveryPlan.{IsThread}
 use Rattle.pas_trace.specs.declared.plan.What.TheVariants.{Free, Raw}
 use Rattle.pas_answers.specs.Answers.{Progress, Named, Answer, IsFreed, IsFreedBy, standing_for, with_records, with_steps, records_of, said_by, said_of_fault}
-use Rattle.pas_answers.specs.Answers.{with_cache as with_cached}
-use Rattle.pas_one_text.specs.State.{World, Cache, cache_of, set_cache, set_log, log_of, says}
+use Rattle.pas_one_text.specs.State.{World, Cache, cache_of, set_cache, log_of, says}
 use Rattle.pas_one_text.specs.Frees.{adds, logs, frees, frees_what, frees_named, refuses_free, flushes}
 use Rattle.pas_same_text.specs.Same.{IsSame, IsSameCache}
-use Rattle.pas_same_text.specs.Acts.{IsTaken, StaysSameWhere, HasLogRoom}
+use Rattle.pas_same_text.specs.Acts.{StaysSameWhere, HasLogRoom}
 use Rattle.pas_same_text.proofs.CacheLists.{same_with, same_kept}
 use Rattle.pas_same_text.proofs.Frames.{unchanged, pages_next}
 use Rattle.pas_same_text.proofs.SmallActs.{records_next, cache_state}
@@ -116,7 +114,7 @@ logged_same f k name p w c' steps is same room takes =
     let to = logged_cache f k (p.caches k) c' (entry_of name) steps room takes in
     let inside = page_inside f.pages (address_of name) takes.region.page.0 takes.region.page.1 in
     let text : frees f k (entry_of name) w ≡ adds k (entry_of name) w =
-        freed_is f k (entry_of name) w true true inside (eq-eqb (address_of name % 16) 0 takes.region.aligned) ∙ room_is f k (entry_of name) p w is same room in
+    freed_is f k (entry_of name) w true true inside (eq-eqb (address_of name % 16) 0 takes.region.aligned) ∙ room_is f k (entry_of name) p w is same room in
     subst (λ (x : World). IsSame f (after_with p k steps None p.names c') x) (sym text)
     (subst (λ (ms : List Made). IsSame f (after_with p k ms None p.names c') (adds k (entry_of name) w)) (sym to.0)
     (subst (λ (c : Cached). IsSame f (after_with p k [] None p.names c) (adds k (entry_of name) w)) (sym to.1) (added_same f k (entry_of name) p w is same)))

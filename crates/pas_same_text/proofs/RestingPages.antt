@@ -1,6 +1,6 @@
 -- Pages whenever all actors are at rest: a page with room that nobody keeps is offered, and an offered page is offered in the text where it has room.
-use Rattle.std.proofs.Common.{◌≡◌, ℕ, zero, suc, ◌+◌, ◌*◌, ◌/◌, ◌%◌, ◌<◌, ◌≤◌, ◌≢◌, ◌==◌, Bool, true, false, not, ◌&&◌, List, Option, None, Some, ◌⊎◌, inl, inr, refl, ap, sym, ◌∙◌, subst, arith}
-use Rattle.std.proofs.lemmas.Bool.{eq-eqb, eqb-true, false≢true, true≢false, and_cases, and_from, not_from_false, cases_Bool, false_from_ne_true}
+use Rattle.std.proofs.Common.{◌≡◌, ℕ, zero, suc, ◌+◌, ◌*◌, ◌/◌, ◌%◌, ◌<◌, ◌≤◌, ◌==◌, Bool, true, false, not, ◌&&◌, List, Option, None, Some, inl, inr, refl, ap, sym, ◌∙◌, arith}
+use Rattle.std.proofs.lemmas.Bool.{eq-eqb, eqb-true, false≢true, true≢false, and_cases, and_from, not_from_false, false_from_ne_true}
 use Rattle.pas_bits.specs.Bits.{has_bit}
 use Rattle.pas_profile.specs.Directories.{number_of, deed_word_of, deed_word_numbered, directory_read, IsKind}
 use Rattle.pas_profile.specs.Profiles.{IsValid, IsDirectoryOf}
@@ -11,10 +11,10 @@ use Rattle.pas_profile.specs.declared.word.Word.TheVariants as Word
 use Rattle.pas_profile.proofs.Codecs.{numbered, deed_word_of-positive, read-deed_word_of, directory_from_profile, same_from_deed_word}
 use Rattle.pas_machine.specs.State.{deed_in}
 use Rattle.pas_steps.specs.Clear.{IsClear}
-use Rattle.pas_steps.specs.Lists.{Whole, part, word_after, visible}
+use Rattle.pas_steps.specs.Lists.{part, word_after, visible}
 use Rattle.pas_steps.specs.Views.{usable_by, usable_by_kind}
 use Rattle.pas_core.specs.Good.{word_of_deed}
-use Rattle.pas_core.specs.Rights.{eligible_bit, IsUsableFree, IsRightOffered, HasNoRight, IsRightOfOne, IsRightParked, IsRightInOnePlace, AllClear}
+use Rattle.pas_core.specs.Rights.{eligible_bit, IsUsableFree, IsRightOffered, IsRightInOnePlace}
 use Rattle.pas_core.proofs.Deeds.{deed_of, directory_is_of}
 use Rattle.pas_core.proofs.Offers.{offered_at_rest}
 use Rattle.pas_core.proofs.Rights.{right_in_one_place}
@@ -138,9 +138,10 @@ module _ (f : Profile) (p : Progress) (w : World) (valid : IsValid f) (between :
   bit_tells page d of (inr (inr (inl o))) h =
       let number : number_of o.directory ≡ number_of d = eqb-true (number_of o.directory) (number_of d) (sym (o.offered (number_of d)) ∙ h) in
       let is : o.directory ≡ d = same_number o.directory d o.of_profile.kind of.kind number in
-      let word : word_of_deed (deed_in (visible p.list) page) ≡ deed_word_of d = sym (deed_of f p.list between.legal page) ∙ (o.deed ∙ ap deed_word_of is) in
-      (ap (λ (es : List Event). is_same d (deed_in es page)) same.events ∙ deed_from_word page d (deed_in (visible p.list) page) refl word of.kind,
-       false_from_ne_true (is_kept w page) (λ kept. let k = keeper f p w valid between same page kept in false≢true (sym (o.nobody k.0) ∙ k.1)))
+      let word : word_of_deed (deed_in (visible p.list) page) ≡ deed_word_of d = sym (deed_of f p.list between.legal page) ∙ (o.deed ∙ ap deed_word_of is) in (
+        ap (λ (es : List Event). is_same d (deed_in es page)) same.events ∙ deed_from_word page d (deed_in (visible p.list) page) refl word of.kind,
+        false_from_ne_true (is_kept w page) (λ kept. let k = keeper f p w valid between same page kept in false≢true (sym (o.nobody k.0) ∙ k.1)),
+      )
   bit_tells page d of (inr (inr (inr parked))) h = absurd (false≢true (sym (parked.not_offered (number_of d)) ∙ h))
 
   pub bit_offered : (page : ℕ) (d : Directory) → IsDirectoryOf f d → eligible_bit p.list (number_of d) page ≡ true → has_room w d page ≡ true → is_offered w d page ≡ true

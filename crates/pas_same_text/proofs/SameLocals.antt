@@ -1,7 +1,7 @@
 -- Local allocators of a cache, in the text and in a replay: one is looked up, taken out, put at the end, and gives its lowest slot.
-use Rattle.std.proofs.Common.{◌≡◌, ℕ, zero, suc, ◌<◌, ◌≤◌, ◌≢◌, ◌==◌, Bool, true, false, not, ◌&&◌, ◌||◌, if◌then◌else◌, List, [], ◌∷◌, ◌++◌, Option, None, Some, ◌⊎◌, inl, inr, refl, ap, sym, ◌∙◌, subst, arith}
-use Rattle.std.proofs.lemmas.Bool.{eq-eqb, eqb-true, ne_eqb, eqb-false, false≢true, true≢false, or_cases, or_left, cases_Bool, cases_lt, false_from_ne_true}
-use Rattle.std.specs.List.{AllByRecursion, list_any, find, filter}
+use Rattle.std.proofs.Common.{◌≡◌, ℕ, ◌<◌, ◌≢◌, ◌==◌, Bool, true, false, not, ◌&&◌, ◌||◌, if◌then◌else◌, List, [], ◌∷◌, ◌++◌, Option, None, Some, inl, inr, refl, ap, sym, ◌∙◌, subst, arith}
+use Rattle.std.proofs.lemmas.Bool.{eq-eqb, eqb-true, ne_eqb, eqb-false, false≢true, or_cases, or_left, false_from_ne_true}
+use Rattle.std.specs.List.{AllByRecursion, find}
 use Rattle.pas_bits.specs.Masks.{is_set, IsLowestSet}
 use Rattle.pas_segregated.specs.declared.slots.Slots.{Slots}
 use Rattle.pas_cache.specs.Changes.{IsWithoutSlot}

@@ -1,10 +1,10 @@
 -- Which grains the caches have, in the text and in a replay.
-use Rattle.std.proofs.Common.{◌≡◌, ℕ, zero, suc, ◌+◌, ◌-◌, ◌*◌, ◌/◌, ◌%◌, ◌<◌, ◌≤◌, ◌≢◌, ◌==◌, Bool, true, false, ◌&&◌, ◌||◌, if◌then◌else◌, List, [], ◌∷◌, ◌++◌, length, ◌⊎◌, inl, inr, refl, ap, sym, ◌∙◌, subst, arith}
+use Rattle.std.proofs.Common.{◌≡◌, ℕ, ◌+◌, ◌-◌, ◌*◌, ◌/◌, ◌%◌, ◌<◌, ◌≤◌, ◌≢◌, ◌==◌, Bool, true, false, ◌&&◌, ◌||◌, if◌then◌else◌, List, [], ◌∷◌, ◌++◌, length, ◌⊎◌, inl, inr, refl, ap, sym, ◌∙◌, arith}
 use Rattle.std.specs.Prelude.{All}
-use Rattle.std.proofs.lemmas.Bool.{eq-eqb, eqb-true, ne_eqb, false≢true, or_cases, or_left, or_right}
+use Rattle.std.proofs.lemmas.Bool.{ne_eqb, false≢true, or_cases, or_left, or_right}
 use Rattle.std.proofs.lemmas.List.Elements.{All-head, All-tail}
 use Rattle.std.proofs.lemmas.List.Folds.{list_any-append}
-use Rattle.std.specs.List.{list_any, filter, flat_map}
+use Rattle.std.specs.List.{list_any, filter}
 use Rattle.pas_bits.specs.Masks.{is_set}
 use Rattle.pas_bits.specs.Runs.{in_run}
 use Rattle.pas_bits.proofs.Runs.{run_of, to_run}
@@ -13,13 +13,12 @@ use Rattle.pas_profile.specs.declared.profile.Profile.{Profile}
 use Rattle.pas_steps.proofs.Sets.{same_truth}
 use Rattle.pas_steps.specs.Views.{View}
 use Rattle.pas_segregated.specs.Masks.{AreStarts, start_of}
-use Rattle.pas_segregated.specs.Stops.{in_slots}
 use Rattle.pas_segregated.specs.declared.slots.Slots.{Slots}
 use Rattle.pas_segregated.proofs.Starts.{start_at, start_below}
 use Rattle.pas_cache.specs.Locals.{IsLocal, any_covers, covers}
 use Rattle.pas_one_text.specs.State.{Local, Cache, cache_in}
 use Rattle.pas_one_text.specs.Pages.{is_cached}
-use Rattle.pas_same_text.specs.Same.{IsSameLocal, AreSameLocals, has_number}
+use Rattle.pas_same_text.specs.Same.{IsSameLocal, AreSameLocals}
 use Rattle.pas_same_text.proofs.CacheLists.{all_locals}
 use Rattle.pas_same_text.proofs.Tests.{IsFound, found, passed, any_filtered, filtered_any}
 
