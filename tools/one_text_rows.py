@@ -26,6 +26,7 @@ use Rattle.std.proofs.Common.{refl}
 """
 KINDS = "use Rattle.pas_profile.specs.declared.directory.Kind.TheVariants as Kind\n"
 GRAINS = "use Rattle.pas_report.specs.Reports.{grains_that}\n"
+COUNTS = "use Rattle.pas_one_text.specs.Pages.{each_of}\nuse Rattle.pas_one_text.specs.Passes.{free_bits}\n"
 REASONS = "use Rattle.pas_trace.specs.declared.fault.Reason.TheVariants as Reason\n"
 
 
@@ -112,8 +113,9 @@ def string_term(text: str) -> str:
 
 def row_text(name: str, word: str, trace: str, transcript: str) -> str:
     """A row by a word of Seen.antt: `seen`, or `counted`, which takes fewer steps."""
-    opened = {"seen": "seen grains_that", "counted": "counted"}[word]
-    said = "%s %s ≡ %s" % (word, string_term(trace), shown_term(transcript))
+    shown = shown_term(transcript)
+    opened = {"seen": "seen grains_that", "counted": "counted"}[word] + (" each_of free_bits" if shown.startswith("shown") else "")
+    said = "%s %s ≡ %s" % (word, string_term(trace), shown)
     return "%s : %s\nunfolding %s\n%s = refl\n" % (name, said, opened, name)
 
 
@@ -121,7 +123,7 @@ def file_text(comment: str, rows: list[str]) -> str:
     body = "\n".join(rows)
     words = ["seen", "counted", "shown", "faulty", "row_of", "marked", "totalled"] + [word for _, word in LINES]
     used = [word for word in words if re.search(r"\b%s\b" % word, body)]
-    wanted = [(KINDS, "Kind." in body), (GRAINS, "seen" in used), (REASONS, "faulty" in used)]
+    wanted = [(KINDS, "Kind." in body), (GRAINS, "seen" in used), (REASONS, "faulty" in used), (COUNTS, "shown" in used)]
     uses = "".join(line for line, is_wanted in wanted if is_wanted)
     plain = "true, false, [], ◌∷◌, " if "shown" in used else ""
     return "-- %s\n" % comment + HEADER % (plain, uses, ", ".join(used)) + "\n" + body
@@ -148,13 +150,16 @@ class Trace:
         "frees": (34, 34, 8, 12, 4, 2, 3, 1, 3),
         "scavenger": (26, 22, 2, 10, 6, 12, 16, 6, 6),
         "threads": (36, 24, 3, 8, 8, 6, 6, 14, 16),
+        "ranges": (40, 30, 0, 14, 6, 1, 2, 10, 8),
     }
+    # the sorts that the seeds up to 1,000 choose from, and how often each comes; the later seeds are all of whole pages
+    CHANCES = {"even": 4, "requests": 4, "frees": 4, "scavenger": 4, "threads": 4, "log": 1, "caches": 1, "drain": 6, "kept": 6}
     ACTS = ("request", "free", "raw", "flush", "stop", "tick", "pass", "idle", "phase")
 
     def __init__(self, seed: int):
         self.dice = random.Random(seed)
         dice = self.dice
-        self.sort = dice.choices(list(self.SORTS) + ["log", "caches", "drain", "kept"], (4, 4, 4, 4, 4, 1, 1, 6, 6))[0]
+        self.sort = "ranges" if seed > 1000 else dice.choices(list(self.CHANCES), list(self.CHANCES.values()))[0]
         self.pages = dice.choices((1, 2, 3, 4, 5, 8, 12, 16), (8, 10, 8, 8, 4, 2, 1, 1))[0]
         self.threads = dice.choice((1, 1, 2, 2, 3, 4))
         self.heaps = dice.choice((1, 1, 2, 3))
@@ -162,6 +167,8 @@ class Trace:
             self.pages, self.heaps = max(self.pages, 6), 3
         if self.sort == "kept":
             self.pages, self.threads = min(self.pages, 3), max(self.threads, 2)
+        if self.sort == "ranges":
+            self.pages, self.heaps, self.threads = dice.choice((8, 10, 12, 16)), dice.choice((1, 1, 1, 2)), 2
         self.lines = ["pas 1 pages %d threads %d heaps %d age %d" % (self.pages, self.threads, self.heaps, dice.choice((1, 1, 2, 3)))]
         shares = {"caches": 1.0, "kept": 0.2}.get(self.sort, dice.choice((0.0, 0.3, 0.6)))
         for heap in range(self.heaps):
@@ -176,7 +183,7 @@ class Trace:
 
     def fill(self) -> None:
         """What the sort begins with, and then operations by its weights."""
-        begin = {"log": self.fill_log, "caches": self.fill_caches, "drain": self.fill_drained, "kept": self.fill_kept}
+        begin = {"log": self.fill_log, "caches": self.fill_caches, "drain": self.fill_drained, "kept": self.fill_kept, "ranges": self.fill_ranges}
         few = self.sort in begin
         if few:
             begin[self.sort]()
@@ -228,6 +235,32 @@ class Trace:
         self.lines.append("flush %d" % k)
         for act in self.dice.choices(("tick", "pass", "like", "flush"), (3, 5, 4, 1), k=self.dice.randint(3, 9)):
             self.ask(self.thread(), 0, size, 16) if act == "like" else getattr(self, act)()
+
+    def fill_ranges(self) -> None:
+        """Blocks of whole pages that end and are asked for again, some of them ended by an idle stop, and small blocks between them."""
+        for act in self.dice.choices(("whole", "small", "free", "flush", "lag"), (20, 6, 30, 20, 14), k=self.dice.randint(12, 20)):
+            if act == "whole":
+                self.ask(self.thread(), self.dice.randrange(self.heaps), 4096 * self.dice.choice((1, 1, 1, 2, 2, 3)), 16)
+            elif act == "small":
+                self.ask(self.thread(), self.dice.randrange(self.heaps), self.dice.choice((16, 600)), 16)
+            else:
+                getattr(self, act)()
+
+    def lag(self) -> None:
+        """Some frees of one thread, and a phase in which it is idle and stopped, while another one ends blocks and asks for pages."""
+        k, other = self.dice.sample(sorted(self.own), 2)
+        sizes = [4096 * self.dice.choice((1, 1, 2)) for _ in range(3)]
+        for n, size in enumerate(sizes):
+            self.ask(k if n == 0 else other, 0, size, 16)
+        self.lines.append("f %d %d" % (k, self.names - 2))
+        self.phase()
+        self.lines.append("idle 0")
+        for name in self.dice.sample((self.names - 1, self.names), self.dice.randint(1, 2)):
+            self.lines.append("f %d %d" % (other, name))
+        self.lines.append("flush %d" % other)
+        for _ in range(self.dice.randint(1, 4)):
+            self.ask(other, 0, 4096 * self.dice.choice((1, 1, 2)), 16)
+        self.phase()
 
     def ask(self, k: int, heap: int, size: int, align: int) -> None:
         self.names += 1

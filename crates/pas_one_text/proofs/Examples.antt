@@ -4,10 +4,12 @@ use Rattle.std.proofs.Common.{refl}
 use Rattle.pas_profile.specs.declared.directory.Kind.TheVariants as Kind
 use Rattle.pas_report.specs.Reports.{grains_that}
 use Rattle.pas_trace.specs.declared.fault.Reason.TheVariants as Reason
+use Rattle.pas_one_text.specs.Pages.{each_of}
+use Rattle.pas_one_text.specs.Passes.{free_bits}
 use Rattle.pas_one_text.proofs.Seen.{seen, shown, faulty, row_of, marked, totalled, deed_of, back_of, unback_of, give_of, freed_of, ended_of, no_block_of, outside_of, unaligned_of, no_space_of, held_of, skipped_of, tick_of, pass_of, young_of, in_use_of, not_offered_of, stopped_of, phase_of, closed}
 
 example_bit_fit : seen (codes "pas 1 pages 8 threads 1 heaps 1 age 2\n# Above 512 bytes a block takes just the grains of 16 bytes that it needs, at the lowest place of the heap's bit-fit pages that is aligned.\na 1 1 0 600 16\na 1 2 0 1000 16\na 1 3 0 513 256\nf 1 1\nflush 1\n# The first block's 38 grains are free again: 560 bytes fit there, 640 don't.\na 1 4 0 640 16\na 1 5 0 560 16\n") ≡ shown (deed_of 1 1 0 Kind.Bitfit ∷ back_of 1 1 ∷ give_of 1 4096 0 608 0 ∷ give_of 1 4704 0 1008 0 ∷ give_of 1 5888 0 528 0 ∷ freed_of 1 4096 0 0 ∷ give_of 1 6416 0 640 0 ∷ give_of 1 4096 1 560 0 ∷ closed ∷ []) (row_of 1 0 Kind.Bitfit 4 85 0 (marked true true false false) ∷ []) (totalled 1 1 4 5 1)
-unfolding seen grains_that
+unfolding seen grains_that each_of free_bits
 example_bit_fit = refl
 
 example_fault_bad_align : seen (codes "pas 1 pages 4 threads 2 heaps 1 age 2\na 1 1 0 24 48\n") ≡ faulty 2 Reason.BadAlign
@@ -55,29 +57,29 @@ unfolding seen grains_that
 example_fault_trace_too_large = refl
 
 example_first : seen (codes "pas 1 pages 4 threads 1 heaps 1 age 2\n# The free is logged, and takes effect when the thread's cache is stopped at the close.\na 1 1 0 24 16\nf 1 1\n") ≡ shown (deed_of 1 1 0 (Kind.Class 1) ∷ back_of 1 1 ∷ give_of 1 4096 0 32 0 ∷ closed ∷ freed_of 1 4096 0 0 ∷ []) (row_of 1 0 (Kind.Class 1) 0 256 0 (marked true true false true) ∷ []) (totalled 1 1 0 1 1)
-unfolding seen grains_that
+unfolding seen grains_that each_of free_bits
 example_first = refl
 
 example_idle_pages : seen (codes "pas 1 pages 4 threads 3 heaps 1 age 2\n# Thread 1 and thread 2 each fill a page and free it.\na 1 1 0 512 16\na 2 2 0 256 16\nf 1 1\nf 2 2\nflush 1\nflush 2\n# Their threads still cache the pages' other slots, so that no page is hinted yet.\npass\nphase\n# Nobody but the scavenger is at work: threads that were idle for three epochs are stopped.\ntick 1\nidle 3\ntick 3\nidle 3\n# The pages' last ends are two epochs old now, and the pages go back.\npass\nphase\n# Thread 1 is served by its page again, which is backed anew.\na 1 3 0 512 16\n") ≡ shown (deed_of 1 1 0 (Kind.Class 15) ∷ back_of 1 1 ∷ give_of 1 4096 0 512 0 ∷ deed_of 2 2 0 (Kind.Class 11) ∷ back_of 2 2 ∷ give_of 2 8192 0 256 0 ∷ freed_of 1 4096 0 0 ∷ freed_of 2 8192 0 0 ∷ pass_of 0 ∷ phase_of 2 ∷ tick_of 1 ∷ tick_of 3 ∷ stopped_of 1 ∷ stopped_of 2 ∷ stopped_of 3 ∷ pass_of 3 ∷ unback_of 0 1 3 ∷ unback_of 0 2 3 ∷ phase_of 3 ∷ back_of 1 1 ∷ give_of 1 4096 1 512 0 ∷ closed ∷ []) (row_of 1 0 (Kind.Class 15) 1 224 0 (marked true true false false) ∷ row_of 2 0 (Kind.Class 11) 0 256 0 (marked false true false false) ∷ []) (totalled 2 1 1 3 2)
-unfolding seen grains_that
+unfolding seen grains_that each_of free_bits
 example_idle_pages = refl
 
 example_large : seen (codes "pas 1 pages 4 threads 1 heaps 2 age 2\n# A block of two whole pages, and one of a single page that is given again where the first ended.\na 1 1 0 8192 16\na 1 2 0 2049 16\nf 1 1\nflush 1\na 1 3 0 4096 4096\n# Heap 1 takes the last page without a deed; three pages in a row aren't free.\na 1 4 1 4000 16\na 1 5 1 12288 16\n") ≡ shown (deed_of 1 1 0 Kind.Large ∷ deed_of 1 2 0 Kind.Large ∷ back_of 1 1 ∷ back_of 1 2 ∷ give_of 1 4096 0 8192 0 ∷ deed_of 1 3 0 Kind.Large ∷ back_of 1 3 ∷ give_of 1 12288 0 4096 0 ∷ freed_of 1 4096 0 0 ∷ give_of 1 4096 1 4096 0 ∷ deed_of 1 4 1 Kind.Large ∷ back_of 1 4 ∷ give_of 1 16384 0 4096 1 ∷ no_space_of 1 5 ∷ closed ∷ []) (row_of 1 0 Kind.Large 1 0 0 (marked true false true true) ∷ row_of 2 0 Kind.Large 0 256 0 (marked true true false true) ∷ row_of 3 0 Kind.Large 1 0 0 (marked true false true false) ∷ row_of 4 1 Kind.Large 1 0 0 (marked true false true false) ∷ []) (totalled 4 4 3 4 1)
-unfolding seen grains_that
+unfolding seen grains_that each_of free_bits
 example_large = refl
 
 example_passes : seen (codes "pas 1 pages 4 threads 2 heaps 1 age 2\n# A block of a page that is split bit by bit: once freed, its page is empty, but for no two epochs yet.\na 1 1 0 600 16\nf 1 1\nflush 1\npass\n# The page is hinted still, and in use.\na 1 2 0 600 16\npass\n# Its last block ends in epoch 4, so that it goes back in epoch 6 and no sooner.\nf 1 2\ntick 4\nflush 1\ntick 5\npass\ntick 6\npass\n# Thread 1 takes all eight slots of a page; thread 2 frees them, while thread 1's cache still has the page's right.\na 1 3 0 512 16\na 1 4 0 512 16\na 1 5 0 512 16\na 1 6 0 512 16\na 1 7 0 512 16\na 1 8 0 512 16\na 1 9 0 512 16\na 1 10 0 512 16\nphase\nf 2 3\nf 2 4\nf 2 5\nf 2 6\nf 2 7\nf 2 8\nf 2 9\nf 2 10\nflush 2\npass\n") ≡ shown (deed_of 1 1 0 Kind.Bitfit ∷ back_of 1 1 ∷ give_of 1 4096 0 608 0 ∷ freed_of 1 4096 0 0 ∷ pass_of 0 ∷ young_of 1 0 ∷ give_of 1 4096 1 608 0 ∷ pass_of 0 ∷ in_use_of 1 0 18446743798831644672 ∷ tick_of 4 ∷ freed_of 1 4096 1 4 ∷ tick_of 5 ∷ pass_of 5 ∷ young_of 1 4 ∷ tick_of 6 ∷ pass_of 6 ∷ unback_of 0 1 6 ∷ deed_of 1 2 0 (Kind.Class 15) ∷ back_of 1 2 ∷ give_of 1 8192 0 512 0 ∷ give_of 1 8704 0 512 0 ∷ give_of 1 9216 0 512 0 ∷ give_of 1 9728 0 512 0 ∷ give_of 1 10240 0 512 0 ∷ give_of 1 10752 0 512 0 ∷ give_of 1 11264 0 512 0 ∷ give_of 1 11776 0 512 0 ∷ phase_of 2 ∷ freed_of 2 8192 0 6 ∷ freed_of 2 8704 0 6 ∷ freed_of 2 9216 0 6 ∷ freed_of 2 9728 0 6 ∷ freed_of 2 10240 0 6 ∷ freed_of 2 10752 0 6 ∷ freed_of 2 11264 0 6 ∷ freed_of 2 11776 0 6 ∷ pass_of 6 ∷ not_offered_of 2 ∷ closed ∷ []) (row_of 1 0 Kind.Bitfit 0 256 4 (marked false true false false) ∷ row_of 2 0 (Kind.Class 15) 0 256 6 (marked true true false true) ∷ []) (totalled 2 1 0 10 10)
-unfolding seen grains_that
+unfolding seen grains_that each_of free_bits
 example_passes = refl
 
 example_refusals : seen (codes "pas 1 pages 2 threads 2 heaps 3 age 2\na 1 1 0 16 16\na 1 2 1 16 16\n# Both pages have a deed of another heap, so heap 2 finds no space, and its name stands for nothing.\na 1 3 2 16 16\nf 1 3\n# The same page is read as neither offered nor parked while thread 1 has its right.\na 2 4 0 16 16\n# Frees by address and turn: of no page, of no grain, of no block that lived, and of one that was ended before.\nr 1 0x00009000 0\nr 1 0x00001008 0\nr 1 0x00001010 7\nr 1 0x00001000 0\nr 1 0x00001000 0\nflush 1\n") ≡ shown (deed_of 1 1 0 (Kind.Class 0) ∷ back_of 1 1 ∷ give_of 1 4096 0 16 0 ∷ deed_of 1 2 1 (Kind.Class 0) ∷ back_of 1 2 ∷ give_of 1 8192 0 16 1 ∷ no_space_of 1 3 ∷ skipped_of 1 3 ∷ held_of 2 1 4 ∷ outside_of 1 36864 0 ∷ unaligned_of 1 4104 0 ∷ no_block_of 1 4112 7 ∷ freed_of 1 4096 0 0 ∷ ended_of 1 4096 0 ∷ closed ∷ []) (row_of 1 0 (Kind.Class 0) 0 256 0 (marked true true false true) ∷ row_of 2 1 (Kind.Class 0) 1 255 0 (marked true true false false) ∷ []) (totalled 2 2 1 2 1)
-unfolding seen grains_that
+unfolding seen grains_that each_of free_bits
 example_refusals = refl
 
 example_shared : seen (codes "pas 1 pages 8 threads 2 heaps 2 age 2\nshared 1\n# In a shared heap blocks of all classes stand on the same page, and up to four slots are taken at once.\na 1 1 1 16 16\na 1 2 1 48 16\na 2 3 1 16 16\na 2 4 1 512 16\n# In heap 0, which is exclusive, each class has pages of its own.\na 1 5 0 16 16\na 1 6 0 48 16\nf 1 1\nflush 1\n# Block 1's slot is free again, but thread 1 goes on with the slots that it cached.\na 1 7 1 16 16\n") ≡ shown (deed_of 1 1 1 Kind.Shared ∷ back_of 1 1 ∷ give_of 1 4096 0 16 1 ∷ give_of 1 4192 0 48 1 ∷ give_of 2 4160 0 16 1 ∷ give_of 2 4608 0 512 1 ∷ deed_of 1 2 0 (Kind.Class 0) ∷ back_of 1 2 ∷ give_of 1 8192 0 16 0 ∷ deed_of 1 3 0 (Kind.Class 2) ∷ back_of 1 3 ∷ give_of 1 12288 0 48 0 ∷ freed_of 1 4096 0 0 ∷ give_of 1 4112 0 16 1 ∷ closed ∷ []) (row_of 1 1 Kind.Shared 4 219 0 (marked true true false false) ∷ row_of 2 0 (Kind.Class 0) 1 255 0 (marked true true false false) ∷ row_of 3 0 (Kind.Class 2) 1 253 0 (marked true true false false) ∷ []) (totalled 3 3 6 7 1)
-unfolding seen grains_that
+unfolding seen grains_that each_of free_bits
 example_shared = refl
 
 example_threads : seen (codes "pas 1 pages 8 threads 2 heaps 2 age 2\n# Thread 1 allocates in two heaps; each heap gets a page of its own.\na 1 1 0 100 16\na 1 2 1 100 16\na 1 3 0 100 16\n# A block may be freed by another thread from the next phase on.\nphase\nf 2 1\nf 2 2\n# The flush ends both blocks, in the order of the frees.\nflush 2\n# Thread 1 has cached the other slots of its pages: it goes on with the lowest one.\na 1 4 0 100 16\n# Thread 2 gets a page of its own, since all free slots of page 1 are cached by thread 1.\na 2 5 0 100 16\nstop 1\n# After the stop the ended block's slot is on an offered page, and it is the lowest.\na 2 6 1 100 16\n") ≡ shown (deed_of 1 1 0 (Kind.Class 6) ∷ back_of 1 1 ∷ give_of 1 4096 0 112 0 ∷ deed_of 1 2 1 (Kind.Class 6) ∷ back_of 1 2 ∷ give_of 1 8192 0 112 1 ∷ give_of 1 4208 0 112 0 ∷ phase_of 2 ∷ freed_of 2 4096 0 0 ∷ freed_of 2 8192 0 0 ∷ give_of 1 4320 0 112 0 ∷ deed_of 2 3 0 (Kind.Class 6) ∷ back_of 2 3 ∷ give_of 2 12288 0 112 0 ∷ give_of 2 8192 1 112 1 ∷ closed ∷ []) (row_of 1 0 (Kind.Class 6) 2 242 0 (marked true true false false) ∷ row_of 2 1 (Kind.Class 6) 1 249 0 (marked true true false true) ∷ row_of 3 0 (Kind.Class 6) 1 249 0 (marked true true false false) ∷ []) (totalled 3 3 4 6 2)
-unfolding seen grains_that
+unfolding seen grains_that each_of free_bits
 example_threads = refl

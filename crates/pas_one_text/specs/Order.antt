@@ -3,6 +3,7 @@ use Rattle.std.specs.Prelude.{ℕ, ◌/◌, List, [], map, Option, None, Some, R
 use Rattle.pas_profile.specs.Requests.{route_in, room_in}
 use Rattle.pas_profile.specs.declared.directory.Route.{Route}
 use Rattle.pas_profile.specs.declared.profile.Profile.{Profile}
+use Rattle.pas_free_log.specs.Logs.{entry_of}
 use Rattle.pas_trace.specs.declared.fault.TraceFault.{TraceFault}
 use Rattle.pas_trace.specs.declared.plan.Op.{Op}
 use Rattle.pas_trace.specs.declared.plan.What.{What}
@@ -10,6 +11,7 @@ use Rattle.pas_trace.specs.Plans.{Parsed, parsed, phases_in, shared_in}
 use Rattle.pas_report.specs.declared.record.Record.{Record}
 use Rattle.pas_trace.specs.Acts.{Act, numbers_from, acts_of}
 use Rattle.pas_one_text.specs.State.{World, each, no_cache, cache_of, set_cache, says}
+use Rattle.pas_one_text.specs.Indexes.{settles}
 use Rattle.pas_one_text.specs.Classes.{serves_class}
 use Rattle.pas_one_text.specs.Runs.{serves_bitfit, serves_pages}
 use Rattle.pas_one_text.specs.Frees.{flushes, stops, frees, frees_named}
@@ -27,14 +29,14 @@ serves f k name heap Route.Large room align w = serves_pages f k name heap (room
 abbrev pub operates : Profile → ℕ → What → World → World
 operates f k (What.Alloc name heap size align) w = serves f k name heap (route_in f size align) (room_in f size align) align w
 operates f k (What.Free name) w = frees_named f k name w
-operates f k (What.Raw block) w = frees f k block w
+operates f k (What.Raw block) w = frees f k (entry_of block) w
 operates f k What.Flush w = flushes f k w
 operates f k What.Stop w = stops f k w
 operates f k (What.Tick e) w = w
 operates f k What.Pass w = w
 operates f k (What.Idle n) w = w
 
--- ---- the acts of a replay. Nothing is handed on to an index of large runs, since nothing asks one
+-- ---- the acts of a replay
 -- a thread begins a phase
 abbrev pub begins : ℕ → World → World
 begins k w = set_cache k (record (cache_of w k) { began = w.epoch }) w
@@ -44,7 +46,7 @@ abbrev pub acts_on : Profile → Act → World → World
 acts_on f (Act.MarksPhase n) w = says (Record.Phase n) w
 acts_on f (Act.Wakes k) w = begins k w
 acts_on f (Act.Operates op) w = operates f op.actor op.what w
-acts_on f (Act.Settles k) w = w
+acts_on f (Act.Settles k) w = settles k w
 acts_on f (Act.Ticks e) w = ticks e w
 acts_on f Act.MakesPass w = passes f w
 acts_on f Act.ReadsEpoch w = reads_epoch w
@@ -53,9 +55,9 @@ acts_on f Act.MarksClose w = says Record.Close w
 acts_on f (Act.Ends k) w = stops f k w
 
 -- ---- the replay of phases, from nothing
--- no event yet, empty caches, epoch 0
+-- no event yet, empty caches and indexes, epoch 0
 abbrev pub opened : Profile → World
-opened f = record { events = []; records = []; live = []; names = []; caches = map (λ k. no_cache) (numbers_from 1 f.threads); hinted = []; epoch = 0; read = 0 }
+opened f = record { events = []; records = []; live = []; names = []; caches = map (λ k. no_cache) (numbers_from 1 f.threads); hinted = []; indexes = map (λ h. []) (numbers_from 1 f.heaps); epoch = 0; read = 0 }
 
 -- THE REPLAY: the acts of the phases, one by one
 abbrev pub replayed : Profile → List (List Op) → World

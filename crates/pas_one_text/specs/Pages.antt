@@ -18,7 +18,7 @@ abbrev pub page_numbers : Profile → List ℕ
 page_numbers f = numbers_from 1 f.pages
 
 -- each of n numbers from this one on passes the test
-abbrev pub each_of : ℕ → ℕ → (ℕ → Bool) → Bool
+unfoldable pub each_of : ℕ → ℕ → (ℕ → Bool) → Bool
 each_of from zero test = true
 each_of from (suc n) test = test from && each_of (from + 1) n test
 

@@ -22,7 +22,7 @@ abbrev pub used_word : World → ℕ → Option ℕ
 used_word w page = find (λ word. not (are_free w page (64 * word) 64)) (0 ∷ 1 ∷ 2 ∷ 3 ∷ [])
 
 -- the first n free grains of a word as the bits of a number
-abbrev pub free_bits : World → ℕ → ℕ → ℕ → ℕ
+unfoldable pub free_bits : World → ℕ → ℕ → ℕ → ℕ
 free_bits w page word zero = 0
 free_bits w page word (suc n) = free_bits w page word n + (if is_free w page (64 * word + n) then 2 ^ n else 0)
 

@@ -1,5 +1,5 @@
 -- REQUESTS THAT NO CLASS SERVES: a run of grains on a bit-fit page, or a run of whole pages. No cache holds anything of them.
-use Rattle.std.specs.Prelude.{ℕ, ◌+◌, ◌*◌, ◌/◌, nat_le, Bool, ◌&&◌, ◌||◌, List, [], ◌∷◌, take, Option, None, Some, Result, Ok, Err}
+use Rattle.std.specs.Prelude.{ℕ, ◌+◌, ◌*◌, ◌/◌, nat_le, Bool, ◌&&◌, ◌||◌, if◌then◌else◌, List, [], ◌∷◌, take, Option, None, Some, Result, Ok, Err}
 use Rattle.std.specs.List.{find, filter}
 use Rattle.pas_profile.specs.declared.directory.Directory.{Directory}
 use Rattle.pas_profile.specs.declared.directory.Kind.{Kind}
@@ -7,6 +7,7 @@ use Rattle.pas_profile.specs.declared.event.NoRoom.{NoRoom}
 use Rattle.pas_profile.specs.declared.profile.Profile.{Profile}
 use Rattle.pas_trace.specs.Acts.{numbers_from}
 use Rattle.pas_one_text.specs.State.{World, each}
+use Rattle.pas_one_text.specs.Indexes.{named_first, loses_named}
 use Rattle.pas_one_text.specs.Pages.{page_numbers, each_of, are_free, is_empty, is_unowned, is_offered}
 use Rattle.pas_one_text.specs.Searches.{refusal, searched, deeds, backs, readies, address_on, gives, refuses}
 use Rattle.pas_one_text.specs.Classes.{spaced}
@@ -39,11 +40,23 @@ serves_bitfit f k name heap room align w = places k name heap room align (search
 abbrev pub large_of : ℕ → Directory
 large_of heap = record { heap = heap; kind = Kind.Large }
 
--- the page may be one of a run: nobody has it, or the heap offers it for large blocks, and it is empty
-abbrev pub is_usable : World → ℕ → ℕ → Bool
-is_usable w heap page = is_unowned w page || (is_offered w (large_of heap) page && is_empty w page)
+-- the heap offers the page for large blocks, and it is empty
+abbrev pub is_whole : World → ℕ → ℕ → Bool
+is_whole w heap page = is_offered w (large_of heap) page && is_empty w page
 
--- the first page of the lowest run of n such pages
+-- the page may be one of a run: nobody has it, or it is whole
+abbrev pub is_usable : World → ℕ → ℕ → Bool
+is_usable w heap page = is_unowned w page || is_whole w heap page
+
+-- the run that the heap's index names, where its n pages are all whole
+abbrev pub if_whole : World → ℕ → ℕ → Option ℕ → Option ℕ
+if_whole w heap n None = None
+if_whole w heap n (Some first) = if each_of first n (is_whole w heap) then Some first else None
+
+abbrev pub named_run : World → ℕ → ℕ → Option ℕ
+named_run w heap n = if_whole w heap n (named_first w heap n)
+
+-- the first page of the lowest run of n usable pages
 abbrev pub lowest_run : Profile → World → ℕ → ℕ → Option ℕ
 lowest_run f w heap n = find (λ p. nat_le (p + n) (f.pages + 1) && each_of p n (is_usable w heap)) (page_numbers f)
 
@@ -56,6 +69,11 @@ abbrev pub serves_run : Profile → ℕ → ℕ → ℕ → ℕ → Option ℕ �
 serves_run f k name heap n (Some first) w = gives_pages k name heap first n w
 serves_run f k name heap n None w = refuses k name (refusal f w (large_of heap)) w
 
--- A REQUEST FOR n WHOLE PAGES: the lowest run
+-- a run, else another one
+abbrev pub run_or : Option ℕ → Option ℕ → Option ℕ
+run_or (Some first) other = Some first
+run_or None other = other
+
+-- A REQUEST FOR n WHOLE PAGES: the run that the index names, or else the lowest one. The index loses what it named
 abbrev pub serves_pages : Profile → ℕ → ℕ → ℕ → ℕ → World → World
-serves_pages f k name heap n w = serves_run f k name heap n (lowest_run f w heap n) w
+serves_pages f k name heap n w = serves_run f k name heap n (run_or (named_run w heap n) (lowest_run f w heap n)) (loses_named heap n w)

@@ -6,6 +6,9 @@ use Rattle.pas_profile.specs.Blocks.{address_of}
 use Rattle.pas_profile.specs.declared.event.Event.{Event}
 use Rattle.pas_profile.specs.declared.name.Block.{Block}
 use Rattle.pas_profile.specs.declared.name.Name.{Name}
+use Rattle.pas_large_index.specs.declared.span.Span.{Span}
+use Rattle.pas_free_log.specs.declared.log.Entry.{Entry}
+use Rattle.pas_free_log.specs.declared.noting.EndedRun.{EndedRun}
 use Rattle.pas_report.specs.declared.record.Record.{Record}
 use Rattle.pas_answers.specs.Answers.{Named, named}
 
@@ -18,15 +21,18 @@ pub record Local : Type 0 where
   pub slots : List ℕ
   pub keeps : Bool
 
--- THE CACHE of a thread: its local allocators, at most one of a heap and class, the one used longest ago first; the names of its frees that took no effect
--- yet, the oldest first; and the epoch in which it last began a phase with an operation of its own
+-- THE CACHE of a thread: its local allocators, at most one of a heap and class, the one used longest ago first; its frees that took no effect yet, the
+-- oldest first, each the name of a block, with a room where the free named one; the pages of large blocks that it ended and didn't hand on yet, in order;
+-- and the epoch in which it last began a phase with an operation of its own
 pub record Cache : Type 0 where
   pub locals : List Local
-  pub log : List Name
+  pub log : List Entry
+  pub noted : List EndedRun
   pub began : ℕ
 
 -- THE STATE: the events and the records so far, each with the newest first; the live blocks, which follow from the events; what the names of the trace stand
--- for; the caches of the threads from 1 on; the pages that are hinted as empty; the epoch; and the one that the scavenger read for its last idle operation
+-- for; the caches of the threads from 1 on; the pages that are hinted as empty; the indexes of the heaps from 0 on, each some ranges of pages, the lowest
+-- first; the epoch; and the one that the scavenger read for its last idle operation
 pub record World : Type 0 where
   pub events : List Event
   pub records : List Record
@@ -34,6 +40,7 @@ pub record World : Type 0 where
   pub names : List Named
   pub caches : List Cache
   pub hinted : List ℕ
+  pub indexes : List (List Span)
   pub epoch : ℕ
   pub read : ℕ
 
@@ -76,7 +83,7 @@ names_it name block w = record w { names = named name block ∷ w.names }
 -- ---- caches
 -- that of a thread which did nothing yet
 abbrev pub no_cache : Cache
-no_cache = record { locals = []; log = []; began = 0 }
+no_cache = record { locals = []; log = []; noted = []; began = 0 }
 
 -- the k-th of some caches, from 1 on; and it has become another
 abbrev pub cache_in : List Cache → ℕ → Cache
@@ -94,8 +101,11 @@ cache_of w k = cache_in w.caches k
 abbrev pub locals_of : World → ℕ → List Local
 locals_of w k = (cache_of w k).locals
 
-abbrev pub log_of : World → ℕ → List Name
+abbrev pub log_of : World → ℕ → List Entry
 log_of w k = (cache_of w k).log
+
+abbrev pub noted_of : World → ℕ → List EndedRun
+noted_of w k = (cache_of w k).noted
 
 -- it has become this
 abbrev pub set_cache : ℕ → Cache → World → World
@@ -104,5 +114,8 @@ set_cache k c w = record w { caches = with_cache w.caches k c }
 abbrev pub set_locals : ℕ → List Local → World → World
 set_locals k locals w = set_cache k (record (cache_of w k) { locals = locals }) w
 
-abbrev pub set_log : ℕ → List Name → World → World
+abbrev pub set_log : ℕ → List Entry → World → World
 set_log k log w = set_cache k (record (cache_of w k) { log = log }) w
+
+abbrev pub set_noted : ℕ → List EndedRun → World → World
+set_noted k noted w = set_cache k (record (cache_of w k) { noted = noted }) w

@@ -1,0 +1,97 @@
+-- Lists of caches, of which one becomes another.
+use Rattle.std.proofs.Common.{◌≡◌, ℕ, suc, ◌-◌, ◌≤◌, ◌≢◌, ◌==◌, Bool, true, false, if◌then◌else◌, List, [], ◌∷◌, ◌++◌, length, refl, ap, sym, ◌∙◌, subst, arith}
+use Rattle.std.proofs.lemmas.Bool.{eq-eqb, eqb-true, ne_eqb, eqb-false}
+use Rattle.std.specs.List.{flat_map}
+use Rattle.pas_profile.specs.declared.profile.Profile.{Profile}
+use Rattle.pas_cache.specs.Contents.{Cached}
+use Rattle.pas_trace.specs.EveryPlan.{IsThread}
+use Rattle.pas_answers.specs.Answers.{Caches}
+use Rattle.pas_answers.specs.Answers.{with_cache as with_cached}
+use Rattle.pas_one_text.specs.State.{Local, Cache, cache_in, with_cache}
+use Rattle.pas_same_text.specs.Same.{IsSameCache, AreSameCaches}
+
+-- the local allocators in all of them
+abbrev pub all_locals : List Cache → List Local
+all_locals cs = flat_map (λ c. c.locals) cs
+
+many_at : (c : Cache) (cs : List Cache) (k : ℕ) (new : Cache) (t : Bool) → length (with_cache cs (k - 1) new) ≡ length cs → length (if t then new ∷ cs else c ∷ with_cache cs (k - 1) new) ≡ suc (length cs)
+many_at c cs k new true e = refl
+many_at c cs k new false e = ap suc e
+
+pub many_with : (cs : List Cache) (k : ℕ) (new : Cache) → length (with_cache cs k new) ≡ length cs
+many_with [] k new = refl
+many_with (c ∷ cs) k new = many_at c cs k new (k == 1) (many_with cs (k - 1) new)
+
+-- ---- the one that changed
+own_at : (c : Cache) (cs : List Cache) (k : ℕ) (new : Cache) (t : Bool) → (k == 1) ≡ t → (t ≡ false → cache_in (with_cache cs (k - 1) new) (k - 1) ≡ new)
+    → cache_in (if t then new ∷ cs else c ∷ with_cache cs (k - 1) new) k ≡ new
+own_at c cs k new true e more = ap (λ (t : Bool). if t then new else cache_in cs (k - 1)) e
+own_at c cs k new false e more = ap (λ (t : Bool). if t then c else cache_in (with_cache cs (k - 1) new) (k - 1)) e ∙ more refl
+
+pub own_with : (cs : List Cache) (k : ℕ) (new : Cache) → 1 ≤ k → k ≤ length cs → cache_in (with_cache cs k new) k ≡ new
+own_with [] k new some few = absurd (omega arith)
+own_with (c ∷ cs) k new some few = own_at c cs k new (k == 1) refl (λ e.
+    let ne : k ≢ 1 = eqb-false k 1 e in
+    own_with cs (k - 1) new (omega arith) (omega arith))
+
+-- ---- the others
+other_at : (c : Cache) (cs : List Cache) (j k : ℕ) (new : Cache) (t u : Bool) → (k == 1) ≡ t → (j == 1) ≡ u → j ≢ k → (u ≡ false → t ≡ false → cache_in (with_cache cs (k - 1) new) (j - 1) ≡ cache_in cs (j - 1))
+    → cache_in (if t then new ∷ cs else c ∷ with_cache cs (k - 1) new) j ≡ (if u then c else cache_in cs (j - 1))
+other_at c cs j k new true true e h ne more = absurd (ne (eqb-true j 1 h ∙ sym (eqb-true k 1 e)))
+other_at c cs j k new true false e h ne more = ap (λ (t : Bool). if t then new else cache_in cs (j - 1)) h
+other_at c cs j k new false true e h ne more = ap (λ (t : Bool). if t then c else cache_in (with_cache cs (k - 1) new) (j - 1)) h
+other_at c cs j k new false false e h ne more = ap (λ (t : Bool). if t then c else cache_in (with_cache cs (k - 1) new) (j - 1)) h ∙ more refl refl
+
+pub other_with : (cs : List Cache) (j k : ℕ) (new : Cache) → 1 ≤ j → 1 ≤ k → j ≢ k → cache_in (with_cache cs k new) j ≡ cache_in cs j
+other_with [] j k new one some ne = refl
+other_with (c ∷ cs) j k new one some ne = other_at c cs j k new (k == 1) (j == 1) refl refl ne (λ h e.
+    let jn : j ≢ 1 = eqb-false j 1 h in
+    let kn : k ≢ 1 = eqb-false k 1 e in
+    other_with cs (j - 1) (k - 1) new (omega arith) (omega arith) (λ same. ne (omega (arith, same))))
+
+-- ---- local allocators stay where those of the new cache are those of the old one
+locals_at : (c : Cache) (cs : List Cache) (k : ℕ) (new : Cache) (t : Bool) → (k == 1) ≡ t → new.locals ≡ (if t then c else cache_in cs (k - 1)).locals
+    → (new.locals ≡ (cache_in cs (k - 1)).locals → all_locals (with_cache cs (k - 1) new) ≡ all_locals cs)
+    → all_locals (if t then new ∷ cs else c ∷ with_cache cs (k - 1) new) ≡ c.locals ++ all_locals cs
+locals_at c cs k new true e is more = ap (λ (ls : List Local). ls ++ all_locals cs) is
+locals_at c cs k new false e is more = ap (λ (ls : List Local). c.locals ++ ls) (more is)
+
+pub locals_with : (cs : List Cache) (k : ℕ) (new : Cache) → new.locals ≡ (cache_in cs k).locals → all_locals (with_cache cs k new) ≡ all_locals cs
+locals_with [] k new is = refl
+locals_with (c ∷ cs) k new is = locals_at c cs k new (k == 1) refl is (locals_with cs (k - 1) new)
+
+-- ---- the caches of a replay, of which one becomes another too
+same_own : (caches : Caches) (k : ℕ) (c : Cached) → with_cached caches k c k ≡ c
+same_own caches k c = ap (λ (b : Bool). if b then c else caches k) (eq-eqb k k refl)
+
+same_other : (caches : Caches) (j k : ℕ) (c : Cached) → j ≢ k → with_cached caches k c j ≡ caches j
+same_other caches j k c ne = ap (λ (b : Bool). if b then c else caches j) (ne_eqb j k ne)
+
+each_with : (f : Profile) (caches : Caches) (own : List Cache) (j k : ℕ) (c : Cached) (new : Cache) → IsThread f j → IsThread f k → AreSameCaches f caches own → IsSameCache c new → (t : Bool) → (j == k) ≡ t
+    → IsSameCache (with_cached caches k c j) (cache_in (with_cache own k new) j)
+each_with f caches own j k c new is of same new_same true e =
+    let at : IsSameCache (with_cached caches k c k) (cache_in (with_cache own k new) k) =
+    subst (λ (x : Cached). IsSameCache x (cache_in (with_cache own k new) k)) (sym (same_own caches k c))
+    (subst (IsSameCache c) (sym (own_with own k new of.0 (omega (arith, of.1, same.many)))) new_same) in
+    subst (λ (i : ℕ). IsSameCache (with_cached caches k c i) (cache_in (with_cache own k new) i)) (sym (eqb-true j k e)) at
+each_with f caches own j k c new is of same new_same false e =
+    let ne : j ≢ k = eqb-false j k e in
+    subst (λ (x : Cached). IsSameCache x (cache_in (with_cache own k new) j)) (sym (same_other caches j k c ne))
+    (subst (IsSameCache (caches j)) (sym (other_with own j k new is.0 of.0 ne)) (same.each j is))
+
+pub same_with : (f : Profile) (caches : Caches) (own : List Cache) (k : ℕ) (c : Cached) (new : Cache) → IsThread f k → AreSameCaches f caches own → IsSameCache c new → AreSameCaches f (with_cached caches k c) (with_cache own k new)
+same_with f caches own k c new of same new_same = record {
+  many = many_with own k new ∙ same.many;
+  each = λ j is. each_with f caches own j k c new is of same new_same (j == k) refl;
+}
+
+-- one that became what it was
+kept_at : (caches : Caches) (j k : ℕ) (t : Bool) → (j == k) ≡ t → caches j ≡ (if t then caches k else caches j)
+kept_at caches j k true e = ap caches (eqb-true j k e)
+kept_at caches j k false e = refl
+
+pub same_kept : (f : Profile) (caches : Caches) (own : List Cache) (k : ℕ) → AreSameCaches f caches own → AreSameCaches f (with_cached caches k (caches k)) own
+same_kept f caches own k same = record {
+  many = same.many;
+  each = λ j is. subst (λ (c : Cached). IsSameCache c (cache_in own j)) (kept_at caches j k (j == k) refl) (same.each j is);
+}

@@ -1,0 +1,347 @@
+-- A request of a class for which the thread's cache has a slot.
+use Rattle.std.proofs.Common.{◌≡◌, ℕ, zero, suc, ◌+◌, ◌*◌, ◌<◌, ◌==◌, Bool, true, false, not, ◌&&◌, if◌then◌else◌, List, [], ◌∷◌, ◌++◌, Option, None, Some, Result, Ok, Err, inl, inr, refl, ap, sym, ◌∙◌, subst, arith}
+use Rattle.std.proofs.lemmas.Bool.{eqb-true, false≢true}
+use Rattle.std.specs.List.{find}
+use Rattle.pas_bits.specs.Masks.{is_set, HasMember, IsLowestSet}
+use Rattle.pas_profile.specs.Blocks.{address_of}
+use Rattle.pas_profile.specs.Classes.{class_size}
+use Rattle.pas_profile.specs.Directories.{number_of}
+use Rattle.pas_profile.specs.Profiles.{IsValid, IsDirectoryOf}
+use Rattle.pas_profile.specs.Requests.{route_in, room_in, directory_for}
+use Rattle.pas_profile.specs.declared.directory.Directory.{Directory}
+use Rattle.pas_profile.specs.declared.directory.Route.{Route}
+use Rattle.pas_profile.specs.declared.event.NoRoom.{NoRoom}
+use Rattle.pas_profile.specs.declared.event.Event.{Event}
+use Rattle.pas_profile.specs.declared.name.Block.{Block}
+use Rattle.pas_profile.specs.declared.profile.Profile.{Profile}
+use Rattle.pas_profile.specs.declared.word.Word.TheVariants as Word
+use Rattle.pas_machine.specs.State.{gives_in}
+use Rattle.pas_machine.specs.Machine.{Run}
+use Rattle.pas_steps.specs.Desks.{made}
+use Rattle.pas_steps.specs.Lists.{part, visible}
+use Rattle.pas_steps.specs.Views.{usable_by_kind}
+use Rattle.pas_steps.specs.declared.step.Made.{Made}
+use Rattle.pas_steps.specs.declared.step.Step.TheVariants.{Look, Give}
+use Rattle.pas_core.specs.Rights.{eligible_bit}
+use Rattle.pas_core.proofs.MachineRuns.{runs}
+use Rattle.pas_segregated.specs.declared.slots.Slots.{Slots}
+use Rattle.pas_cache.specs.Changes.{GivesSlot, IsWithoutSlot, IsTakenOut, LeavesSpent}
+use Rattle.pas_cache.specs.Contents.{Cached}
+use Rattle.pas_cache.specs.Serves.{ServesClass, ServesBy, IsObtained, IsAnswered, filling_in, wanted_for}
+use Rattle.pas_cache.specs.Locals.{local_for, others_than}
+use Rattle.pas_cache.specs.Locals.{is_for as is_for_slots}
+use Rattle.pas_report.specs.declared.record.Record.{Record}
+use Rattle.pas_report.specs.declared.record.Said.{Said as TheSaid}
+use Rattle.pas_trace.specs.EveryPlan.{IsThread}
+use Rattle.pas_trace.specs.Acts.{Act}
+use Rattle.pas_trace.specs.declared.plan.What.TheVariants.{Alloc}
+use Rattle.pas_answers.specs.Answers.{Progress, Named, named, Answer, having, IsServed, after_answer, said_of_request, name_of}
+use Rattle.pas_one_text.specs.State.{Local, World, cache_of, locals_of}
+use Rattle.pas_one_text.specs.Classes.{is_for, others, gives_first, gives_up, fetches, serves_class, serves_class_by}
+use Rattle.pas_one_text.specs.Pages.{each_of, is_free, is_kept, is_of, has_room, is_offered}
+use Rattle.pas_one_text.specs.Searches.{some_of, address_on}
+use Rattle.pas_same_text.specs.Same.{IsSame, HasSame, IsSameCache, IsSameLocal, AreSameLocals, IsRising, has_number}
+use Rattle.pas_one_text.specs.Order.{serves}
+use Rattle.pas_same_text.specs.Acts.{IsBetween, StaysSameWhere, HasCachedSlot}
+use Rattle.pas_same_text.proofs.CacheLists.{same_with}
+use Rattle.pas_same_text.proofs.FreeGrains.{free_same}
+use Rattle.pas_same_text.proofs.LoggedFrees.{after_with}
+use Rattle.pas_same_text.proofs.RestingPages.{bit_offered, offered_bit}
+use Rattle.pas_same_text.proofs.SameLocals.{Finds, found_same, others_same, last_same, head_lowest, rest_same}
+use Rattle.pas_same_text.proofs.SmallActs.{records_next}
+use Rattle.pas_same_text.proofs.Tests.{and_first, and_second}
+use Rattle.pas_steps.proofs.Sets.{same_truth}
+
+-- ---- tests of numbers that agree
+each_same : (n from : ℕ) (test other : ℕ → Bool) → ((b : ℕ) → b < from + n → test b ≡ other b) → each_of from n test ≡ each_of from n other
+unfolding each_of
+each_same zero from test other agree = refl
+each_same (suc n) from test other agree =
+    ap (λ (t : Bool). t && each_of (from + 1) n test) (agree from (omega arith))
+    ∙ ap (λ (t : Bool). other from && t) (each_same n (from + 1) test other (λ b small. agree b (omega (arith, small))))
+
+-- a page has room where it had, if its grains are free where they were
+pub room_same : (w w' : World) (d : Directory) (page : ℕ) → ((b : ℕ) → b < 256 → is_free w' page b ≡ is_free w page b) → has_room w' d page ≡ has_room w d page
+room_same w w' d page free =
+    ap (λ (t : Bool). not t) (each_same 256 0 (λ b. not (usable_by_kind d.kind b && is_free w' page b)) (λ b. not (usable_by_kind d.kind b && is_free w page b))
+    (λ b small. ap (λ (t : Bool). not (usable_by_kind d.kind b && t)) (free b small)))
+
+-- ---- blocks by their parts
+abbrev block_of : ℕ → ℕ → ℕ → ℕ → Block
+block_of address turn room heap = record { name = record { address = record { 0 = address }; turn = turn }; room = room; heap = heap }
+
+block_same : (block : Block) (address turn room heap : ℕ) → address_of block.name ≡ address → block.name.turn ≡ turn → block.room ≡ room → block.heap ≡ heap → block ≡ block_of address turn room heap
+block_same block address turn room heap a t r h =
+    ap (λ (x : ℕ). block_of x block.name.turn block.room block.heap) a
+    ∙ (ap (λ (x : ℕ). block_of address x block.room block.heap) t
+    ∙ (ap (λ (x : ℕ). block_of address turn x block.heap) r
+    ∙ ap (λ (x : ℕ). block_of address turn room x) h))
+
+-- ---- the two steps
+abbrev give_steps : Block → ℕ → ℕ → ℕ → ℕ → List Made
+give_steps block answer page start word = made (Give block) answer ∷ made (Look (Word.Life page start)) word ∷ []
+
+-- the replay after them
+abbrev given_to : Progress → ℕ → ℕ → Block → ℕ → ℕ → ℕ → ℕ → Cached → Progress
+given_to p k name block answer page start word c = after_with p k (give_steps block answer page start word) None (named name (Some block.name) ∷ p.names) c
+
+-- ---- what is given of a local allocator of the text, whose lowest slot is n: the block and what is cached then
+abbrev text_block : World → Local → ℕ → Block
+text_block w l n = block_of (address_on l.page n) (gives_in w.events (address_on l.page n)) (class_size l.class) l.heap
+
+abbrev text_locals : World → ℕ → Local → List ℕ → List Local
+text_locals w k l more = others l.heap l.class (locals_of w k) ++ record l { slots = more } ∷ []
+
+-- ---- one slot is given
+pub record Given (f : Profile) (k name : ℕ) (p : Progress) (w : World) (s s' : Slots) (l : Local) (n : ℕ) (more : List ℕ) (block : Block) (answer page start word : ℕ) (c' : Cached) : Type 0 where
+  valid : IsValid f
+  thread : IsThread f k
+  same : IsSame f p w
+  between : IsBetween f p
+  after : IsBetween f (given_to p k name block answer page start word c')
+  local : IsSameLocal s l
+  slots : l.slots ≡ n ∷ more
+  lowest : IsLowestSet s.starts 0 start
+  without : IsWithoutSlot s s' start
+  address : address_of block.name ≡ s.page * 4096 + start * 16
+  room : block.room ≡ class_size s.class
+  heap : block.heap ≡ s.heap
+  cache : c' ≡ record (p.caches k) { locals = others_than s.heap s.class (p.caches k).locals ++ s' ∷ [] }
+
+module _ (f : Profile) (k name : ℕ) (p : Progress) (w : World) (s s' : Slots) (l : Local) (n : ℕ) (more : List ℕ) (block : Block) (answer page start word : ℕ) (c' : Cached)
+    (g : Given f k name p w s s' l n more block answer page start word c') where
+  bits : (x : ℕ) → has_number (n ∷ more) x ≡ is_set s.starts x
+  bits x = ap (λ (xs : List ℕ). has_number xs x) (sym g.slots) ∙ g.local.slots x
+
+  rising : IsRising (n ∷ more)
+  rising = subst IsRising g.slots g.local.rising
+
+  head_is : n ≡ start
+  head_is = head_lowest s n start more bits rising g.lowest
+
+  own_same : IsSameLocal s' (record l { slots = more })
+  own_same = record {
+    page = g.local.page ∙ sym g.without.page;
+    heap = g.local.heap ∙ sym g.without.heap;
+    class = g.local.class ∙ sym g.without.class;
+    keeps = g.local.keeps ∙ sym g.without.right;
+    slots = rest_same s s' n start more bits rising head_is g.without;
+    rising = rising.1;
+  }
+
+  locals_same : AreSameLocals (others_than s.heap s.class (p.caches k).locals ++ s' ∷ []) (text_locals w k l more)
+  locals_same =
+      subst (λ (h : ℕ). AreSameLocals (others_than s.heap s.class (p.caches k).locals ++ s' ∷ []) (others h l.class (locals_of w k) ++ record l { slots = more } ∷ [])) (sym g.local.heap)
+      (subst (λ (c : ℕ). AreSameLocals (others_than s.heap s.class (p.caches k).locals ++ s' ∷ []) (others s.heap c (locals_of w k) ++ record l { slots = more } ∷ [])) (sym g.local.class)
+      (last_same (others_than s.heap s.class (p.caches k).locals) (others s.heap s.class (locals_of w k)) s' (record l { slots = more })
+      (others_same s.heap s.class (p.caches k).locals (locals_of w k) (g.same.caches.each k g.thread).locals) own_same))
+
+  cache_same : IsSameCache c' (record (cache_of w k) { locals = text_locals w k l more })
+  cache_same =
+      let was : IsSameCache (p.caches k) (cache_of w k) = g.same.caches.each k g.thread in
+      subst (λ (c : Cached). IsSameCache c (record (cache_of w k) { locals = text_locals w k l more })) (sym g.cache)
+      (record { locals = locals_same; log = was.log; noted = was.noted; began = was.began })
+
+  -- ---- the block, whose turn the machine tells
+  given_run : Run f (Event.Give k block ∷ visible p.list)
+  given_run = runs f (given_to p k name block answer page start word c').list g.valid g.after.legal
+
+  address_is : address_of block.name ≡ address_on l.page n
+  address_is =
+      let at = g.address in let on = g.local.page in let head = head_is in
+      omega (arith, at, on, head)
+
+  block_is : block ≡ text_block w l n
+  block_is = block_same block (address_on l.page n) (gives_in w.events (address_on l.page n)) (class_size l.class) l.heap
+      address_is
+      (given_run.0.turn ∙ (ap (λ (es : List Event). gives_in es (address_of block.name)) (sym g.same.pages.events) ∙ ap (gives_in w.events) address_is))
+      (g.room ∙ ap class_size (sym g.local.class))
+      (g.heap ∙ sym g.local.heap)
+
+  abbrev to : World
+  to = gives_first k name l (n ∷ more) w
+
+  has_same : HasSame f (given_to p k name block answer page start word c') to
+  has_same = record {
+    events = ap (λ (b : Block). Event.Give k b ∷ w.events) (sym block_is) ∙ ap (λ (es : List Event). Event.Give k block ∷ es) g.same.pages.events;
+    live = ap (λ (bs : List Block). text_block w l n ∷ bs) g.same.pages.live;
+    caches = same_with f p.caches w.caches k c' (record (cache_of w k) { locals = text_locals w k l more }) g.thread g.same.caches cache_same;
+  }
+
+  before_same : HasSame f p w
+  before_same = record { events = g.same.pages.events; live = g.same.pages.live; caches = g.same.caches }
+
+  free_kept : (q b : ℕ) → b < 256 → is_free to q b ≡ is_free w q b
+  free_kept q b small =
+      free_same f (given_to p k name block answer page start word c') to g.valid g.after has_same q b small
+      ∙ sym (free_same f p w g.valid g.between before_same q b small)
+
+  room_kept : (d : Directory) (q : ℕ) → has_room to d q ≡ has_room w d q
+  room_kept d q = room_same w to d q (free_kept q)
+
+  had_room : (d : Directory) (q : ℕ) → is_offered w d q ≡ true → has_room w d q ≡ true
+  had_room d q h = and_second (not (is_kept w q)) (has_room w d q) (and_second (is_of w d q) (not (is_kept w q) && has_room w d q) h)
+
+  offered_kept : (q : ℕ) (d : Directory) → IsDirectoryOf f d → is_offered to d q ≡ eligible_bit (given_to p k name block answer page start word c').list (number_of d) q
+  offered_kept q d of = same_truth (is_offered to d q) (eligible_bit (given_to p k name block answer page start word c').list (number_of d) q)
+      (offered_bit f (given_to p k name block answer page start word c') to g.valid g.after has_same q d of)
+      (λ h. bit_offered f (given_to p k name block answer page start word c') to g.valid g.after has_same q d of h (room_kept d q ∙ had_room d q (g.same.pages.offered q d of ∙ h)))
+
+  pub given_same : IsSame f (given_to p k name block answer page start word c') to
+  given_same = record {
+    pages = record { events = has_same.events; live = has_same.live; hinted = g.same.pages.hinted; offered = offered_kept };
+    caches = has_same.caches;
+    names = ap (λ (b : Block). named name (Some b.name) ∷ w.names) (sym block_is) ∙ ap (λ (ns : List Named). named name (Some block.name) ∷ ns) g.same.names;
+    records = ap (λ (b : Block). p.records ++ Record.Event (Event.Give k b) ∷ []) block_is ∙ records_next p.records w.records (Record.Event (Event.Give k (text_block w l n))) g.same.records;
+    epoch = g.same.epoch;
+    read = g.same.read;
+  }
+
+-- ---- the request
+-- a list with a number has a first one
+record HasHead (xs : List ℕ) : Type 0 where
+  head : ℕ
+  more : List ℕ
+  is : xs ≡ head ∷ more
+
+head_of : (xs : List ℕ) (x : ℕ) → has_number xs x ≡ true → HasHead xs
+head_of [] x h = absurd (false≢true h)
+head_of (n ∷ more) x h = record { head = n; more = more; is = refl }
+
+-- what is found passes the test
+some_slots : Slots → Option Slots → Slots
+some_slots x None = x
+some_slots x (Some y) = y
+
+found_at : (heap class : ℕ) (x s : Slots) (rest : Option Slots) (t : Bool) → is_for_slots heap class x ≡ t → (rest ≡ Some s → is_for_slots heap class s ≡ true) → (if t then Some x else rest) ≡ Some s → is_for_slots heap class s ≡ true
+unfolding some_slots
+found_at heap class x s rest true e later same = subst (λ (y : Slots). is_for_slots heap class y ≡ true) (ap (some_slots x) same) e
+found_at heap class x s rest false e later same = later same
+
+found_passes : (heap class : ℕ) (slots : List Slots) (s : Slots) → local_for heap class slots ≡ Some s → is_for_slots heap class s ≡ true
+found_passes heap class [] s is = absurd (none is)
+  where
+    is_some : Option Slots → Bool
+    is_some None = false
+    is_some (Some x) = true
+
+    none : None ≡ Some s → ⊥
+    none e = false≢true (ap is_some e)
+found_passes heap class (x ∷ slots) s is = found_at heap class x s (local_for heap class slots) (is_for_slots heap class x) refl (found_passes heap class slots s) is
+
+-- what the text does where it finds a local allocator with a slot
+served_text : (f : Profile) (k name heap class : ℕ) (w : World) (l : Local) (n : ℕ) (more : List ℕ) → find (is_for heap class) (locals_of w k) ≡ Some l → l.slots ≡ n ∷ more
+    → serves_class f k name heap class w ≡ gives_first k name l (n ∷ more) w
+served_text f k name heap class w l n more is slots =
+    ap (λ (o : Option Local). serves_class_by f k name heap class o w) is
+    ∙ ap (λ (xs : List ℕ). if some_of xs then gives_first k name l xs w else fetches f k name heap class (gives_up k l w)) slots
+
+-- the two steps and what they answer, where a cached slot is given
+pub record Served (f : Profile) (k name heap class : ℕ) (p p' : Progress) (w : World) (s : Slots) : Type 0 where
+  block : Block
+  rest : Slots
+  steps : List Made
+  gives : GivesSlot s rest block steps
+  cache : Cached
+  cache_is : cache ≡ record (p.caches k) { locals = others_than heap class (p.caches k).locals ++ rest ∷ [] }
+  after : p' ≡ after_with p k steps None (named name (Some block.name) ∷ p.names) cache
+
+to_given : (f : Profile) (k name heap class : ℕ) (p p' : Progress) (w : World) (s : Slots) → IsValid f → IsThread f k → IsBetween f p → IsBetween f p' → IsSame f p w → local_for heap class (p.caches k).locals ≡ Some s → HasMember s.starts
+    → Served f k name heap class p p' w s → IsSame f p' (serves_class f k name heap class w)
+to_given f k name heap class p p' w s valid is between after same there member o =
+    let found : Finds s (find (is_for heap class) (locals_of w k)) = found_same heap class (p.caches k).locals (locals_of w k) s (same.caches.each k is).locals there in
+    let l : Local = found.local in
+    let h : HasHead l.slots = head_of l.slots member.0 (found.same.slots member.0 ∙ member.2) in
+    let passes : is_for_slots heap class s ≡ true = found_passes heap class (p.caches k).locals s there in
+    let of_heap : s.heap ≡ heap = eqb-true s.heap heap (and_first (s.heap == heap) (s.class == class) passes) in
+    let of_class : s.class ≡ class = eqb-true s.class class (and_second (s.heap == heap) (s.class == class) passes) in
+    let g = o.gives in
+    let steps_are : o.steps ≡ give_steps o.block g.answer s.page g.start g.word = g.steps_are in
+    let reached : p' ≡ given_to p k name o.block g.answer s.page g.start g.word o.cache =
+    o.after ∙ ap (λ (ms : List Made). after_with p k ms None (named name (Some o.block.name) ∷ p.names) o.cache) steps_are in
+    let kept : o.cache ≡ record (p.caches k) { locals = others_than s.heap s.class (p.caches k).locals ++ o.rest ∷ [] } =
+    o.cache_is ∙ (ap (λ (x : ℕ). record (p.caches k) { locals = others_than x class (p.caches k).locals ++ o.rest ∷ [] }) (sym of_heap)
+    ∙ ap (λ (x : ℕ). record (p.caches k) { locals = others_than s.heap x (p.caches k).locals ++ o.rest ∷ [] }) (sym of_class)) in
+    let given : Given f k name p w s o.rest l h.head h.more o.block g.answer s.page g.start g.word o.cache = record {
+      valid = valid;
+      thread = is;
+      same = same;
+      between = between;
+      after = subst (IsBetween f) reached after;
+      local = found.same;
+      slots = h.is;
+      lowest = g.lowest;
+      without = g.rest;
+      address = g.address;
+      room = g.room;
+      heap = g.heap;
+      cache = kept;
+    } in
+    subst (λ (x : World). IsSame f p' x) (sym (served_text f k name heap class w l h.head h.more found.is h.is))
+    (subst (λ (q : Progress). IsSame f q (gives_first k name l (h.head ∷ h.more) w)) (sym reached)
+    (given_same f k name p w s o.rest l h.head h.more o.block g.answer s.page g.start g.word o.cache given))
+
+-- ---- the act
+module _ (f : Profile) (k name heap class : ℕ) (p : Progress) (s : Slots) (there : local_for heap class (p.caches k).locals ≡ Some s) (member : HasMember s.starts) where
+  -- the request doesn't fetch slots, since one is cached
+  not_fetched : (d : Directory) (locals' : List Slots) (steps : List Made) → d.heap ≡ heap → IsTakenOut d.heap class (p.caches k).locals locals' steps → ⊥
+  not_fetched d locals' steps of taken =
+      let spent : LeavesSpent (local_for heap class (p.caches k).locals) steps = subst (λ (x : ℕ). LeavesSpent (local_for x class (p.caches k).locals) steps) of taken.left in
+      let none : LeavesSpent (Some s) steps = subst (λ (o : Option Slots). LeavesSpent o steps) there spent in
+      false≢true (sym (none.0 member.0 member.1) ∙ member.2)
+
+-- how the give ends
+record Ends (fewer locals' : List Slots) (given : List Made) (slots : Slots) (answer : Result Block NoRoom) : Type 0 where
+  block : Block
+  rest : Slots
+  gives : GivesSlot slots rest block given
+  locals : locals' ≡ fewer ++ rest ∷ []
+  is : answer ≡ Ok block
+
+ends_of : (fewer locals' : List Slots) (given : List Made) (found : Result Slots NoRoom) (answer : Result Block NoRoom) (slots : Slots) → found ≡ Ok slots → IsAnswered fewer locals' given found answer → Ends fewer locals' given slots answer
+ends_of fewer locals' given found (Ok block) slots is e =
+    let x : IsAnswered fewer locals' given (Ok slots) (Ok block) = subst (λ (r : Result Slots NoRoom). IsAnswered fewer locals' given r (Ok block)) is e in
+    record { block = block; rest = x.0; gives = x.1; locals = x.2; is = refl }
+ends_of fewer locals' given found (Err room) slots is e = absurd (subst (λ (r : Result Slots NoRoom). IsAnswered fewer locals' given r (Err room)) is e)
+
+no_more : (xs : List Made) → xs ++ [] ≡ xs
+no_more [] = refl
+no_more (x ∷ xs) = ap (λ (ys : List Made). x ∷ ys) (no_more xs)
+
+module _ (f : Profile) (k name heap size align class : ℕ) (p p' : Progress) (w : World) (s : Slots) (there : local_for heap class (p.caches k).locals ≡ Some s) (member : HasMember s.starts)
+    (a : Answer) (served : IsServed f k (record { name = name; heap = heap; size = size; align = align }) (having p.names (part k p.list) (p.caches k)) a) (reached : p' ≡ after_answer p k a) where
+  same_slots : (slots : Slots) → local_for heap class (p.caches k).locals ≡ Some slots → slots ≡ s
+  same_slots slots is = ap or_else (sym is ∙ there)
+    where
+      or_else : Option Slots → Slots
+      or_else None = slots
+      or_else (Some x) = x
+
+  served_by : (sv : ServesClass (filling_in (directory_for f heap size align) class) f (p.caches k) a.cache a.steps served.answer)
+      → IsObtained (filling_in (directory_for f heap size align) class) f (p.caches k).locals sv.locals.fewer sv.locals.before sv.locals.found → Served f k name heap class p p' w s
+  served_by sv (inr fetches) = absurd (not_fetched f k name heap class p s there member (directory_for f heap size align) fetches.place.kept fetches.place.spent refl fetches.place.taken)
+  served_by sv (inl t) =
+      let e : Ends sv.locals.fewer a.cache.locals sv.locals.given t.0 served.answer = ends_of sv.locals.fewer a.cache.locals sv.locals.given sv.locals.found served.answer t.0 t.1 sv.locals.ends in
+      let steps : a.steps ≡ sv.locals.given = sv.locals.steps_are ∙ (ap (λ (ms : List Made). sv.locals.given ++ ms) t.2.no_steps ∙ no_more sv.locals.given) in
+      let said : a.said ≡ None = served.said_is ∙ ap (said_of_request name) e.is in
+      let names : a.names ≡ named name (Some e.block.name) ∷ p.names = served.names_are ∙ ap (λ (r : Result Block NoRoom). named name (name_of r) ∷ p.names) e.is in
+      record {
+        block = e.block;
+        rest = e.rest;
+        steps = a.steps;
+        gives = subst (λ (x : Slots). GivesSlot x e.rest e.block a.steps) (same_slots t.0 t.2.cached) (subst (GivesSlot t.0 e.rest e.block) (sym steps) e.gives);
+        cache = a.cache;
+        cache_is = sv.cache ∙ ap (λ (ls : List Slots). record (p.caches k) { locals = ls }) (e.locals ∙ ap (λ (ls : List Slots). ls ++ e.rest ∷ []) t.2.fewer_are);
+        after = reached ∙ (ap (λ (x : Option TheSaid). after_with p k a.steps x a.names a.cache) said ∙ ap (λ (ns : List Named). after_with p k a.steps None ns a.cache) names);
+      }
+
+pub cached_same : (f : Profile) (line k name heap size align class : ℕ) → IsThread f k → route_in f size align ≡ Route.Class class
+    → StaysSameWhere (HasCachedSlot heap class k) f (Act.Operates (record { line = line; actor = k; what = Alloc name heap size align }))
+cached_same f line k name heap size align class is route p p' w has taken =
+    let a : Answer = taken.advances.0 in
+    let served : IsServed f k (record { name = name; heap = heap; size = size; align = align }) (having p.names (part k p.list) (p.caches k)) a = taken.advances.1 in
+    let sv : ServesClass (filling_in (directory_for f heap size align) class) f (p.caches k) a.cache a.steps served.answer =
+    subst (λ (r : Route). ServesBy r f (wanted_for f heap size align) None (p.caches k) a.cache a.steps served.answer) route served.serves in
+    let o : Served f k name heap class p p' w has.0 = served_by f k name heap size align class p p' w has.0 has.1 has.2 a served taken.advances.2 sv sv.locals.obtained in
+    subst (λ (r : Route). IsSame f p' (serves f k name heap r (room_in f size align) align w)) (sym route)
+    (to_given f k name heap class p p' w has.0 taken.valid is taken.before taken.after taken.same has.1 has.2 o)

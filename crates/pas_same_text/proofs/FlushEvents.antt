@@ -1,0 +1,63 @@
+-- What a flush shows: one event for each logged free, in the order of the log.
+use Rattle.std.proofs.Common.{◌≡◌, ℕ, ◌==◌, nat_lt, Bool, true, false, not, ◌&&◌, if◌then◌else◌, List, [], ◌∷◌, refl, ap, sym, ◌∙◌, subst}
+use Rattle.std.proofs.lemmas.Bool.{false≢true, true≢false}
+use Rattle.pas_profile.specs.Lives.{turn_of}
+use Rattle.pas_profile.specs.declared.event.Event.{Event}
+use Rattle.pas_profile.specs.declared.event.Why.{Why}
+use Rattle.pas_profile.specs.declared.profile.Profile.{Profile}
+use Rattle.pas_machine.specs.Machine.{Run}
+use Rattle.pas_free_log.specs.Endings.{reason_by}
+use Rattle.pas_free_log.specs.Flushes.{event_for}
+use Rattle.pas_free_log.specs.Logs.{is_sized}
+use Rattle.pas_free_log.specs.declared.ending.Outcome.{Outcome}
+use Rattle.pas_free_log.specs.declared.ending.Outcome.TheVariants.{Ended, Refused}
+use Rattle.pas_free_log.specs.declared.log.Entry.{Entry}
+use Rattle.pas_one_text.specs.State.{World, each, live_after}
+use Rattle.pas_one_text.specs.Frees.{ends}
+use Rattle.pas_same_text.specs.Entries.{IsShown, IsEntryReason, IsEntryEvent, HaveOutcomes, are_unsized, onto, events_of_flush, HasShown}
+use Rattle.pas_same_text.specs.Same.{lives_in}
+use Rattle.pas_same_text.proofs.EntryEvents.{entry_shown}
+
+-- ---- one
+reason_named : (entry : Entry) (sized : Bool) (read : ℕ) → is_sized entry ≡ sized → sized ≡ false → IsEntryReason entry (reason_by sized entry read)
+reason_named entry true read is none = absurd (true≢false none)
+reason_named entry false read is none = elim (nat_lt entry.name.turn (turn_of read)) as (λ (t : Bool). IsEntryReason entry (if t then Why.Ended else Why.NoBlock)) [ true ↦ tt | false ↦ tt ]
+
+-- whatever came of a free without a room, its event is one that the text knows
+entry_event : (k epoch : ℕ) (entry : Entry) (outcome : Outcome) (w : World) → is_sized entry ≡ false → w.epoch ≡ epoch → IsEntryEvent k entry w (event_for k epoch entry outcome)
+entry_event k epoch entry (Ended grains) w unsized now = (refl, refl, sym now, λ b at. ap (λ (t : Bool). t && not (b.block.room == entry.room)) unsized)
+entry_event k epoch entry (Refused read) w unsized now = (refl, refl, reason_named entry (is_sized entry) read refl unsized)
+
+-- ---- all
+run_before : (f : Profile) (evs es : List Event) → Run f (onto evs es) → Run f es
+run_before f [] es run = run
+run_before f (e ∷ evs) es run = (run_before f evs (e ∷ es) run).1
+
+pub flush_shown : (f : Profile) (k epoch : ℕ) (entries : List Entry) (outcomes : List Outcome) (w : World) → HaveOutcomes entries outcomes → are_unsized entries ≡ true → w.live ≡ lives_in w.events → w.epoch ≡ epoch
+    → Run f (onto (events_of_flush k epoch entries outcomes) w.events) → HasShown (events_of_flush k epoch entries outcomes) w (each (ends f k) entries w)
+flush_shown f k epoch [] [] w pairs unsized live now run = record { events = refl; live = live; names = refl; epoch = refl }
+flush_shown f k epoch [] (o ∷ outcomes) w pairs unsized live now run = absurd pairs
+flush_shown f k epoch (entry ∷ entries) [] w pairs unsized live now run = absurd pairs
+flush_shown f k epoch (entry ∷ entries) (o ∷ outcomes) w pairs unsized live now run =
+    let e : Event = event_for k epoch entry o in
+    let evs : List Event = events_of_flush k epoch entries outcomes in
+    let own : is_sized entry ≡ false = unsized_head (is_sized entry) (are_unsized entries) unsized in
+    let rest : are_unsized entries ≡ true = unsized_tail (is_sized entry) (are_unsized entries) unsized in
+    let v : World = ends f k entry w in
+    let one : IsShown e w v = entry_shown f k entry w live e (run_before f evs (e ∷ w.events) run) (entry_event k epoch entry o w own now) in
+    let alive : v.live ≡ lives_in v.events = one.live ∙ (ap (live_after e) live ∙ ap lives_in (sym one.events)) in
+    let more : HasShown evs v (each (ends f k) entries v) = flush_shown f k epoch entries outcomes v pairs rest alive (one.epoch ∙ now) (subst (λ (es : List Event). Run f (onto evs es)) (sym one.events) run) in
+    record {
+      events = more.events ∙ ap (onto evs) one.events;
+      live = more.live;
+      names = more.names ∙ one.names;
+      epoch = more.epoch ∙ one.epoch;
+    }
+  where
+    unsized_head : (x y : Bool) → (not x && y) ≡ true → x ≡ false
+    unsized_head true y h = sym h
+    unsized_head false y h = refl
+
+    unsized_tail : (x y : Bool) → (not x && y) ≡ true → y ≡ true
+    unsized_tail true y h = absurd (false≢true h)
+    unsized_tail false y h = h

@@ -1,0 +1,120 @@
+-- The events of a flush, by its steps and in the text.
+use Rattle.std.proofs.Common.{◌≡◌, ℕ, true, List, [], ◌∷◌, ◌++◌, map, reverse, refl, ap, sym, ◌∙◌, subst, append_assoc}
+use Rattle.std.proofs.lemmas.Grind.{reverse_onto}
+use Rattle.std.proofs.lemmas.List.{reverse-reverse}
+use Rattle.pas_profile.specs.declared.event.Event.{Event}
+use Rattle.pas_profile.specs.declared.profile.Profile.{Profile}
+use Rattle.pas_profile.specs.declared.word.Word.TheVariants as Word
+use Rattle.pas_machine.specs.Machine.{Run}
+use Rattle.pas_steps.specs.Desks.{made, triple, triples}
+use Rattle.pas_steps.specs.Events.{event_of, events_by, with_event}
+use Rattle.pas_steps.specs.Lists.{Whole, part, visible, Legal}
+use Rattle.pas_steps.specs.Views.{View, epoch_of}
+use Rattle.pas_steps.specs.declared.step.Made.{Made}
+use Rattle.pas_steps.specs.declared.step.Step.TheVariants.{Look}
+use Rattle.pas_steps.proofs.Adding.{triples_append}
+use Rattle.pas_steps.proofs.Frames.{with_append}
+use Rattle.pas_steps.proofs.Parts.{part_of_own}
+use Rattle.pas_core.proofs.MachineRuns.{runs}
+use Rattle.pas_free_log.specs.Flushes.{Settled, shown_for}
+use Rattle.pas_free_log.specs.declared.ending.Outcome.{Outcome}
+use Rattle.pas_free_log.specs.declared.log.Entry.{Entry}
+use Rattle.pas_free_log.specs.declared.noting.EndedRun.{EndedRun}
+use Rattle.pas_one_text.specs.State.{World, each, set_log}
+use Rattle.pas_one_text.specs.Frees.{ends, flushes}
+use Rattle.pas_same_text.specs.Entries.{HaveOutcomes, events_of_flush, are_unsized, onto, HasShown, IsFlushOf}
+use Rattle.pas_same_text.specs.Same.{lives_in}
+use Rattle.pas_same_text.proofs.FlushEvents.{flush_shown}
+
+-- ---- lists
+onto_is : (xs es : List Event) → onto xs es ≡ reverse xs ++ es
+onto_is [] es = refl
+onto_is (x ∷ xs) es = onto_is xs (x ∷ es) ∙ (sym (append_assoc (reverse xs) (x ∷ []) es) ∙ ap (λ (ys : List Event). ys ++ es) (sym (reverse_onto xs x [])))
+
+map_append : {A B : Type 0} (h : A → B) (xs ys : List A) → map h (xs ++ ys) ≡ map h xs ++ map h ys
+map_append h [] ys = refl
+map_append {B = B} h (x ∷ xs) ys = ap (λ (zs : List B). h x ∷ zs) (map_append h xs ys)
+
+map_reverse : {A B : Type 0} (h : A → B) (xs : List A) → map h (reverse xs) ≡ reverse (map h xs)
+map_reverse h [] = refl
+map_reverse {B = B} h (x ∷ xs) =
+    ap (map h) (reverse_onto xs x [])
+    ∙ (map_append h (reverse xs) (x ∷ [])
+    ∙ (ap (λ (zs : List B). zs ++ h x ∷ []) (map_reverse h xs) ∙ sym (reverse_onto (map h xs) (h x) [])))
+
+abbrev entries_of : List Settled → List Entry
+entries_of settled = map (λ s. s.entry) settled
+
+abbrev outcomes_of : List Settled → List Outcome
+outcomes_of settled = map (λ s. s.outcome) settled
+
+paired : (settled : List Settled) → HaveOutcomes (entries_of settled) (outcomes_of settled)
+paired [] = tt
+paired (s ∷ settled) = paired settled
+
+events_are : (k epoch : ℕ) (settled : List Settled) → events_of_flush k epoch (entries_of settled) (outcomes_of settled) ≡ map (shown_for k epoch) settled
+events_are k epoch [] = refl
+events_are k epoch (s ∷ settled) = ap (λ (es : List Event). shown_for k epoch s ∷ es) (events_are k epoch settled)
+
+-- ---- the list of a replay
+pub visible_steps : (k : ℕ) (steps : List Made) (l : Whole) → visible (triples k steps ++ l) ≡ events_by k (part k l) steps ++ visible l
+visible_steps k [] l = refl
+visible_steps k (m ∷ steps) l =
+    ap (λ (v : View). with_event (event_of k (epoch_of v) m.step m.answer) (visible (triples k steps ++ l))) (part_of_own k steps l)
+    ∙ (ap (with_event (event_of k (epoch_of (steps ++ part k l)) m.step m.answer)) (visible_steps k steps l)
+    ∙ with_append (event_of k (epoch_of (steps ++ part k l)) m.step m.answer) (events_by k (part k l) steps) (visible l))
+
+legal_before : (f : Profile) (xs l : Whole) → Legal f (xs ++ l) → Legal f l
+legal_before f [] l legal = legal
+legal_before f (x ∷ xs) l legal = legal_before f xs l legal.1
+
+-- ---- A FLUSH
+module _ (f : Profile) (k : ℕ) (logged : List Entry) (noted noted' : List EndedRun) (steps : List Made) (l : Whole) (w : World) (is : IsFlushOf f k logged noted noted' steps l w) where
+  abbrev in_order : List Settled
+  in_order = reverse is.empties.settled
+
+  logged_are : logged ≡ entries_of in_order
+  logged_are = sym is.empties.entries_are ∙ sym (map_reverse (λ (s : Settled). s.entry) is.empties.settled)
+
+  -- the epoch of the flush is that of the text
+  look_legal : Legal f (triples k (is.empties.entries ++ (made (Look Word.Epoch) is.empties.epoch ∷ [])) ++ l)
+  look_legal = subst (λ (ms : List Made). Legal f (triples k ms ++ l)) is.empties.steps_are is.legal
+
+  epoch_now : w.epoch ≡ is.empties.epoch
+  epoch_now =
+      let at : Legal f (triple k (made (Look Word.Epoch) is.empties.epoch) ∷ l) =
+      legal_before f (triples k is.empties.entries) (triple k (made (Look Word.Epoch) is.empties.epoch) ∷ l)
+      (subst (Legal f) (sym (triples_append k is.empties.entries (made (Look Word.Epoch) is.empties.epoch ∷ []) l)) look_legal) in
+      is.epoch ∙ sym at.0.answer_is
+
+  abbrev shown : List Event
+  shown = events_of_flush k is.empties.epoch (entries_of in_order) (outcomes_of in_order)
+
+  shown_are : (es : List Event) → onto shown es ≡ map (shown_for k is.empties.epoch) is.empties.settled ++ es
+  shown_are es =
+      ap (λ (evs : List Event). onto evs es) (events_are k is.empties.epoch in_order)
+      ∙ (onto_is (map (shown_for k is.empties.epoch) in_order) es
+      ∙ ap (λ (evs : List Event). evs ++ es) (ap reverse (map_reverse (shown_for k is.empties.epoch) is.empties.settled) ∙ reverse-reverse (map (shown_for k is.empties.epoch) is.empties.settled)))
+
+  all_shown : visible (triples k steps ++ l) ≡ onto shown w.events
+  all_shown =
+      visible_steps k steps l
+      ∙ (ap (λ (evs : List Event). evs ++ visible l) (is.empties.events (part k l))
+      ∙ (ap (λ (es : List Event). map (shown_for k is.empties.epoch) is.empties.settled ++ es) (sym is.events) ∙ sym (shown_are w.events)))
+
+  text_shown : HasShown shown (set_log k [] w) (each (ends f k) (entries_of in_order) (set_log k [] w))
+  text_shown = flush_shown f k is.empties.epoch (entries_of in_order) (outcomes_of in_order) (set_log k [] w) (paired in_order)
+      (subst (λ (es : List Entry). are_unsized es ≡ true) logged_are is.unsized) is.live epoch_now
+      (subst (Run f) all_shown (runs f (triples k steps ++ l) is.valid is.legal))
+
+  flushed_is : flushes f k w ≡ each (ends f k) (entries_of in_order) (set_log k [] w)
+  flushed_is = ap (λ (es : List Entry). each (ends f k) es (set_log k [] w)) (is.log ∙ logged_are)
+
+  pub flush_events : (flushes f k w).events ≡ visible (triples k steps ++ l)
+  flush_events = ap (λ (v : World). v.events) flushed_is ∙ (text_shown.events ∙ sym all_shown)
+
+  pub flush_lives : (flushes f k w).live ≡ lives_in (flushes f k w).events
+  flush_lives = subst (λ (v : World). v.live ≡ lives_in v.events) (sym flushed_is) text_shown.live
+
+  pub flush_epoch : (flushes f k w).epoch ≡ w.epoch
+  flush_epoch = ap (λ (v : World). v.epoch) flushed_is ∙ text_shown.epoch

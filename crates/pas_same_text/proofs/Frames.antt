@@ -1,0 +1,87 @@
+-- What an act that changes no page keeps.
+use Rattle.std.proofs.Common.{◌≡◌, ℕ, ◌/◌, ◌%◌, ◌==◌, Bool, true, false, not, ◌&&◌, if◌then◌else◌, List, ◌∷◌, refl, ap, sym, ◌∙◌}
+use Rattle.pas_profile.specs.Directories.{number_of}
+use Rattle.pas_profile.specs.declared.directory.Directory.{Directory}
+use Rattle.pas_profile.specs.declared.event.Event.{Event}
+use Rattle.pas_profile.specs.declared.name.Block.{Block}
+use Rattle.pas_profile.specs.declared.profile.Profile.{Profile}
+use Rattle.pas_profile.specs.declared.word.Word.{Word}
+use Rattle.pas_profile.specs.declared.word.Word.TheVariants as TheWord
+use Rattle.pas_profile.specs.Layouts.{same_word}
+use Rattle.pas_bits.specs.Bits.{has_bit}
+use Rattle.pas_steps.specs.Lists.{Whole, word_after, visible}
+use Rattle.pas_steps.specs.Desks.{made, triple}
+use Rattle.pas_steps.specs.declared.step.Step.TheVariants.{Look, Tick}
+use Rattle.pas_core.specs.Rights.{empty_bit, eligible_bit}
+use Rattle.pas_one_text.specs.State.{Local, World}
+use Rattle.pas_one_text.specs.Pages.{is_offered, is_same, is_free_of, each_of}
+use Rattle.pas_bits.specs.Runs.{meets_page}
+use Rattle.pas_profile.specs.Blocks.{grain_of, length_of}
+use Rattle.pas_machine.specs.State.{deed_in}
+use Rattle.pas_steps.specs.Views.{usable_by_kind}
+use Rattle.std.specs.List.{list_any, filter}
+use Rattle.pas_same_text.specs.Same.{ArePagesSame, lives_in}
+use Rattle.pas_same_text.proofs.CacheLists.{all_locals}
+
+-- ---- lists of steps with the same events and the same bits of pages
+pub record HaveSamePages (l l' : Whole) : Type 0 where
+  pub events : visible l' ≡ visible l
+  pub hints : (page : ℕ) → empty_bit l' page ≡ empty_bit l page
+  pub offers : (number page : ℕ) → eligible_bit l' number page ≡ eligible_bit l number page
+
+pub unchanged : (l : Whole) → HaveSamePages l l
+unchanged l = record { events = refl; hints = λ page. refl; offers = λ number page. refl }
+
+-- a look changes no word
+pub look_word : (k a : ℕ) (word w : Word) (l : Whole) → word_after (triple k (made (Look word) a) ∷ l) w ≡ word_after l w
+look_word k a word w l = elim (same_word word w) as (λ (t : Bool). (if t then word_after l w else word_after l w) ≡ word_after l w) [ true ↦ refl | false ↦ refl ]
+
+looked_bit : (k a : ℕ) (word w : Word) (l : Whole) (b : ℕ) → has_bit (word_after (triple k (made (Look word) a) ∷ l) w) b ≡ has_bit (word_after l w) b
+looked_bit k a word w l b = ap (λ (n : ℕ). has_bit n b) (look_word k a word w l)
+
+pub look_pages : (k a : ℕ) (word : Word) (l : Whole) → HaveSamePages l (triple k (made (Look word) a) ∷ l)
+look_pages k a word l = record {
+  events = refl;
+  hints = λ page. looked_bit k a word (TheWord.Empty (page / 64)) l (page % 64);
+  offers = λ number page. looked_bit k a word (TheWord.Eligible number (page / 64)) l (page % 64);
+}
+
+-- a tick changes the epoch alone
+pub tick_pages : (k a raised : ℕ) (l : Whole) → HaveSamePages l (triple k (made (Tick raised) a) ∷ l)
+tick_pages k a raised l = record { events = refl; hints = λ page. refl; offers = λ number page. refl }
+
+-- ---- states of the text with the same pages
+pub record HaveSameState (w w' : World) : Type 0 where
+  pub events : w'.events ≡ w.events
+  pub live : w'.live ≡ w.live
+  pub hinted : w'.hinted ≡ w.hinted
+  pub locals : all_locals w'.caches ≡ all_locals w.caches
+
+-- ---- offers, by the events, the live blocks and the local allocators that a state has
+abbrev offered_of : List Event → List Block → List Local → Directory → ℕ → Bool
+offered_of events live locals d page = is_same d (deed_in events page) && (not (list_any (λ l. l.keeps) (filter (λ l. l.page == page) locals))
+    && not (each_of 0 256 (λ b. not (usable_by_kind d.kind b && is_free_of (filter (λ x. meets_page (grain_of x.name) (length_of x) page) live) (filter (λ l. l.page == page) locals) page b))))
+
+offered_is : (w : World) (d : Directory) (page : ℕ) → is_offered w d page ≡ offered_of w.events w.live (all_locals w.caches) d page
+offered_is w d page = refl
+
+pub offered_same : (w w' : World) (d : Directory) (page : ℕ) → HaveSameState w w' → is_offered w' d page ≡ is_offered w d page
+offered_same w w' d page same =
+    offered_is w' d page
+    ∙ (ap (λ (es : List Event). offered_of es w'.live (all_locals w'.caches) d page) same.events
+    ∙ (ap (λ (bs : List Block). offered_of w.events bs (all_locals w'.caches) d page) same.live
+    ∙ (ap (λ (ls : List Local). offered_of w.events w.live ls d page) same.locals
+    ∙ sym (offered_is w d page))))
+
+-- the pages are the same where the caches' local allocators are
+pub unmoved : (w w' : World) → w'.events ≡ w.events → w'.live ≡ w.live → w'.hinted ≡ w.hinted → all_locals w'.caches ≡ all_locals w.caches → HaveSameState w w'
+unmoved w w' events live hinted locals = record { events = events; live = live; hinted = hinted; locals = locals }
+
+-- ---- both together
+pub pages_next : (f : Profile) (l l' : Whole) (w w' : World) → ArePagesSame f l w → HaveSamePages l l' → HaveSameState w w' → ArePagesSame f l' w'
+pages_next f l l' w w' was list state = record {
+  events = state.events ∙ (was.events ∙ sym list.events);
+  live = state.live ∙ (was.live ∙ ap lives_in (sym state.events));
+  hinted = λ page. ap (λ (hinted : List ℕ). list_any (λ p. p == page) hinted) state.hinted ∙ (was.hinted page ∙ sym (list.hints page));
+  offered = λ page d of. offered_same w w' d page state ∙ (was.offered page d of ∙ sym (list.offers (number_of d) page));
+}

@@ -1,0 +1,15 @@
+mod CacheLists
+mod Frames
+mod SmallActs
+mod Tests
+mod LiveBlocks
+mod LoggedFrees
+mod Slots
+mod FreeGrains
+mod KeptPages
+mod RestingPages
+mod SameLocals
+mod CachedSlots
+mod EntryEvents
+mod FlushEvents
+mod Flushes

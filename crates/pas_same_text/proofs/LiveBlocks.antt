@@ -1,0 +1,152 @@
+-- The live blocks in a list, and those that the machine has by their addresses.
+use Rattle.std.proofs.Common.{◌≡◌, ℕ, ◌/◌, ◌%◌, ◌<◌, ◌≢◌, ◌==◌, Bool, true, false, not, ◌&&◌, ◌||◌, if◌then◌else◌, List, [], ◌∷◌, Option, Some, None, ◌⊎◌, inl, inr, refl, ap, sym, ◌∙◌, arith}
+use Rattle.std.proofs.lemmas.Bool.{eq-eqb, ne_eqb, eqb-false, false≢true, true≢false, or_cases, or_left}
+use Rattle.std.specs.List.{list_any}
+use Rattle.pas_bits.specs.Runs.{in_run}
+use Rattle.pas_bits.proofs.Runs.{first_of_run}
+use Rattle.pas_profile.specs.Blocks.{address_of, grain_of, length_of}
+use Rattle.pas_profile.specs.declared.event.Event.{Event}
+use Rattle.pas_profile.specs.declared.name.Block.{Block}
+use Rattle.pas_profile.specs.declared.name.Name.{Name}
+use Rattle.pas_profile.specs.declared.profile.Profile.{Profile}
+use Rattle.pas_machine.specs.State.{Live, live_in}
+use Rattle.pas_machine.specs.Machine.{Run, MayGive}
+use Rattle.pas_one_text.specs.State.{is_at}
+use Rattle.pas_same_text.specs.Same.{lives_in}
+use Rattle.pas_same_text.proofs.Tests.{and_first, and_second, any_filtered, filtered_any}
+
+-- ---- a block that lives after the events, of which this is so
+pub record LivesSo (es : List Event) (p : Block → Bool) : Type 0 where
+  pub address : ℕ
+  pub live : Live
+  pub lives : live_in es address ≡ Some live
+  pub at : address_of live.block.name ≡ address
+  pub some : 0 < length_of live.block
+  pub so : p live.block ≡ true
+
+-- ---- from the list to the machine
+here : (k : ℕ) (block : Block) (es : List Event) (p : Block → Bool) → 0 < length_of block → p block ≡ true → LivesSo (Event.Give k block ∷ es) p
+here k block es p some so =
+    let live : Live = record { actor = k; block = block } in
+    record {
+      address = address_of block.name;
+      live = live;
+      lives = ap (λ (t : Bool). if t then Some live else live_in es (address_of block.name)) (eq-eqb (address_of block.name) (address_of block.name) refl);
+      at = refl;
+      some = some;
+      so = so;
+    }
+
+-- a block that may be given begins where no other lives
+elsewhere : (f : Profile) (es : List Event) (block : Block) (p : Block → Bool) (o : LivesSo es p) → MayGive f es block → 0 < length_of block → address_of block.name ≢ o.address
+elsewhere f es block p o may some same =
+    let first : ℕ = o.address / 16 in
+    let own : in_run (o.address / 16) (length_of o.live.block) first ≡ true = first_of_run first (length_of o.live.block) o.some in
+    let clear : in_run (grain_of block.name) (length_of block) first ≡ false = may.clear o.address o.live o.lives first own in
+    let meets : in_run (grain_of block.name) (length_of block) (grain_of block.name) ≡ true = first_of_run (grain_of block.name) (length_of block) some in
+    let is : grain_of block.name ≡ first = ap (λ (a : ℕ). a / 16) same in
+    true≢false (sym meets ∙ (ap (in_run (grain_of block.name) (length_of block)) is ∙ clear))
+
+there : (k : ℕ) (block : Block) (es : List Event) (p : Block → Bool) (o : LivesSo es p) → address_of block.name ≢ o.address → LivesSo (Event.Give k block ∷ es) p
+there k block es p o ne =
+    let live : Live = record { actor = k; block = block } in
+    record {
+      address = o.address;
+      live = o.live;
+      lives = ap (λ (t : Bool). if t then Some live else live_in es o.address) (ne_eqb (address_of block.name) o.address ne) ∙ o.lives;
+      at = o.at;
+      some = o.some;
+      so = o.so;
+    }
+
+ended : (k : ℕ) (name : Name) (e : ℕ) (es : List Event) (p : Block → Bool) (o : LivesSo es (λ x. not (is_at (address_of name) x) && p x)) → LivesSo (Event.End k name e ∷ es) p
+ended k name e es p o =
+    let away : is_at (address_of name) o.live.block ≡ false = not-true (is_at (address_of name) o.live.block) (and_first (not (is_at (address_of name) o.live.block)) (p o.live.block) o.so) in
+    let ne : address_of name ≢ o.address = λ same. eqb-false (address_of o.live.block.name) (address_of name) away (o.at ∙ sym same) in
+    record {
+      address = o.address;
+      live = o.live;
+      lives = ap (λ (t : Bool). if t then None else live_in es o.address) (ne_eqb (address_of name) o.address ne) ∙ o.lives;
+      at = o.at;
+      some = o.some;
+      so = and_second (not (is_at (address_of name) o.live.block)) (p o.live.block) o.so;
+    }
+  where
+    not-true : (x : Bool) → not x ≡ true → x ≡ false
+    not-true true h = absurd (false≢true h)
+    not-true false h = refl
+
+-- .. after an event that gives and ends none
+still : (e : Event) (es : List Event) (p : Block → Bool) (o : LivesSo es p) → live_in (e ∷ es) o.address ≡ live_in es o.address → LivesSo (e ∷ es) p
+still e es p o same = record { address = o.address; live = o.live; lives = same ∙ o.lives; at = o.at; some = o.some; so = o.so }
+
+given_one : (f : Profile) (k : ℕ) (block : Block) (es : List Event) (p : Block → Bool) → MayGive f es block → 0 < length_of block → (list_any p (lives_in es) ≡ true → LivesSo es p)
+    → (p block ≡ true) ⊎ (list_any p (lives_in es) ≡ true) → LivesSo (Event.Give k block ∷ es) p
+given_one f k block es p may some older (inl so) = here k block es p some so
+given_one f k block es p may some older (inr more) = let o = older more in there k block es p o (elsewhere f es block p o may some)
+
+some_grain : (room : ℕ) → room % 16 ≡ 0 → 0 < room → 0 < room / 16
+some_grain room whole some = omega arith
+
+-- a block in the list lives, at its address
+pub lives_so : (f : Profile) (es : List Event) (p : Block → Bool) → Run f es → list_any p (lives_in es) ≡ true → LivesSo es p
+lives_so f [] p run h = absurd (false≢true h)
+lives_so f (Event.Deed k q d ∷ es) p run h = still (Event.Deed k q d) es p (lives_so f es p run.1 h) refl
+lives_so f (Event.Back k q ∷ es) p run h = still (Event.Back k q) es p (lives_so f es p run.1 h) refl
+lives_so f (Event.Unback k q e ∷ es) p run h = still (Event.Unback k q e) es p (lives_so f es p run.1 h) refl
+lives_so f (Event.Give k block ∷ es) p run h = given_one f k block es p run.0 (some_grain block.room run.0.whole run.0.some) (lives_so f es p run.1) (or_cases (p block) (list_any p (lives_in es)) h)
+lives_so f (Event.End k name e ∷ es) p run h = ended k name e es p (lives_so f es (λ x. not (is_at (address_of name) x) && p x) run.1 (any_filtered p (λ x. not (is_at (address_of name) x)) (lives_in es) h))
+lives_so f (Event.Reject k name why ∷ es) p run h = still (Event.Reject k name why) es p (lives_so f es p run.1 h) refl
+
+-- ---- from the machine to the list
+given_listed : (t : Bool) (block : Block) (k : ℕ) (old : Option Live) (b : Live) (p : Block → Bool) (rest : Bool) → (if t then Some (record { actor = k; block = block }) else old) ≡ Some b
+    → (old ≡ Some b → rest ≡ true) → p b.block ≡ true → (p block || rest) ≡ true
+given_listed true block k old b p rest is older so =
+    let same : block ≡ b.block = ap (λ (o : Option Live). block_in block o) is in
+    or_left (p block) rest (ap p same ∙ so)
+  where
+    block_in : Block → Option Live → Block
+    block_in d None = d
+    block_in d (Some l) = l.block
+given_listed false block k old b p rest is older so = or_second (p block) rest (older is)
+  where
+    or_second : (x y : Bool) → y ≡ true → (x || y) ≡ true
+    or_second true y h = refl
+    or_second false y h = h
+
+ended_live : (t : Bool) (old : Option Live) (b : Live) → (if t then None else old) ≡ Some b → (t ≡ false) × (old ≡ Some b)
+ended_live true old b is = absurd (none_some is)
+  where
+    is_some : Option Live → Bool
+    is_some None = false
+    is_some (Some l) = true
+
+    none_some : None ≡ Some b → ⊥
+    none_some e = false≢true (ap is_some e)
+ended_live false old b is = (refl, is)
+
+-- a block that lives at its address is in the list
+pub lives_listed : (es : List Event) (address : ℕ) (b : Live) (p : Block → Bool) → live_in es address ≡ Some b → address_of b.block.name ≡ address → p b.block ≡ true → list_any p (lives_in es) ≡ true
+lives_listed [] address b p is at so = absurd (nothing is)
+  where
+    is_some : Option Live → Bool
+    is_some None = false
+    is_some (Some l) = true
+
+    nothing : None ≡ Some b → ⊥
+    nothing e = false≢true (ap is_some e)
+lives_listed (Event.Deed k q d ∷ es) address b p is at so = lives_listed es address b p is at so
+lives_listed (Event.Back k q ∷ es) address b p is at so = lives_listed es address b p is at so
+lives_listed (Event.Unback k q e ∷ es) address b p is at so = lives_listed es address b p is at so
+lives_listed (Event.Give k block ∷ es) address b p is at so =
+    given_listed (address_of block.name == address) block k (live_in es address) b p (list_any p (lives_in es)) is (λ older. lives_listed es address b p older at so) so
+lives_listed (Event.End k name e ∷ es) address b p is at so =
+    let was = ended_live (address_of name == address) (live_in es address) b is in
+    let ne : address_of name ≢ address = eqb-false (address_of name) address was.0 in
+    let away : is_at (address_of name) b.block ≡ false = ne_eqb (address_of b.block.name) (address_of name) (λ same. ne (sym (sym at ∙ same))) in
+    filtered_any p (λ x. not (is_at (address_of name) x)) (lives_in es) (lives_listed es address b (λ x. not (is_at (address_of name) x) && p x) was.1 at (both (is_at (address_of name) b.block) (p b.block) away so))
+  where
+    both : (x y : Bool) → x ≡ false → y ≡ true → (not x && y) ≡ true
+    both true y h so = absurd (true≢false h)
+    both false y h so = so
+lives_listed (Event.Reject k name why ∷ es) address b p is at so = lives_listed es address b p is at so

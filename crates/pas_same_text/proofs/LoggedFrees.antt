@@ -1,0 +1,169 @@
+-- Frees that are answered at once, and frees into a log with room.
+use Rattle.std.proofs.Common.{◌≡◌, ℕ, ◌+◌, ◌*◌, ◌/◌, ◌%◌, ◌<◌, ◌≤◌, ◌==◌, nat_le, nat_lt, Bool, true, false, ◌&&◌, if◌then◌else◌, List, [], ◌∷◌, ◌++◌, length, Option, None, Some, inl, inr, refl, ap, sym, ◌∙◌, subst, arith}
+use Rattle.std.proofs.lemmas.Bool.{eq-eqb, ne_eqb, false_from_ne_true}
+use Rattle.std.proofs.lemmas.Bool.Decides.{nat_tests}
+use Rattle.pas_profile.specs.Blocks.{address_of}
+use Rattle.pas_profile.specs.declared.event.FreeFault.{FreeFault}
+use Rattle.pas_profile.specs.declared.event.FreeFault.TheVariants.{Outside, Unaligned}
+use Rattle.pas_profile.specs.declared.name.Name.{Name}
+use Rattle.pas_profile.specs.declared.profile.Profile.{Profile}
+use Rattle.pas_steps.specs.Events.{events_by}
+use Rattle.pas_steps.specs.Lists.{part}
+use Rattle.pas_steps.specs.declared.step.Made.{Made}
+use Rattle.pas_free_log.specs.Logs.{entry_of}
+use Rattle.pas_free_log.specs.declared.log.Entry.{Entry}
+use Rattle.pas_free_log.specs.declared.noting.EndedRun.{EndedRun}
+use Rattle.pas_cache.specs.Calls.{TakesEntry, RefusesName}
+use Rattle.pas_cache.specs.Changes.{LogsEntry, EmptiesFull}
+use Rattle.pas_cache.specs.Contents.{Cached}
+use Rattle.pas_report.specs.declared.record.Record.{Record}
+use Rattle.pas_report.specs.declared.record.Said.{Said as TheSaid}
+use Rattle.pas_report.specs.declared.record.Said.TheVariants as Said
+use Rattle.pas_trace.specs.Acts.{Act}
+use Rattle.pas_trace.specs.EveryPlan.{IsThread}
+use Rattle.pas_trace.specs.declared.plan.What.TheVariants.{Free, Raw}
+use Rattle.pas_answers.specs.Answers.{Progress, Named, Answer, IsFreed, IsFreedBy, standing_for, with_records, with_steps, records_of, said_by, said_of_fault}
+use Rattle.pas_one_text.specs.State.{World, Cache, cache_of, set_cache, log_of, says}
+use Rattle.pas_one_text.specs.Frees.{adds, logs, frees, frees_what, frees_named, refuses_free, flushes}
+use Rattle.pas_same_text.specs.Same.{IsSame, IsSameCache}
+use Rattle.pas_same_text.specs.Acts.{StaysSameWhere, HasLogRoom}
+use Rattle.pas_same_text.proofs.CacheLists.{same_with, same_kept}
+use Rattle.pas_same_text.proofs.Frames.{unchanged, pages_next}
+use Rattle.pas_same_text.proofs.SmallActs.{records_next, cache_state}
+
+-- a replay after an answer with these steps and what is said besides
+abbrev pub after_with : Progress → ℕ → List Made → Option TheSaid → List Named → Cached → Progress
+after_with p k steps said names c = with_records (record (with_steps p k steps c) { names = names }) (records_of (events_by k (part k p.list) steps) ++ said_by k said)
+
+-- ---- an answer without a step, which changes nothing but says something
+pub said_same : (f : Profile) (k : ℕ) (said : TheSaid) (p : Progress) (w : World) → IsSame f p w → IsSame f (after_with p k [] (Some said) p.names (p.caches k)) (says (Record.Said k said) w)
+said_same f k said p w same = record {
+  pages = pages_next f p.list p.list w (says (Record.Said k said) w) same.pages (unchanged p.list) (record { events = refl; live = refl; hinted = refl; locals = refl });
+  caches = same_kept f p.caches w.caches k same.caches;
+  names = same.names;
+  records = records_next p.records w.records (Record.Said k said) same.records;
+  epoch = same.epoch;
+  read = same.read;
+}
+
+-- ---- an entry more in the log
+abbrev with_entry : Cached → Entry → Cached
+with_entry c entry = record c { log = c.log ++ entry ∷ []; noted = c.noted }
+
+nothing_more : (xs : List Record) → xs ++ [] ≡ xs
+nothing_more [] = refl
+nothing_more (x ∷ xs) = ap (λ (ys : List Record). x ∷ ys) (nothing_more xs)
+
+added_same : (f : Profile) (k : ℕ) (entry : Entry) (p : Progress) (w : World) → IsThread f k → IsSame f p w → IsSame f (after_with p k [] None p.names (with_entry (p.caches k) entry)) (adds k entry w)
+added_same f k entry p w is same =
+    let own : Cache = cache_of w k in
+    let was : IsSameCache (p.caches k) own = same.caches.each k is in
+    let new : Cache = record own { log = own.log ++ entry ∷ [] } in
+    record {
+      pages = pages_next f p.list p.list w (set_cache k new w) same.pages (unchanged p.list) (cache_state w k new refl);
+      caches = same_with f p.caches w.caches k (with_entry (p.caches k) entry) new is same.caches
+          (record { locals = was.locals; log = ap (λ (es : List Entry). es ++ entry ∷ []) was.log; noted = was.noted; began = was.began });
+      names = same.names;
+      records = nothing_more p.records ∙ same.records;
+      epoch = same.epoch;
+      read = same.read;
+    }
+
+-- ---- where the address is
+page_inside : (pages a : ℕ) → 1 ≤ a / 4096 → a / 4096 ≤ pages → (nat_le 4096 a && nat_lt a (4096 * (pages + 1))) ≡ true
+page_inside pages a some few =
+    let low : 4096 ≤ a = omega (arith, some) in
+    let high : a < 4096 * (pages + 1) = omega (arith, few) in
+    grind (arith, nat_tests, low, high)
+
+page_of_test : (pages a : ℕ) → (nat_le 4096 a && nat_lt a (4096 * (pages + 1))) ≡ true → (1 ≤ a / 4096) × (a / 4096 ≤ pages)
+page_of_test pages a t =
+    let low : 4096 ≤ a = grind (arith, nat_tests, t) in
+    let high : a < 4096 * (pages + 1) = grind (arith, nat_tests, t) in
+    (omega (arith, low), omega (arith, high))
+
+page_outside : (pages a : ℕ) → ((1 ≤ a / 4096) × (a / 4096 ≤ pages) → ⊥) → (nat_le 4096 a && nat_lt a (4096 * (pages + 1))) ≡ false
+page_outside pages a none = false_from_ne_true (nat_le 4096 a && nat_lt a (4096 * (pages + 1))) (λ t. none (page_of_test pages a t))
+
+-- what a free comes to, by its two tests
+abbrev freed_by : Profile → ℕ → Entry → World → Bool → Bool → World
+freed_by f k entry w inside aligned = if inside then (if aligned then logs f k entry w else refuses_free k entry.name FreeFault.Unaligned w) else refuses_free k entry.name FreeFault.Outside w
+
+freed_is : (f : Profile) (k : ℕ) (entry : Entry) (w : World) (inside aligned : Bool) → (nat_le 4096 (address_of entry.name) && nat_lt (address_of entry.name) (4096 * (f.pages + 1))) ≡ inside → (address_of entry.name % 16 == 0) ≡ aligned
+    → frees f k entry w ≡ freed_by f k entry w inside aligned
+freed_is f k entry w inside aligned e h =
+    ap (λ (t : Bool). freed_by f k entry w t (address_of entry.name % 16 == 0)) e ∙ ap (λ (u : Bool). freed_by f k entry w inside u) h
+
+-- ---- the cache after it
+logged_cache : (f : Profile) (k : ℕ) (c c' : Cached) (entry : Entry) (steps : List Made) → nat_le 64 (length c.log) ≡ false → TakesEntry f k c c' entry steps → (steps ≡ []) × (c' ≡ with_entry c entry)
+logged_cache f k c c' entry steps room takes =
+    let l : LogsEntry k c.log c'.log c.noted c'.noted entry steps = takes.logs in
+    let kept : EmptiesFull false k c.log l.kept c.noted c'.noted steps = subst (λ (t : Bool). EmptiesFull t k c.log l.kept c.noted c'.noted steps) room l.emptied in
+    let log : c'.log ≡ c.log ++ entry ∷ [] = l.log_is ∙ ap (λ (es : List Entry). es ++ entry ∷ []) kept.1 in
+    (kept.0, takes.cache ∙ (ap (λ (es : List Entry). record c { log = es; noted = c'.noted }) log ∙ ap (λ (runs : List EndedRun). record c { log = c.log ++ entry ∷ []; noted = runs }) kept.2))
+
+room_is : (f : Profile) (k : ℕ) (entry : Entry) (p : Progress) (w : World) → IsThread f k → IsSame f p w → nat_le 64 (length (p.caches k).log) ≡ false → logs f k entry w ≡ adds k entry w
+room_is f k entry p w is same room =
+    let test : nat_le 64 (length (log_of w k)) ≡ false = ap (λ (es : List Entry). nat_le 64 (length es)) (same.caches.each k is).log ∙ room in
+    ap (λ (t : Bool). adds k entry (if t then flushes f k w else w)) test
+
+-- ---- the free
+logged_same : (f : Profile) (k : ℕ) (name : Name) (p : Progress) (w : World) (c' : Cached) (steps : List Made) → IsThread f k → IsSame f p w → nat_le 64 (length (p.caches k).log) ≡ false
+    → TakesEntry f k (p.caches k) c' (entry_of name) steps → IsSame f (after_with p k steps None p.names c') (frees f k (entry_of name) w)
+logged_same f k name p w c' steps is same room takes =
+    let to = logged_cache f k (p.caches k) c' (entry_of name) steps room takes in
+    let inside = page_inside f.pages (address_of name) takes.region.page.0 takes.region.page.1 in
+    let text : frees f k (entry_of name) w ≡ adds k (entry_of name) w =
+    freed_is f k (entry_of name) w true true inside (eq-eqb (address_of name % 16) 0 takes.region.aligned) ∙ room_is f k (entry_of name) p w is same room in
+    subst (λ (x : World). IsSame f (after_with p k steps None p.names c') x) (sym text)
+    (subst (λ (ms : List Made). IsSame f (after_with p k ms None p.names c') (adds k (entry_of name) w)) (sym to.0)
+    (subst (λ (c : Cached). IsSame f (after_with p k [] None p.names c) (adds k (entry_of name) w)) (sym to.1) (added_same f k (entry_of name) p w is same)))
+
+refused_text : (f : Profile) (k : ℕ) (name : Name) (w : World) (c c' : Cached) (steps : List Made) (fault : FreeFault) → RefusesName f c c' name steps fault → frees f k (entry_of name) w ≡ refuses_free k name fault w
+refused_text f k name w c c' steps Outside refuses = freed_is f k (entry_of name) w false (address_of name % 16 == 0) (page_outside f.pages (address_of name) refuses.fault_is) refl
+refused_text f k name w c c' steps Unaligned refuses =
+    freed_is f k (entry_of name) w true false (page_inside f.pages (address_of name) refuses.fault_is.0.0 refuses.fault_is.0.1) (ne_eqb (address_of name % 16) 0 refuses.fault_is.1)
+
+refused_same : (f : Profile) (k : ℕ) (name : Name) (p : Progress) (w : World) (c' : Cached) (steps : List Made) (fault : FreeFault) → IsSame f p w
+    → RefusesName f (p.caches k) c' name steps fault → IsSame f (after_with p k steps (Some (said_of_fault name fault)) p.names c') (frees f k (entry_of name) w)
+refused_same f k name p w c' steps fault same refuses =
+    subst (λ (x : World). IsSame f (after_with p k steps (Some (said_of_fault name fault)) p.names c') x) (sym (refused_text f k name w (p.caches k) c' steps fault refuses))
+    (subst (λ (ms : List Made). IsSame f (after_with p k ms (Some (said_of_fault name fault)) p.names c') (refuses_free k name fault w)) (sym refuses.no_steps)
+    (subst (λ (c : Cached). IsSame f (after_with p k [] (Some (said_of_fault name fault)) p.names c) (refuses_free k name fault w)) (sym refuses.cache) (said_same f k (said_of_fault name fault) p w same)))
+
+freed_same : (f : Profile) (k : ℕ) (name : Name) (p : Progress) (w : World) (c' : Cached) (steps : List Made) (said : Option TheSaid) → IsThread f k → IsSame f p w → nat_le 64 (length (p.caches k).log) ≡ false
+    → IsFreed f k (p.caches k) c' name steps said → IsSame f (after_with p k steps said p.names c') (frees f k (entry_of name) w)
+freed_same f k name p w c' steps said is same room (inl t) =
+    subst (λ (s : Option TheSaid). IsSame f (after_with p k steps s p.names c') (frees f k (entry_of name) w)) (sym t.1) (logged_same f k name p w c' steps is same room t.0)
+freed_same f k name p w c' steps said is same room (inr t) =
+    subst (λ (s : Option TheSaid). IsSame f (after_with p k steps s p.names c') (frees f k (entry_of name) w)) (sym t.2) (refused_same f k name p w c' steps t.0 same t.1)
+
+-- ---- the act
+pub raw_same : (f : Profile) (line k : ℕ) (block : Name) → IsThread f k → StaysSameWhere (HasLogRoom k) f (Act.Operates (record { line = line; actor = k; what = Raw block }))
+raw_same f line k block is p p' w room taken =
+    let a : Answer = taken.advances.0 in
+    let names : a.names ≡ p.names = taken.advances.1.1 in
+    let test : nat_le 64 (length (p.caches k).log) ≡ false = grind (arith, nat_tests, room) in
+    subst (λ (q : Progress). IsSame f q (frees f k (entry_of block) w)) (sym taken.advances.2)
+    (subst (λ (ns : List Named). IsSame f (after_with p k a.steps a.said ns a.cache) (frees f k (entry_of block) w)) (sym names)
+    (freed_same f k block p w a.cache a.steps a.said is taken.same test taken.advances.1.0))
+
+-- ---- a free by a name of the trace
+freed_named : (f : Profile) (k name : ℕ) (p : Progress) (w : World) (c' : Cached) (steps : List Made) (said : Option TheSaid) → IsThread f k → IsSame f p w → nat_le 64 (length (p.caches k).log) ≡ false
+    → (meant : Option (Option Name)) → IsFreedBy f k (p.caches k) c' name meant steps said → IsSame f (after_with p k steps said p.names c') (frees_what f k name meant w)
+freed_named f k name p w c' steps said is same room None freed = absurd freed
+freed_named f k name p w c' steps said is same room (Some None) freed =
+    subst (λ (s : Option TheSaid). IsSame f (after_with p k steps s p.names c') (says (Record.Said k (Said.Skipped name)) w)) (sym freed.2)
+    (subst (λ (ms : List Made). IsSame f (after_with p k ms (Some (Said.Skipped name)) p.names c') (says (Record.Said k (Said.Skipped name)) w)) (sym freed.0)
+    (subst (λ (c : Cached). IsSame f (after_with p k [] (Some (Said.Skipped name)) p.names c) (says (Record.Said k (Said.Skipped name)) w)) (sym freed.1) (said_same f k (Said.Skipped name) p w same)))
+freed_named f k name p w c' steps said is same room (Some (Some block)) freed = freed_same f k block p w c' steps said is same room freed
+
+pub named_same : (f : Profile) (line k name : ℕ) → IsThread f k → StaysSameWhere (HasLogRoom k) f (Act.Operates (record { line = line; actor = k; what = Free name }))
+named_same f line k name is p p' w room taken =
+    let a : Answer = taken.advances.0 in
+    let names : a.names ≡ p.names = taken.advances.1.1 in
+    let test : nat_le 64 (length (p.caches k).log) ≡ false = grind (arith, nat_tests, room) in
+    subst (λ (q : Progress). IsSame f q (frees_named f k name w)) (sym taken.advances.2)
+    (subst (λ (ns : List Named). IsSame f (after_with p k a.steps a.said ns a.cache) (frees_named f k name w)) (sym names)
+    (subst (λ (ns : List Named). IsSame f (after_with p k a.steps a.said p.names a.cache) (frees_what f k name (standing_for ns name) w)) (sym taken.same.names)
+    (freed_named f k name p w a.cache a.steps a.said is taken.same test (standing_for p.names name) taken.advances.1.0)))

@@ -1,0 +1,63 @@
+-- Tests on lists.
+use Rattle.std.proofs.Common.{◌≡◌, ℕ, ◌==◌, Bool, true, false, ◌&&◌, ◌||◌, if◌then◌else◌, List, [], ◌∷◌, ◌⊎◌, inl, inr, refl, ap, ◌∙◌}
+use Rattle.std.proofs.lemmas.Bool.{eq-eqb, eqb-true, false≢true, or_cases, or_left, or_right}
+use Rattle.std.specs.List.{list_any, filter}
+use Rattle.pas_same_text.specs.Same.{has_number}
+
+-- ---- lists
+or_more : (x y z : Bool) → (y ≡ true → z ≡ true) → (x || y) ≡ true → (x || z) ≡ true
+or_more true y z more h = refl
+or_more false y z more h = more h
+
+pub and_first : (x y : Bool) → (x && y) ≡ true → x ≡ true
+and_first true y h = refl
+and_first false y h = h
+
+pub and_second : (x y : Bool) → (x && y) ≡ true → y ≡ true
+and_second true y h = h
+and_second false y h = absurd (false≢true h)
+
+filtered_one : {X : Type 0} (p : X → Bool) (x : X) (ys : List X) (t rest : Bool) → (list_any p ys ≡ true → rest ≡ true) → list_any p (if t then x ∷ ys else ys) ≡ true → ((t && p x) || rest) ≡ true
+filtered_one p x ys true rest more h = or_more (p x) (list_any p ys) rest more h
+filtered_one p x ys false rest more h = more h
+
+-- one that is left passes both tests
+pub any_filtered : {X : Type 0} (p q : X → Bool) (xs : List X) → list_any p (filter q xs) ≡ true → list_any (λ x. q x && p x) xs ≡ true
+any_filtered p q [] h = h
+any_filtered p q (x ∷ xs) h = filtered_one p x (filter q xs) (q x) (list_any (λ y. q y && p y) xs) (any_filtered p q xs) h
+
+left_one : {X : Type 0} (p : X → Bool) (x : X) (ys : List X) (t rest : Bool) → (rest ≡ true → list_any p ys ≡ true) → ((t && p x) || rest) ≡ true → list_any p (if t then x ∷ ys else ys) ≡ true
+left_one p x ys true rest more h = or_more (p x) rest (list_any p ys) more h
+left_one p x ys false rest more h = more h
+
+pub filtered_any : {X : Type 0} (p q : X → Bool) (xs : List X) → list_any (λ x. q x && p x) xs ≡ true → list_any p (filter q xs) ≡ true
+filtered_any p q [] h = h
+filtered_any p q (x ∷ xs) h = left_one p x (filter q xs) (q x) (list_any (λ y. q y && p y) xs) (filtered_any p q xs) h
+
+-- ---- numbers
+-- a number of the list that passes the test
+pub record IsFound (numbers : List ℕ) (p : ℕ → Bool) : Type 0 where
+  pub number : ℕ
+  pub there : has_number numbers number ≡ true
+  pub so : p number ≡ true
+
+found_at : (p : ℕ → Bool) (n : ℕ) (more : List ℕ) → (list_any p more ≡ true → IsFound more p) → (p n ≡ true) ⊎ (list_any p more ≡ true) → IsFound (n ∷ more) p
+found_at p n more rest (inl so) = record { number = n; there = or_left (n == n) (has_number more n) (same n); so = so }
+  where
+    same : (m : ℕ) → (m == m) ≡ true
+    same m = eq-eqb m m refl
+found_at p n more rest (inr so) = let o = rest so in record { number = o.number; there = or_right (n == o.number) (has_number more o.number) o.there; so = o.so }
+
+pub found : (p : ℕ → Bool) (numbers : List ℕ) → list_any p numbers ≡ true → IsFound numbers p
+found p [] h = absurd (false≢true h)
+found p (n ∷ more) h = found_at p n more (found p more) (or_cases (p n) (list_any p more) h)
+
+passes_at : (p : ℕ → Bool) (n m : ℕ) (rest : Bool) → (n == m) ≡ true → p m ≡ true → (p n || rest) ≡ true
+passes_at p n m rest same so = or_left (p n) rest (ap p (eqb-true n m same) ∙ so)
+
+pub passed : (p : ℕ → Bool) (numbers : List ℕ) (m : ℕ) → has_number numbers m ≡ true → p m ≡ true → list_any p numbers ≡ true
+passed p [] m h so = h
+passed p (n ∷ more) m h so = elim (or_cases (n == m) (has_number more m) h) [
+  | inl same ↦ passes_at p n m (list_any p more) same so
+  | inr rest ↦ or_right (p n) (list_any p more) (passed p more m rest so)
+]

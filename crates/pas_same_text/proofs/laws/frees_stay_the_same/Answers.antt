@@ -1,0 +1,9 @@
+-- Frees by an address, and by a name of the trace.
+use Rattle.pas_same_text.proofs.LoggedFrees.{raw_same, named_same}
+use Rattle.pas_same_text.proofs.laws.frees_stay_the_same.Goals as goal
+
+pub returns-clause-raw : goal.returns-clause-raw
+returns-clause-raw c = λ f line k block is. raw_same f line k block is
+
+pub returns-clause-named : goal.returns-clause-named
+returns-clause-named c = λ f line k name is. named_same f line k name is

@@ -1,0 +1,4 @@
+pub mod Same
+pub mod Words
+pub mod Acts
+pub mod Entries

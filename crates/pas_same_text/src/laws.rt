@@ -1,0 +1,89 @@
+//! What each act owes: from a state of the text that is the replay's it leads to one that is. Each law is the contract of an empty function.
+ghost use Rattle.std.specs.Prelude.{ℕ, ◌+◌, ◌*◌, ◌<◌, ◌≡◌, List, ◌∷◌, ◌++◌, true};
+ghost use Rattle.pas_profile.specs.declared.name.Name.{Name};
+ghost use Rattle.pas_profile.specs.declared.profile.Profile.{Profile};
+ghost use Rattle.pas_trace.specs.Acts.{Act};
+ghost use Rattle.pas_trace.specs.EveryPlan.{IsThread};
+ghost use Rattle.pas_trace.specs.declared.plan.What.TheVariants.{Alloc, Free, Raw};
+ghost use Rattle.pas_profile.specs.Requests.{route_in};
+ghost use Rattle.pas_profile.specs.declared.directory.Route.{Route};
+ghost use Rattle.pas_profile.specs.Directories.{number_of};
+ghost use Rattle.pas_profile.specs.Profiles.{IsDirectoryOf};
+ghost use Rattle.pas_profile.specs.declared.directory.Directory.{Directory};
+ghost use Rattle.pas_profile.specs.declared.event.Event.{Event};
+ghost use Rattle.pas_machine.specs.Machine.{Run};
+ghost use Rattle.pas_free_log.specs.declared.ending.Outcome.{Outcome};
+ghost use Rattle.pas_free_log.specs.declared.log.Entry.{Entry};
+ghost use Rattle.pas_one_text.specs.Frees.{ends, flushes};
+ghost use Rattle.pas_same_text.specs.Same.{lives_in};
+ghost use Rattle.pas_same_text.specs.Entries.{IsShown, IsEntryEvent, HaveOutcomes, events_of_flush, are_unsized, onto, HasShown, IsFlushOf};
+ghost use Rattle.pas_steps.specs.Lists.{Whole, part, visible};
+ghost use Rattle.pas_steps.specs.Desks.{triples};
+ghost use Rattle.pas_steps.specs.declared.step.Made.{Made};
+ghost use Rattle.pas_free_log.specs.declared.noting.EndedRun.{EndedRun};
+ghost use Rattle.pas_steps.specs.Views.{has_right};
+ghost use Rattle.pas_core.specs.Rights.{eligible_bit};
+ghost use Rattle.pas_answers.specs.Answers.{Progress};
+ghost use Rattle.pas_one_text.specs.State.{World, each};
+ghost use Rattle.pas_one_text.specs.Pages.{is_free, is_kept, is_offered, has_room};
+ghost use Rattle.pas_same_text.specs.Acts.{IsAtRest, StaysSame, StaysSameWhere, HasLogRoom, HasCachedSlot};
+ghost use Rattle.pas_same_text.specs.Words.{free_bit};
+
+/// A mark is a line.
+#[tactic(auto, using(crate::proofs::SmallActs::phase_same, crate::proofs::SmallActs::close_same))]
+pub fn marks_stay_the_same()
+    ensures phase { (f : Profile) (n : ℕ) → StaysSame f (Act.MarksPhase n) }
+    ensures close { (f : Profile) → StaysSame f Act.MarksClose }
+{}
+
+/// A thread that begins a phase has read the epoch of the text, and so has the scavenger for an idle operation. A tick raises that epoch.
+#[tactic(auto, using(crate::proofs::SmallActs::wake_same, crate::proofs::SmallActs::reading_same, crate::proofs::SmallActs::tick_same))]
+pub fn epochs_stay_the_same()
+    ensures wakes { (f : Profile) (k : ℕ) → IsThread f k → StaysSame f (Act.Wakes k) }
+    ensures reads { (f : Profile) → StaysSame f Act.ReadsEpoch }
+    ensures ticks { (f : Profile) (asked : ℕ) → StaysSame f (Act.Ticks asked) }
+{}
+
+/// What a thread noted goes from its cache.
+#[tactic(auto, using(crate::proofs::SmallActs::settling_same))]
+pub fn settling_stays_the_same()
+    ensures { (f : Profile) (k : ℕ) → IsThread f k → StaysSame f (Act.Settles k) }
+{}
+
+/// A free into a log with room is logged at its end, or it is answered at once: since its page is none of the region's or its address is no grain's, or since the
+/// request of its name was refused.
+pub fn frees_stay_the_same()
+    ensures raw { (f : Profile) (line k : ℕ) (block : Name) → IsThread f k → StaysSameWhere (HasLogRoom k) f (Act.Operates (record { line = line; actor = k; what = Raw block })) }
+    ensures named { (f : Profile) (line k name : ℕ) → IsThread f k → StaysSameWhere (HasLogRoom k) f (Act.Operates (record { line = line; actor = k; what = Free name })) }
+{}
+
+/// Whenever all actors are at rest and the events, the live blocks and the caches are the same: a grain is free in the text exactly where its bit is set, and a
+/// page is kept exactly where some actor has its right. A page with room that nobody keeps is offered, and an offered page is offered in the text where it has room.
+pub fn states_are_told()
+    ensures free { (f : Profile) (p : Progress) (w : World) → IsAtRest f p w → (page b : ℕ) → b < 256 → is_free w page b ≡ free_bit p.list (256 * page + b) }
+    ensures kept { (f : Profile) (p : Progress) (w : World) → IsAtRest f p w → (page : ℕ) → is_kept w page ≡ true → (k : ℕ) × (has_right (part k p.list) page ≡ true) }
+    ensures keeps { (f : Profile) (p : Progress) (w : World) → IsAtRest f p w → (k page : ℕ) → has_right (part k p.list) page ≡ true → is_kept w page ≡ true }
+    ensures offered { (f : Profile) (p : Progress) (w : World) → IsAtRest f p w → (page : ℕ) (d : Directory) → IsDirectoryOf f d → is_offered w d page ≡ true → eligible_bit p.list (number_of d) page ≡ true }
+    ensures offers { (f : Profile) (p : Progress) (w : World) → IsAtRest f p w → (page : ℕ) (d : Directory) → IsDirectoryOf f d → eligible_bit p.list (number_of d) page ≡ true → has_room w d page ≡ true → is_offered w d page ≡ true }
+{}
+
+/// A request of a class for which the thread's cache has a slot gives the lowest one, in the same name, and the local allocator is the one used last.
+pub fn cached_slots_stay_the_same()
+    ensures { (f : Profile) (line k name heap size align class : ℕ) → IsThread f k → route_in f size align ≡ Route.Class class
+        → StaysSameWhere (HasCachedSlot heap class k) f (Act.Operates (record { line = line; actor = k; what = Alloc name heap size align })) }
+{}
+
+/// Whatever event the allocator's machine allows for a logged free, it is the one that the text shows for it: the end of its block, or the true reason why none ends. So a flush
+/// of frees that name no room shows one event for each, in the order of the log.
+pub fn logged_frees_show_the_same()
+    ensures one { (f : Profile) (k : ℕ) (entry : Entry) (w : World) → w.live ≡ lives_in w.events → (e : Event) → Run f (e ∷ w.events) → IsEntryEvent k entry w e → IsShown e w (ends f k entry w) }
+    ensures all { (f : Profile) (k epoch : ℕ) (entries : List Entry) (outcomes : List Outcome) (w : World) → HaveOutcomes entries outcomes → are_unsized entries ≡ true → w.live ≡ lives_in w.events → w.epoch ≡ epoch
+        → Run f (onto (events_of_flush k epoch entries outcomes) w.events) → HasShown (events_of_flush k epoch entries outcomes) w (each (ends f k) entries w) }
+{}
+
+/// The events of a flush of frees that name no room are those that the text shows for its log, and after it the same blocks live, in the same epoch.
+pub fn flushes_show_the_same()
+    ensures events { (f : Profile) (k : ℕ) (logged : List Entry) (noted noted' : List EndedRun) (steps : List Made) (l : Whole) (w : World) → IsFlushOf f k logged noted noted' steps l w → (flushes f k w).events ≡ visible (triples k steps ++ l) }
+    ensures live { (f : Profile) (k : ℕ) (logged : List Entry) (noted noted' : List EndedRun) (steps : List Made) (l : Whole) (w : World) → IsFlushOf f k logged noted noted' steps l w → (flushes f k w).live ≡ lives_in (flushes f k w).events }
+    ensures epoch { (f : Profile) (k : ℕ) (logged : List Entry) (noted noted' : List EndedRun) (steps : List Made) (l : Whole) (w : World) → IsFlushOf f k logged noted noted' steps l w → (flushes f k w).epoch ≡ w.epoch }
+{}
