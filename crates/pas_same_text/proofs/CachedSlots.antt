@@ -341,7 +341,7 @@ cached_same f line k name heap size align class is route p p' w has taken =
     let a : Answer = taken.advances.0 in
     let served : IsServed f k (record { name = name; heap = heap; size = size; align = align }) (having p.names (part k p.list) (p.caches k)) a = taken.advances.1 in
     let sv : ServesClass (filling_in (directory_for f heap size align) class) f (p.caches k) a.cache a.steps served.answer =
-    subst (λ (r : Route). ServesBy r f (wanted_for f heap size align) None (p.caches k) a.cache a.steps served.answer) route served.serves in
+    subst (λ (r : Route). ServesBy r f (wanted_for f heap size align) a.found (p.caches k) a.cache a.steps served.answer) route served.serves in
     let o : Served f k name heap class p p' w has.0 = served_by f k name heap size align class p p' w has.0 has.1 has.2 a served taken.advances.2 sv sv.locals.obtained in
     subst (λ (r : Route). IsSame f p' (serves f k name heap r (room_in f size align) align w)) (sym route)
     (to_given f k name heap class p p' w has.0 taken.valid is taken.before taken.after taken.same has.1 has.2 o)
