@@ -155,22 +155,22 @@ module _ {Door : Type 0} (Answers : Door → Door → ℕ → ℕ → Option ℕ
       let log = ap (λ (d : Cached). length d.log) is in
       let cost = own_cost op in
       let paid = paid_so may did c' log in (
-      record {
-        reached = q;
-        reaches = (midway, (a, answered may did, refl), (q, refl, refl));
-        stands = rests_again may did moves refl log (its_cache midway.caches k (settled (midway.caches k)) ∙ ap settled (its_cache p.caches k c1) ∙ sym is);
-        moves = moves;
-        own = piece may did;
-        records_are = ap (λ (rs : List Record). p.records ++ rs) (sym (append-nil (piece may did)));
-        pushed = pushed_so may did;
-        room = did.room;
-        each = piece_of k (part k p.list) a.steps did.said;
-        caches = λ j ne. other_cache midway.caches k j (settled (midway.caches k)) ne ∙ other_cache p.caches k j c1 ne;
-        names = refl;
-        epoch = refl;
-        paid = omega (arith, cost, paid);
-      },
-      (next, named, subst (λ (d : Cached). SettlesEach HandsOn d.noted next door') (sym (its_cache p.caches k c1)) handed),
+        record {
+          reached = q;
+          reaches = (midway, (a, answered may did, refl), (q, refl, refl));
+          stands = rests_again may did moves refl log (its_cache midway.caches k (settled (midway.caches k)) ∙ ap settled (its_cache p.caches k c1) ∙ sym is);
+          moves = moves;
+          own = piece may did;
+          records_are = ap (λ (rs : List Record). p.records ++ rs) (sym (append-nil (piece may did)));
+          pushed = pushed_so may did;
+          room = did.room;
+          each = piece_of k (part k p.list) a.steps did.said;
+          caches = λ j ne. other_cache midway.caches k j (settled (midway.caches k)) ne ∙ other_cache p.caches k j c1 ne;
+          names = refl;
+          epoch = refl;
+          paid = omega (arith, cost, paid);
+        },
+        (next, named, subst (λ (d : Cached). SettlesEach HandsOn d.noted next door') (sym (its_cache p.caches k c1)) handed),
       )
 
 -- ---- a thread is stopped

@@ -32,10 +32,7 @@ pub(crate) struct Spent {
 
 /// Reads the bytes, lets them go, and replays the trace that they are in the order of its text. It starts no thread and waits for nobody. What the replay
 /// leaves comes beside its outcome. NoMemory comes before the replay begins, or not at all.
-fn replayed_in_order(
-    alloc: Global,
-    bytes: Vec<u8>,
-) -> Result<(Outcome, Option<Spent>), NoMemory>
+fn replayed_in_order(alloc: Global, bytes: Vec<u8>) -> Result<(Outcome, Option<Spent>), NoMemory>
     requires { length bytes.items ≤ 16777216 }
     ensures { IfOk result (λ told. IsOutcome InOrder bytes.items told.0) }
 {

@@ -9,7 +9,7 @@ pub returns-in-Request-clause-performs : goal.returns-in-Request-clause-performs
 returns-in-Request-clause-performs g c =
     let σ = g.D.Desk.standing c.args.desk.now in
     subst (λ t. (did : PerformsMeant (what_of t) c.args.meant c.allocate.result.0 (cached c.args.cache.now) (cached c.allocate.new.cache) σ (g.D.Desk.standing c.allocate.new.desk) c.allocate.result.1)
-        × IsNamedFor σ.seat.profile (g.O.Door.answers c.args.door.now c.allocate.new.door) (c.allocate.new.door ≡ c.args.door.now) (what_of t) did.found) (sym c.in-Request.is) (c.allocate.ensures.performs c.args.meant)
+    × IsNamedFor σ.seat.profile (g.O.Door.answers c.args.door.now c.allocate.new.door) (c.allocate.new.door ≡ c.args.door.now) (what_of t) did.found) (sym c.in-Request.is) (c.allocate.ensures.performs c.args.meant)
 
 -- no other task asks the door
 pub returns-in-Some-clause-performs : goal.returns-in-Some-clause-performs
