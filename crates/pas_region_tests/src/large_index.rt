@@ -37,6 +37,8 @@ fn a_full_index_takes_what_joins(rt: HostRuntime) {
     for number in 0..512u32 {
         assert!(rt; takes(&mut index, 2 * number + 1));
     }
-    assert!(rt; !takes(&mut index, 1025) && fits(&index, 2, None) && joins(&mut index));
+    assert!(rt; index.len() == 512);
+    assert!(rt; !takes(&mut index, 1025) && index.len() == 512 && fits(&index, 2, None));
+    assert!(rt; joins(&mut index));
     assert!(rt; takes(&mut index, 1025) && gives_the_lowest(&mut index));
 }

@@ -1,5 +1,6 @@
 -- Two requests, a free and a stop, over any desk.
-use Rattle.std.proofs.Common.{◌≡◌, ℕ, ◌+◌, ◌^◌, ◌<◌, ◌≤◌, nat_le, Bool, true, false, List, [], ◌∷◌, ◌++◌, length, None, Ok, Err, Result, true≢false, refl, ap, sym, ◌∙◌, subst, arith, length-append}
+use Rattle.std.proofs.Common.{◌≡◌, ℕ, ◌+◌, ◌^◌, ◌<◌, ◌≤◌, nat_le, Bool, true, false, List, [], ◌∷◌, ◌++◌, length, None, Ok, Err, Result, refl, ap, sym, ◌∙◌, subst, arith, length-append}
+use Rattle.std.proofs.lemmas.Bool.{leb-true}
 use Rattle.std.specs.Prelude.{MatchResult}
 use Rattle.pas_profile.specs.Profiles.{IsValid, IsAdmitted}
 use Rattle.pas_profile.specs.declared.profile.Profile.{Profile}
@@ -60,30 +61,35 @@ small_turn {answer = answer} h can = small_answer answer h can
 pub log_after : {σ σ' : Standing} {c c' : Cached} {wanted : Wanted} {tells : Bool} {answer : Result Block NoRoom} → Allocates wanted tells c c' σ σ' answer → c'.log ≡ c.log
 log_after {σ} {σ'} {c} {c'} {wanted} {tells} {answer} h = log_kept σ.seat.profile wanted None c c' h.steps answer wanted.route h.change
 
--- ---- the free of a name into an empty log
-impossible : true ≡ nat_le 64 (length {A = Name} []) → ⊥
-impossible h = true≢false h
+-- ---- the free of a name into a log that isn't full
+empties_none : (full : Bool) (actor : ℕ) (log kept : List Entry) (noted noted' : List EndedRun) (steps : List Made) → full ≡ nat_le 64 (length log) → length log < 64 → EmptiesFull full actor log kept noted noted' steps → (kept ≡ log) × (steps ≡ [])
+empties_none true actor log kept noted noted' steps full few h = let at = leb-true 64 (length log) (sym full) in absurd (omega (arith, at, few))
+empties_none false actor log kept noted noted' steps full few h = (h.1, h.0)
 
-empties_none : (full : Bool) (actor : ℕ) (log kept : List Entry) (noted noted' : List EndedRun) (steps : List Made) → full ≡ nat_le 64 (length log) → log ≡ [] → EmptiesFull full actor log kept noted noted' steps → (kept ≡ []) × (steps ≡ [])
-empties_none true actor log kept noted noted' steps full none h = absurd (impossible (full ∙ ap (λ xs. nat_le 64 (length xs)) none))
-empties_none false actor log kept noted noted' steps full none h = (h.1 ∙ none, h.0)
-
+-- no step is made, and at most one name comes to the log
 pub record LogsOne (c c' : Cached) (steps : List Made) : Type 0 where
-  pub log : length c'.log ≤ 1
+  pub log : length c'.log ≤ length c.log + 1
   pub no_steps : steps ≡ []
 
-logs_one : (f : Profile) (actor : ℕ) (c c' : Cached) (name : Name) (steps : List Made) (answer : Result (Unit {0}) FreeFault) → c.log ≡ [] → MatchResult answer (λ done. TakesEntry f actor c c' (entry_of name) steps) (RefusesName f c c' name steps) → LogsOne c c' steps
-logs_one f actor c c' name steps (Ok done) none h =
-    let kept = empties_none (nat_le 64 (length c.log)) actor c.log h.logs.kept c.noted c'.noted steps refl none h.logs.emptied in
+logs_one : (f : Profile) (actor : ℕ) (c c' : Cached) (name : Name) (steps : List Made) (answer : Result (Unit {0}) FreeFault) → length c.log < 64 → MatchResult answer (λ done. TakesEntry f actor c c' (entry_of name) steps) (RefusesName f c c' name steps) → LogsOne c c' steps
+logs_one f actor c c' name steps (Ok done) few h =
+    let kept = empties_none (nat_le 64 (length c.log)) actor c.log h.logs.kept c.noted c'.noted steps refl few h.logs.emptied in
     let n : length c'.log ≡ length h.logs.kept + 1 = ap length h.logs.log_is ∙ length-append h.logs.kept (entry_of name ∷ []) in
-    let m : length h.logs.kept ≡ 0 = ap length kept.0 in
+    let m : length h.logs.kept ≡ length c.log = ap length kept.0 in
     record { log = omega (arith, n, m); no_steps = kept.1 }
-logs_one f actor c c' name steps (Err fault) none h =
-    let n : length c'.log ≡ 0 = ap (λ x. length x.log) h.cache ∙ ap length none in
+logs_one f actor c c' name steps (Err fault) few h =
+    let n : length c'.log ≡ length c.log = ap (λ x. length x.log) h.cache in
     record { log = omega (arith, n); no_steps = h.no_steps }
 
-pub freed_one : {σ σ' : Standing} {c c' : Cached} {name : Name} {answer : Result (Unit {0}) FreeFault} → c.log ≡ [] → (h : Frees (entry_of name) c c' σ σ' answer) → LogsOne c c' h.steps
-freed_one {σ} {σ'} {c} {c'} {name} {answer} none h = logs_one σ.seat.profile σ.seat.actor c c' name h.steps answer none h.outcome
+pub freed_one : {σ σ' : Standing} {c c' : Cached} {name : Name} {answer : Result (Unit {0}) FreeFault} → length c.log < 64 → (h : Frees (entry_of name) c c' σ σ' answer) → LogsOne c c' h.steps
+freed_one {σ} {σ'} {c} {c'} {name} {answer} few h = logs_one σ.seat.profile σ.seat.actor c c' name h.steps answer few h.outcome
+
+-- an empty log has room, and one name is in it after a free
+pub empty_few : {xs : List Entry} → xs ≡ [] → length xs < 64
+empty_few {xs} none = let n : length xs ≡ 0 = ap length none in omega (arith, n)
+
+pub one_logged : {σ σ' : Standing} {c c' : Cached} {name : Name} {answer : Result (Unit {0}) FreeFault} → c.log ≡ [] → Frees (entry_of name) c c' σ σ' answer → length c'.log ≤ 1
+one_logged {c = c} none h = let n : length c.log ≡ 0 = ap length none in let one = (freed_one (empty_few none) h).log in omega (arith, n, one)
 
 pub freed_call : {σ σ' : Standing} {c c' : Cached} {name : Name} {answer : Result (Unit {0}) FreeFault} → Frees (entry_of name) c c' σ σ' answer → CanCall σ (AtRest σ.seat.profile c) → CanCall σ' (AtRest σ'.seat.profile c')
 freed_call {σ} {σ'} {c} {c'} h can = can_call {C = AtRest σ.seat.profile c} {D = AtRest σ'.seat.profile c'} h.calls.adds can
@@ -94,20 +100,19 @@ pub stop_room : {σ σ' : Standing} {c c' : Cached} {name : Name} {answer : Resu
     → ((v : View) (l : Whole) → σ.stands v l → spare + length (events_of σ.seat.actor v) ≡ σ.seat.room) → ((v : View) (l : Whole) → σ'.stands v l → spare' + length (events_of σ'.seat.actor v) ≡ σ'.seat.room)
     → length c'.log ≤ spare'
 stop_room {spare = spare} {spare' = spare'} none h can law law' =
-    let one = freed_one none h in
-    let same : spare' ≡ spare = spare_kept h.calls.adds (rest_call can) (subst (Only releasing) (sym one.no_steps) tt) law law' in
-    let few = one.log in
+    let same : spare' ≡ spare = spare_kept h.calls.adds (rest_call can) (subst (Only releasing) (sym (freed_one (empty_few none) h).no_steps) tt) law law' in
+    let few = one_logged none h in
     let room = can.met.room in
     omega (arith, same, few, room)
 
--- a free into an empty log leaves the room that there was
-pub freed_budget : {σ σ' : Standing} {c c' : Cached} {name : Name} {answer : Result (Unit {0}) FreeFault} {n spare spare' : ℕ} → c.log ≡ [] → (h : Frees (entry_of name) c c' σ σ' answer) → CanCall σ (HasBudget σ.seat.profile c n spare)
+-- a free into a log that isn't full leaves the room that there was
+pub freed_budget : {σ σ' : Standing} {c c' : Cached} {name : Name} {answer : Result (Unit {0}) FreeFault} {n spare spare' : ℕ} → length c.log < 64 → (h : Frees (entry_of name) c c' σ σ' answer) → CanCall σ (HasBudget σ.seat.profile c n spare)
     → ((v : View) (l : Whole) → σ.stands v l → spare + length (events_of σ.seat.actor v) ≡ σ.seat.room) → ((v : View) (l : Whole) → σ'.stands v l → spare' + length (events_of σ'.seat.actor v) ≡ σ'.seat.room)
     → CanCall σ' (HasBudget σ'.seat.profile c' n spare')
-freed_budget {σ} {σ'} {c} {c'} {n = n} {spare = spare} {spare' = spare'} none h can law law' =
+freed_budget {σ} {σ'} {c} {c'} {n = n} {spare = spare} {spare' = spare'} few h can law law' =
     let f : Profile = σ.seat.profile in
     let v : View = can.view in
-    let same : spare' ≡ spare = spare_kept h.calls.adds (rest_call can) (subst (Only releasing) (sym (freed_one none h).no_steps) tt) law law' in
+    let same : spare' ≡ spare = spare_kept h.calls.adds (rest_call can) (subst (Only releasing) (sym (freed_one few h).no_steps) tt) law law' in
     let ok = h.calls.adds.agreed v can.whole can.stood can.met.rest in
     let unknown = unknown_stays f h.steps v ok in
     let room = can.met.room in

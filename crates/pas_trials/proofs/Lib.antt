@@ -6,3 +6,4 @@ mod Ageing
 mod Intruding
 mod Borrowing
 mod ByRooms
+mod WholePages

@@ -4,6 +4,7 @@
 pub mod caching;
 pub mod filling;
 pub mod holding;
+pub mod paging;
 pub mod passing;
 pub mod seats;
 pub mod sharing;
@@ -14,6 +15,7 @@ pub mod wanting;
 pub use caching::{borrow_two, words_of_first};
 pub use filling::{Filled, fill};
 pub use holding::{occupy, visit};
+pub use paging::reuse_pages;
 pub use passing::age_and_pass;
 pub use seats::{change, close_both};
 pub use sharing::{Allocated, allocate, fill_shared};

@@ -2,7 +2,7 @@ use Rattle.std.proofs.Common.{◌+◌, ◌∙◌, ap, arith}
 use Rattle.pas_cache.specs.Caches.{Cached}
 use Rattle.pas_cache.proofs.Budget.{may_allocate, budget_left}
 use Rattle.pas_cache.proofs.Routes.{is_small}
-use Rattle.pas_trials.proofs.Borrowed.{admitted, budget_call, rest_call, budget_as, call_budget, log_after, small_turn, freed_one, freed_call, freed_budget, stop_room, stopped_call, stopped_budget}
+use Rattle.pas_trials.proofs.Borrowed.{admitted, budget_call, rest_call, budget_as, call_budget, log_after, small_turn, empty_few, one_logged, freed_call, freed_budget, stop_room, stopped_call, stopped_budget}
 use Rattle.pas_trials.proofs.caching.borrow_two.Goals as goal
 
 pub alloc-first-requires-clause-admitted : goal.alloc-first-requires-clause-admitted
@@ -65,5 +65,5 @@ returns-clause-room g c n can =
     let none = log_after c.alloc-second.ensures.allocates ∙ (log_after c.alloc-first.ensures.allocates ∙ c.requires.none_logged) in
     let first = budget_left (n + 3) c.alloc-first.ensures.allocates (budget_as (n + 3 + 2) (omega arith) (budget_call can)) (λ v l s. g.met.D.Desk.spares c.args.desk.now v l s) (λ v l s. g.met.D.Desk.spares c.alloc-first.new.desk v l s) in
     let second = budget_left (n + 1) c.alloc-second.ensures.allocates (budget_as (n + 1 + 2) (omega arith) first) (λ v l s. g.met.D.Desk.spares c.alloc-first.new.desk v l s) (λ v l s. g.met.D.Desk.spares c.alloc-second.new.desk v l s) in
-    let freed = freed_budget none c.free.ensures.frees second (λ v l s. g.met.D.Desk.spares c.alloc-second.new.desk v l s) (λ v l s. g.met.D.Desk.spares c.free.new.desk v l s) in
-    call_budget (stopped_budget (freed_one none c.free.ensures.frees).log c.stop.ensures.stops freed (λ v l s. g.met.D.Desk.spares c.free.new.desk v l s) (λ v l s. g.met.D.Desk.spares c.stop.new.desk v l s))
+    let freed = freed_budget (empty_few none) c.free.ensures.frees second (λ v l s. g.met.D.Desk.spares c.alloc-second.new.desk v l s) (λ v l s. g.met.D.Desk.spares c.free.new.desk v l s) in
+    call_budget (stopped_budget (one_logged none c.free.ensures.frees) c.stop.ensures.stops freed (λ v l s. g.met.D.Desk.spares c.free.new.desk v l s) (λ v l s. g.met.D.Desk.spares c.stop.new.desk v l s))
