@@ -1,7 +1,5 @@
 -- Requests for whole pages one after another, and frees of pages.
-use Rattle.std.proofs.Common.{◌≡◌, ℕ, ◌+◌, ◌-◌, ◌*◌, ◌/◌, ◌<◌, ◌≤◌, ◌++◌, [], ◌∷◌, List, length, Bool, true, false, nat_le, Option, Ok, Err, Result, refl, ap, sym, ◌∙◌, subst, arith, true≢false, length-append}
-use Rattle.std.specs.Prelude.{MatchResult}
-use Rattle.std.proofs.lemmas.Bool.{le-leb}
+use Rattle.std.proofs.Common.{◌≡◌, ℕ, ◌+◌, ◌≤◌, ◌++◌, [], length, Bool, Option, Ok, Err, Result, refl, sym, subst, arith}
 use Rattle.pas_profile.specs.declared.event.FreeFault.{FreeFault}
 use Rattle.pas_profile.specs.declared.event.NoRoom.{NoRoom}
 use Rattle.pas_profile.specs.declared.name.Block.{Block}
@@ -9,13 +7,10 @@ use Rattle.pas_profile.specs.declared.name.Name.{Name}
 use Rattle.pas_profile.specs.declared.profile.Profile.{Profile}
 use Rattle.pas_steps.specs.Desks.{Standing, Seat, CanCall, triples}
 use Rattle.pas_steps.specs.Events.{events_by}
-use Rattle.pas_steps.specs.Kinds.{Only}
-use Rattle.pas_steps.specs.Unknown.{unknown_pages}
 use Rattle.pas_steps.specs.Views.{View}
-use Rattle.pas_steps.specs.declared.step.Made.{Made}
 use Rattle.pas_steps.proofs.SpareRoom.{Spares, spare_falls}
 use Rattle.pas_steps.proofs.Unknown.{unknown_stays}
-use Rattle.pas_cache.specs.Caches.{Cached, AtRest}
+use Rattle.pas_cache.specs.Caches.{Cached}
 use Rattle.pas_cache.specs.Calls.{MayAllocatePages, AllocatesPages, most_events, Frees, FlushesLog}
 use Rattle.pas_cache.specs.Serves.{Wanted, wanted_for, pages_of}
 use Rattle.pas_cache.proofs.Budget.{HasBudget, log_kept}
