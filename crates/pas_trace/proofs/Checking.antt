@@ -3,7 +3,7 @@ use Rattle.std.proofs.Common.{◌≡◌, ℕ, ◌+◌, ◌*◌, ◌==◌, nat_lt
 use Rattle.pas_trace.specs.Wishes.{heap_in, sizing_in, name_made, name_freed, holds_of, asking}
 use Rattle.pas_trace.specs.Reasons.{first_failed, is_thread, is_alignment, cost_of, cost_of_size, cost_of_wish, record_bound, few_enough, may_free, checks_of, reason_of, operations_in, is_named, is_named_now, thread_of, checked, kept, line_says, started}
 use Rattle.pas_trace.specs.Items.{item_of_line}
-use Rattle.pas_trace.specs.Told.{owner_in, few_told, sizing_told, freed_told, told_checks, reason_told, has_owner, has_owner_now, may_free_told, IsChecked, Tells}
+use Rattle.pas_trace.specs.Told.{owner_in, few_told, sizing_told, told_checks, reason_told, has_owner, has_owner_now, may_free_told, IsChecked, Tells}
 use Rattle.pas_trace.specs.declared.fault.Reason.{Reason}
 use Rattle.pas_trace.specs.declared.item.Request.{Request}
 use Rattle.pas_trace.specs.declared.item.Item.{Item}
@@ -67,82 +67,25 @@ says-reason r items line i why h e some =
     let reason : reason_of r.header.profile items i ≡ Some why = ap first_failed (sym (checks-same r items i h)) ∙ some in
     ap (λ b. checked r.header.profile items (item_of_line r.header.version b line)) (sym s) ∙ ap (checked r.header.profile items) (sym e) ∙ ap (kept i) reason
 
--- ---- checks that pass leave those that follow, and one that fails gives the reason
+-- ---- a request that passes its own checks stands by those of every operation
+next : (c : Bool) (r : Reason) (cs : List (Bool × Reason)) (failed : Option Reason) → c ≡ true → first_failed cs ≡ failed → first_failed ((c, r) ∷ cs) ≡ failed
+next true r cs failed e h = h
+next false r cs failed e h = absurd (cc)
+
 passed-then : (cs ds : List (Bool × Reason)) → first_failed cs ≡ None → first_failed (cs ++ ds) ≡ first_failed ds
 passed-then [] ds e = refl
 passed-then ((true, r) ∷ cs) ds e = passed-then cs ds e
 passed-then ((false, r) ∷ cs) ds e = absurd (cc)
 
-failed-there : (cs ds : List (Bool × Reason)) (why : Reason) → first_failed cs ≡ Some why → first_failed (cs ++ ds) ≡ Some why
-failed-there [] ds why e = absurd (cc)
-failed-there ((true, r) ∷ cs) ds why e = failed-there cs ds why e
-failed-there ((false, r) ∷ cs) ds why e = e
-
-next : (c : Bool) (r : Reason) (cs : List (Bool × Reason)) (failed : Option Reason) → c ≡ true → first_failed cs ≡ failed → first_failed ((c, r) ∷ cs) ≡ failed
-next true r cs failed e h = h
-next false r cs failed e h = absurd (cc)
-
--- ---- a request
-module _ (r : Reader) (t : ℕ) (q : Request) (thread : is_thread r.header.profile t ≡ true) (heap : nat_lt q.heap r.header.profile.heaps ≡ true) where
-  few-left : List (Bool × Reason)
-  few-left = few_told r (cost_of_size q.size)
-
-  fresh-left : List (Bool × Reason)
-  fresh-left = (not (has_owner r q.name), Reason.NameTaken) ∷ few-left
-
-  sizing-left : reason_told r t (asking q) ≡ first_failed (sizing_told r q.size q.align ++ fresh-left)
-  unfolding fresh-left few-left
-  sizing-left = next (is_thread r.header.profile t) Reason.BadThread _ _ thread (next (nat_lt q.heap r.header.profile.heaps) Reason.BadHeap _ _ heap refl)
-
-  pub request-sized : (why : Reason) → first_failed (sizing_told r q.size q.align) ≡ Some why → reason_told r t (asking q) ≡ Some why
-  request-sized why e = sizing-left ∙ failed-there (sizing_told r q.size q.align) fresh-left why e
-
-  pub request-checked : (result : Result ℕ Reason) → first_failed (sizing_told r q.size q.align) ≡ None → not (has_owner r q.name) ≡ true
-      → IsChecked (first_failed (few_told r (cost_of_size q.size))) (cost_of_size q.size) result → IsChecked (reason_told r t (asking q)) (cost_of_size q.size) result
-  unfolding fresh-left few-left
-  request-checked result sized fresh few =
-      let same : reason_told r t (asking q) ≡ first_failed (few_told r (cost_of_size q.size)) =
-      sizing-left ∙ passed-then (sizing_told r q.size q.align) fresh-left sized ∙ next (not (has_owner r q.name)) Reason.NameTaken few-left _ fresh refl in
-      subst (λ failed. IsChecked failed (cost_of_size q.size) result) (sym same) few
-
-  pub request-taken : first_failed (sizing_told r q.size q.align) ≡ None → not (has_owner r q.name) ≡ false → reason_told r t (asking q) ≡ Some Reason.NameTaken
-  unfolding fresh-left few-left
-  request-taken sized fresh = sizing-left ∙ passed-then (sizing_told r q.size q.align) fresh-left sized ∙ ap (λ b. first_failed ((b, Reason.NameTaken) ∷ few-left)) fresh
-
--- ---- frees
-module _ (r : Reader) (t n : ℕ) (thread : is_thread r.header.profile t ≡ true) where
-  free-left : reason_told r t (Wish.Frees n) ≡ first_failed (freed_told r t n ++ few_told r 1)
-  free-left = next (is_thread r.header.profile t) Reason.BadThread _ _ thread refl
-
-  pub free-refused : (why : Reason) → first_failed (freed_told r t n) ≡ Some why → reason_told r t (Wish.Frees n) ≡ Some why
-  free-refused why e = free-left ∙ failed-there (freed_told r t n) (few_told r 1) why e
-
-  pub free-checked : (result : Result ℕ Reason) → first_failed (freed_told r t n) ≡ None → IsChecked (first_failed (few_told r 1)) 1 result → IsChecked (reason_told r t (Wish.Frees n)) 1 result
-  free-checked result freed few = subst (λ failed. IsChecked failed 1 result) (sym (free-left ∙ passed-then (freed_told r t n) (few_told r 1) freed)) few
-
-module _ (r : Reader) (t n size align : ℕ) (thread : is_thread r.header.profile t ≡ true) where
-  sized-left : reason_told r t (Wish.FreesSized n size align) ≡ first_failed (sizing_told r size align ++ (freed_told r t n ++ few_told r 1))
-  sized-left = next (is_thread r.header.profile t) Reason.BadThread _ _ thread refl
-
-  pub sized-wrong : (why : Reason) → first_failed (sizing_told r size align) ≡ Some why → reason_told r t (Wish.FreesSized n size align) ≡ Some why
-  sized-wrong why e = sized-left ∙ failed-there (sizing_told r size align) (freed_told r t n ++ few_told r 1) why e
-
-  module _ (sized : first_failed (sizing_told r size align) ≡ None) where
-    freed-left : reason_told r t (Wish.FreesSized n size align) ≡ first_failed (freed_told r t n ++ few_told r 1)
-    freed-left = sized-left ∙ passed-then (sizing_told r size align) (freed_told r t n ++ few_told r 1) sized
-
-    pub sized-refused : (why : Reason) → first_failed (freed_told r t n) ≡ Some why → reason_told r t (Wish.FreesSized n size align) ≡ Some why
-    sized-refused why e = freed-left ∙ failed-there (freed_told r t n) (few_told r 1) why e
-
-    pub sized-checked : (result : Result ℕ Reason) → first_failed (freed_told r t n) ≡ None → IsChecked (first_failed (few_told r 1)) 1 result → IsChecked (reason_told r t (Wish.FreesSized n size align)) 1 result
-    sized-checked result freed few = subst (λ failed. IsChecked failed 1 result) (sym (freed-left ∙ passed-then (freed_told r t n) (few_told r 1) freed)) few
-
-module _ (r : Reader) (t address turn size align : ℕ) (thread : is_thread r.header.profile t ≡ true) where
-  raw-left : reason_told r t (Wish.FreesRawSized address turn size align) ≡ first_failed (sizing_told r size align ++ few_told r 1)
-  raw-left = next (is_thread r.header.profile t) Reason.BadThread _ _ thread refl
-
-  pub raw-wrong : (why : Reason) → first_failed (sizing_told r size align) ≡ Some why → reason_told r t (Wish.FreesRawSized address turn size align) ≡ Some why
-  raw-wrong why e = raw-left ∙ failed-there (sizing_told r size align) (few_told r 1) why e
-
-  pub raw-checked : (result : Result ℕ Reason) → first_failed (sizing_told r size align) ≡ None → IsChecked (first_failed (few_told r 1)) 1 result → IsChecked (reason_told r t (Wish.FreesRawSized address turn size align)) 1 result
-  raw-checked result sized few = subst (λ failed. IsChecked failed 1 result) (sym (raw-left ∙ passed-then (sizing_told r size align) (few_told r 1) sized)) few
+pub request-checked : (r : Reader) (t : ℕ) (q : Request) (result : Result ℕ Reason)
+    → is_thread r.header.profile t ≡ true → nat_lt q.heap r.header.profile.heaps ≡ true → first_failed (sizing_told r q.size q.align) ≡ None → not (has_owner r q.name) ≡ true
+    → IsChecked (first_failed (few_told r (cost_of_size q.size))) (cost_of_size q.size) result → IsChecked (reason_told r t (asking q)) (cost_of_size q.size) result
+request-checked r t q result thread heap sized fresh few =
+    let f = r.header.profile in
+    let sizing = sizing_told r q.size q.align in
+    let left : List (Bool × Reason) = (not (has_owner r q.name), Reason.NameTaken) ∷ few_told r (cost_of_size q.size) in
+    let failed : Option Reason = first_failed (few_told r (cost_of_size q.size)) in
+    let same : reason_told r t (asking q) ≡ failed =
+    next (is_thread f t) Reason.BadThread ((nat_lt q.heap f.heaps, Reason.BadHeap) ∷ (sizing ++ left)) failed thread (next (nat_lt q.heap f.heaps) Reason.BadHeap (sizing ++ left) failed heap
+    (passed-then sizing left sized ∙ next (not (has_owner r q.name)) Reason.NameTaken (few_told r (cost_of_size q.size)) failed fresh refl)) in
+    subst (λ failed. IsChecked failed (cost_of_size q.size) result) (sym same) few
