@@ -8,6 +8,7 @@ use Rattle.pas_trace.specs.declared.plan.Op.{Op}
 use Rattle.pas_trace.specs.declared.plan.What.{What}
 use Rattle.pas_trace.specs.Plans.{Parsed, parsed, phases_in, shared_in}
 use Rattle.pas_report.specs.declared.record.Record.{Record}
+use Rattle.pas_free_log.specs.Logs.{entry_of, sized_entry}
 use Rattle.pas_trace.specs.Acts.{Act, numbers_from, acts_of}
 use Rattle.pas_one_text.specs.State.{World, each, no_cache, cache_of, set_cache, says}
 use Rattle.pas_one_text.specs.Classes.{serves_class}
@@ -26,8 +27,10 @@ serves f k name heap Route.Large room align w = serves_pages f k name heap (room
 -- AN OPERATION
 abbrev pub operates : Profile → ℕ → What → World → World
 operates f k (What.Alloc name heap size align) w = serves f k name heap (route_in f size align) (room_in f size align) align w
-operates f k (What.Free name) w = frees_named f k name w
-operates f k (What.Raw block) w = frees f k block w
+operates f k (What.Free name) w = frees_named f k name None w
+operates f k (What.FreeSized name room) w = frees_named f k name (Some room) w
+operates f k (What.Raw block) w = frees f k (entry_of block) w
+operates f k (What.RawSized room block) w = frees f k (sized_entry block room) w
 operates f k What.Flush w = flushes f k w
 operates f k What.Stop w = stops f k w
 operates f k (What.Tick e) w = w
@@ -64,11 +67,11 @@ replayed f phases = each (acts_on f) (acts_of f.threads phases) (opened f)
 -- ---- the text
 -- the region of a trace: its header with its shared heaps
 abbrev pub region_of : Parsed → Profile
-region_of p = record p.header { shared = shared_in p.items }
+region_of p = record p.header.profile { shared = shared_in p.items }
 
 -- what its replay comes to
 abbrev pub replay_of : Parsed → World
-replay_of p = replayed (region_of p) (phases_in p.items)
+replay_of p = replayed (region_of p) (phases_in p.header.profile p.items)
 
 abbrev pub text_for : Result Parsed TraceFault → Option (List ℕ)
 text_for (Ok p) = Some (text_of (region_of p) (replay_of p))
