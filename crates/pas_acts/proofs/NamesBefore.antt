@@ -59,7 +59,7 @@ smaller_if false what few many small n none = small n (not_before what many n no
 fit_task : (f : Profile) (limit : ℕ) (few many : List ℕ) (task : Task) → IsSmaller few many → IsSoundTask f many task → MatchOption (request_of task) (Unit {0}) (λ r. r.name < limit) → MatchOption (freed_of task) (Unit {0}) (λ n. is_asked few n ≡ true)
     → IsFitTask f limit few task
 fit_task f limit few many (Task.Request name heap size align) small sound below frees = (below, sound.0, small name sound.1)
-fit_task f limit few many (Task.Free name) small sound below frees = frees
+fit_task f limit few many (Task.Free name room) small sound below frees = (frees, sound.1)
 fit_task f limit few many task small sound below frees = sound
 
 fit_work : (f : Profile) (limit k : ℕ) (few many : List ℕ) (work : Work) → 1 ≤ k → IsSmaller few many → IsActorBy f work k → IsSoundWork f many work → MatchOption (of_task request_of work) (Unit {0}) (λ r. r.name < limit)

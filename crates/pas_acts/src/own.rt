@@ -24,7 +24,7 @@ fn freed(book: &NameBook, requests: &Requests, task: Task) -> Option<Block>
     ensures { result ≡ freed_by (known_in book.now requests.now) (what_of task) }
 {
     match task {
-        Task::Free { name } => book.meaning(requests, name),
+        Task::Free { name, .. } => book.meaning(requests, name),
         _ => None,
     }
 }

@@ -1,10 +1,10 @@
 -- An operation by what it asks for, and what the name that it frees stands for.
-use Rattle.std.proofs.Common.{◌≡◌, ℕ, List, Option, Some, None, ap, sym}
+use Rattle.std.proofs.Common.{◌≡◌, ℕ, List, Option, Some, None, refl, ap, sym}
 use Rattle.pas_profile.specs.declared.name.Block.{Block}
 use Rattle.pas_profile.specs.declared.profile.Profile.{Profile}
 use Rattle.pas_trace.specs.declared.plan.What.{What}
 use Rattle.pas_trace.specs.Asked.{work_of}
-use Rattle.pas_trace.specs.declared.plan.What.TheVariants.{Alloc, Free, Raw, Flush, Stop}
+use Rattle.pas_trace.specs.declared.plan.What.TheVariants.{Alloc, Free, FreeSized, Raw, RawSized, Flush, Stop}
 use Rattle.pas_trace.specs.declared.plan.Task.{Task}
 use Rattle.pas_trace.specs.declared.plan.Work.{Work}
 use Rattle.pas_answers.specs.Answers.{Named, standing_for}
@@ -17,14 +17,26 @@ same_own is = cc
 pub own_what : (what : What) (task : Task) → work_of what ≡ Work.Own task → what ≡ what_of task
 own_what (Alloc name heap size align) task is = ap what_of (same_own is)
 own_what (Free name) task is = ap what_of (same_own is)
+own_what (FreeSized name room) task is = ap what_of (same_own is)
 own_what (Raw block) task is = ap what_of (same_own is)
+own_what (RawSized room block) task is = ap what_of (same_own is)
 own_what Flush task is = ap what_of (same_own is)
 own_what Stop task is = ap what_of (same_own is)
 own_what what task is = cc
 
+pub task_of : (task : Task) → work_of (what_of task) ≡ Work.Own task
+task_of (Task.Request name heap size align) = refl
+task_of (Task.Free name None) = refl
+task_of (Task.Free name (Some room)) = refl
+task_of (Task.FreeRaw block None) = refl
+task_of (Task.FreeRaw block (Some room)) = refl
+task_of Task.Flush = refl
+task_of Task.Stop = refl
+
 -- what is said of each name is said of the freed one
 pub meant_by : (block : ℕ → Option Block) (names : List Named) (what : What) → ((n : ℕ) → block n ≡ block_behind (standing_for names n)) → IsMeant names what (freed_by block what)
 meant_by block names (Free name) tells = sym (tells name)
+meant_by block names (FreeSized name room) tells = sym (tells name)
 meant_by block names what tells = tt
 
 -- .. and it is one of the region
@@ -33,4 +45,5 @@ none_stands f = λ b same. absurd (let bad : None ≡ Some b = same in cc)
 
 pub meant_stands : (f : Profile) (block : ℕ → Option Block) (what : What) → ((n : ℕ) → MayStand f (block n)) → MayStand f (freed_by block what)
 meant_stands f block (Free name) stand = stand name
+meant_stands f block (FreeSized name room) stand = stand name
 meant_stands f block what stand = none_stands f

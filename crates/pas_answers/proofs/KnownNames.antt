@@ -5,7 +5,7 @@ use Rattle.pas_profile.specs.declared.name.Block.{Block}
 use Rattle.pas_steps.specs.Views.{View}
 use Rattle.pas_steps.specs.declared.step.Made.{Made}
 use Rattle.pas_trace.specs.declared.plan.What.{What}
-use Rattle.pas_trace.specs.declared.plan.What.TheVariants.{Alloc, Free, Raw, Flush, Stop}
+use Rattle.pas_trace.specs.declared.plan.What.TheVariants.{Alloc, Free, FreeSized, Raw, RawSized, Flush, Stop}
 use Rattle.pas_report.specs.declared.record.Said.{Said}
 use Rattle.pas_cache.specs.Caches.{Cached}
 use Rattle.pas_answers.specs.Calls.{AreKnown, named_by}
@@ -25,7 +25,9 @@ pub known_after : (f : Profile) (k : ℕ) (what : What) (asked : List ℕ) (name
 known_after f k (Alloc name heap size align) asked names names' l c c' steps said answered known = subst (λ (ns : List Named). AreKnown (name ∷ asked) ns) (sym answered.names_are)
     (λ n is. one_more (name == n) (block_of answered.answer) (standing_for names n) (is_asked asked n) (known n) is)
 known_after f k (Free name) asked names names' l c c' steps said answered known = same_names asked answered.1 known
+known_after f k (FreeSized name room) asked names names' l c c' steps said answered known = same_names asked answered.1 known
 known_after f k (Raw block) asked names names' l c c' steps said answered known = same_names asked answered.1 known
+known_after f k (RawSized room block) asked names names' l c c' steps said answered known = same_names asked answered.1 known
 known_after f k Flush asked names names' l c c' steps said answered known = same_names asked answered.2 known
 known_after f k Stop asked names names' l c c' steps said answered known = same_names asked answered.2 known
 known_after f k what asked names names' l c c' steps said answered known = absurd answered

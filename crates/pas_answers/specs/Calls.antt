@@ -1,7 +1,6 @@
 -- What one operation asks and promises.
 use Rattle.std.specs.Prelude.{ℕ, ◌+◌, ◌-◌, ◌^◌, ◌<◌, ◌≤◌, ◌≡◌, true, false, List, [], ◌∷◌, ◌++◌, length, Option, None, Some, MatchOption, option_and_then, Result, Ok, Err, MatchResult}
 use Rattle.pas_profile.specs.declared.profile.Profile.{Profile}
-use Rattle.pas_profile.specs.declared.name.Name.{Name}
 use Rattle.pas_steps.specs.Views.{View}
 use Rattle.pas_steps.specs.Agreement.{Agreed}
 use Rattle.pas_steps.specs.Events.{events_by}
@@ -11,11 +10,12 @@ use Rattle.pas_steps.specs.declared.step.Made.{Made}
 use Rattle.pas_trace.specs.Asked.{request_in, freed_in}
 use Rattle.pas_trace.specs.EveryPlan.{is_asked}
 use Rattle.pas_trace.specs.declared.plan.What.{What}
-use Rattle.pas_trace.specs.declared.plan.What.TheVariants.{Alloc, Free, Raw, Flush, Stop}
+use Rattle.pas_trace.specs.declared.plan.What.TheVariants.{Alloc, Free, FreeSized, Raw, RawSized, Flush, Stop}
 use Rattle.pas_trace.specs.declared.plan.Task.{Task}
 use Rattle.pas_trace.specs.declared.item.Request.{Request}
 use Rattle.pas_report.specs.Rooms.{records_in, room_of, Records}
 use Rattle.pas_report.specs.declared.record.Said.{Said}
+use Rattle.pas_free_log.specs.declared.log.Entry.{Entry}
 use Rattle.pas_cache.specs.Caches.{Cached, AtRest}
 use Rattle.pas_profile.specs.declared.event.NoRoom.{NoRoom}
 use Rattle.pas_profile.specs.declared.name.Block.{Block}
@@ -33,8 +33,10 @@ use Rattle.pas_answers.specs.declared.names.Names.{Names}
 -- ---- the operation that asks its thread for this
 abbrev pub what_of : Task → What
 what_of (Task.Request name heap size align) = Alloc name heap size align
-what_of (Task.Free name) = Free name
-what_of (Task.FreeRaw block) = Raw block
+what_of (Task.Free name None) = Free name
+what_of (Task.Free name (Some room)) = FreeSized name room
+what_of (Task.FreeRaw block None) = Raw block
+what_of (Task.FreeRaw block (Some room)) = RawSized room block
 what_of Task.Flush = Flush
 what_of Task.Stop = Stop
 
@@ -129,13 +131,13 @@ pub record Serves (cost : ℕ) (wanted : Wanted) (found : Option ℕ) (c c' : Ca
   pub outcome : MatchResult answer (IsBlockFor desk.seat.profile wanted (AtRest desk.seat.profile c) steps) (λ room. (k : ℕ) (v : View) → RefusalEnds wanted.route wanted.directory (events_by k v steps))
   pub log_is : c'.log ≡ c.log
 
--- a free by name and turn
-pub record FreesOne (block : Name) (c c' : Cached) (desk desk' : Standing) (said : Option Said) : Type 0 where
+-- a free by name and turn, and by the room that it names, if any
+pub record FreesOne (entry : Entry) (c c' : Cached) (desk desk' : Standing) (said : Option Said) : Type 0 where
   pub steps : List Made
   pub calls : Rests c c' desk desk' steps
   pub few : (v : View) → AtRest desk.seat.profile c v → Agreed desk.seat.profile v steps
       → length (events_by desk.seat.actor v steps) + length (said_by desk.seat.actor said) + owed_events desk.seat.profile c' (steps ++ v) ≤ 1 + owed_events desk.seat.profile c v
-  pub freed : IsFreed desk.seat.profile desk.seat.actor c c' block steps said
+  pub freed : IsFreed desk.seat.profile desk.seat.actor c c' entry steps said
 
 -- .. and there is room for its records
 pub record MayAnswer (f : Profile) (c : Cached) (what : What) (spare : ℕ) (out : Records) (v : View) : Type 0 where

@@ -4,7 +4,9 @@ ghost use Rattle.pas_trace.specs.declared.plan.What.TheVariants as TheWhat;
 ghost use Rattle.pas_report.specs.Rooms.{records_in, room_of};
 ghost use Rattle.pas_steps.specs.Desks.{CanCall};
 ghost use Rattle.pas_cache.specs.Caches.{cached};
-ghost use Rattle.pas_answers.specs.Answers.{said_of_room};
+ghost use Rattle.pas_cache.specs.Calls.{Frees};
+ghost use Rattle.pas_trace.specs.EveryPlan.{IsRoomNamed};
+ghost use Rattle.pas_answers.specs.Answers.{said_of_room, entry_with};
 ghost use Rattle.pas_answers.specs.Fit.{IsFitWhat};
 ghost use Rattle.pas_profile.specs.Profiles.{IsAdmitted};
 ghost use Rattle.pas_profile.specs.declared.name.Block.{Block as TheBlock};
@@ -62,14 +64,39 @@ fn allocate<D: Desk>(
     }
 }
 
-/// Frees the block of this name. What is said where no block can have the name.
-fn free<D: Desk>(desk: &mut D, cache: &mut ThreadCache, block: Name) -> Option<Said>
+/// Has the thread's cache log the block of this name, with the room that is named for it, if any.
+fn log<D: Desk>(
+    desk: &mut D,
+    cache: &mut ThreadCache,
+    block: Name,
+    room: Option<u32>,
+) -> Result<(), FreeFault>
     requires turn { block.turn < 2 ^ 40 - 1 }
+    requires room { IsRoomNamed (D.standing desk.old).seat.profile room }
     requires can { CanCall (D.standing desk.old) (MayPerform (D.standing desk.old).seat.profile (cached cache.old) (TheWhat.Raw block) (D.spare_of desk.old)) }
-    ensures frees { FreesOne block (cached cache.old) (cached cache.new) (D.standing desk.old) (D.standing desk.new) result }
+    ensures frees { Frees (entry_with block room) (cached cache.old) (cached cache.new) (D.standing desk.old) (D.standing desk.new) result }
     ensures home { D.home desk.new ≡ D.home desk.old }
 {
-    match cache.free(desk, block) {
+    match room {
+        Some(room) => cache.free_sized(desk, block, room),
+        None => cache.free(desk, block),
+    }
+}
+
+/// Frees the block of this name, which ends only where it has the room that is named, if any. What is said where no block can have the name.
+fn free<D: Desk>(
+    desk: &mut D,
+    cache: &mut ThreadCache,
+    block: Name,
+    room: Option<u32>,
+) -> Option<Said>
+    requires turn { block.turn < 2 ^ 40 - 1 }
+    requires room { IsRoomNamed (D.standing desk.old).seat.profile room }
+    requires can { CanCall (D.standing desk.old) (MayPerform (D.standing desk.old).seat.profile (cached cache.old) (TheWhat.Raw block) (D.spare_of desk.old)) }
+    ensures frees { FreesOne (entry_with block room) (cached cache.old) (cached cache.new) (D.standing desk.old) (D.standing desk.new) result }
+    ensures home { D.home desk.new ≡ D.home desk.old }
+{
+    match log(desk, cache, block, room) {
         Ok(()) => None,
         Err(FreeFault::Outside) => Some(Said::Outside { block }),
         Err(FreeFault::Unaligned) => Some(Said::Unaligned { block }),
@@ -98,11 +125,11 @@ fn perform<D: Desk>(
             size,
             align,
         } => allocate(desk, cache, name, heap, size, align),
-        Task::Free { name } => match meant {
-            Some(block) => (None, free(desk, cache, block.name)),
+        Task::Free { name, room } => match meant {
+            Some(block) => (None, free(desk, cache, block.name, room)),
             None => (None, Some(Said::Skipped { name })),
         },
-        Task::FreeRaw { block } => (None, free(desk, cache, block)),
+        Task::FreeRaw { block, room } => (None, free(desk, cache, block, room)),
         Task::Flush => {
             cache.flush(desk);
             (None, None)

@@ -8,6 +8,7 @@ use Rattle.pas_trace.specs.declared.plan.Op.{Op}
 use Rattle.pas_trace.specs.declared.plan.What.{What}
 use Rattle.pas_trace.specs.Plans.{Parsed, parsed, phases_in, shared_in}
 use Rattle.pas_report.specs.declared.record.Record.{Record}
+use Rattle.pas_free_log.specs.Logs.{entry_of, sized_entry}
 use Rattle.pas_trace.specs.Acts.{Act, numbers_from, acts_of}
 use Rattle.pas_one_text.specs.State.{World, each, no_cache, cache_of, set_cache, says}
 use Rattle.pas_one_text.specs.Classes.{serves_class}
@@ -26,8 +27,10 @@ serves f k name heap Route.Large room align w = serves_pages f k name heap (room
 -- AN OPERATION
 abbrev pub operates : Profile → ℕ → What → World → World
 operates f k (What.Alloc name heap size align) w = serves f k name heap (route_in f size align) (room_in f size align) align w
-operates f k (What.Free name) w = frees_named f k name w
-operates f k (What.Raw block) w = frees f k block w
+operates f k (What.Free name) w = frees_named f k name None w
+operates f k (What.FreeSized name room) w = frees_named f k name (Some room) w
+operates f k (What.Raw block) w = frees f k (entry_of block) w
+operates f k (What.RawSized room block) w = frees f k (sized_entry block room) w
 operates f k What.Flush w = flushes f k w
 operates f k What.Stop w = stops f k w
 operates f k (What.Tick e) w = w

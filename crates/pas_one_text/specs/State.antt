@@ -5,7 +5,7 @@ use Rattle.std.specs.List.{find, filter}
 use Rattle.pas_profile.specs.Blocks.{address_of}
 use Rattle.pas_profile.specs.declared.event.Event.{Event}
 use Rattle.pas_profile.specs.declared.name.Block.{Block}
-use Rattle.pas_profile.specs.declared.name.Name.{Name}
+use Rattle.pas_free_log.specs.declared.log.Entry.{Entry}
 use Rattle.pas_report.specs.declared.record.Record.{Record}
 use Rattle.pas_answers.specs.Answers.{Named, named}
 
@@ -22,7 +22,7 @@ pub record Local : Type 0 where
 -- yet, the oldest first; and the epoch in which it last began a phase with an operation of its own
 pub record Cache : Type 0 where
   pub locals : List Local
-  pub log : List Name
+  pub log : List Entry
   pub began : ℕ
 
 -- THE STATE: the events and the records so far, each with the newest first; the live blocks, which follow from the events; what the names of the trace stand
@@ -94,7 +94,7 @@ cache_of w k = cache_in w.caches k
 abbrev pub locals_of : World → ℕ → List Local
 locals_of w k = (cache_of w k).locals
 
-abbrev pub log_of : World → ℕ → List Name
+abbrev pub log_of : World → ℕ → List Entry
 log_of w k = (cache_of w k).log
 
 -- it has become this
@@ -104,5 +104,5 @@ set_cache k c w = record w { caches = with_cache w.caches k c }
 abbrev pub set_locals : ℕ → List Local → World → World
 set_locals k locals w = set_cache k (record (cache_of w k) { locals = locals }) w
 
-abbrev pub set_log : ℕ → List Name → World → World
+abbrev pub set_log : ℕ → List Entry → World → World
 set_log k log w = set_cache k (record (cache_of w k) { log = log }) w

@@ -95,7 +95,7 @@ fn freed(names: &Names, task: Task) -> Option<Block>
     ensures { result ≡ freed_by (block_named names.now) (what_of task) }
 {
     match task {
-        Task::Free { name } => names.get(name),
+        Task::Free { name, .. } => names.get(name),
         _ => None,
     }
 }

@@ -7,7 +7,7 @@ use Rattle.pas_steps.specs.Views.{View}
 use Rattle.pas_steps.specs.declared.step.Made.{Made}
 use Rattle.pas_trace.specs.EveryPlan.{is_asked, asked_after}
 use Rattle.pas_trace.specs.declared.plan.What.{What}
-use Rattle.pas_trace.specs.declared.plan.What.TheVariants.{Alloc, Free, Raw, Flush, Stop}
+use Rattle.pas_trace.specs.declared.plan.What.TheVariants.{Alloc, Free, FreeSized, Raw, RawSized, Flush, Stop}
 use Rattle.pas_report.specs.declared.record.Said.{Said}
 use Rattle.pas_cache.specs.Caches.{Cached}
 use Rattle.pas_answers.specs.Answers.{Named, named, block_of, standing_for, having, Answer, answer_of, IsFreedBy, IsAnswered}
@@ -41,10 +41,10 @@ pub record Retold (f : Profile) (k : ℕ) (what : What) (asked : List ℕ) (name
   pub only_asked : OnlyAsked (asked_after what asked) after
   pub same_names : (n : ℕ) → (IsRequestOf n what → ⊥) → standing_for after n ≡ standing_for names n
 
-freed_same : (f : Profile) (k : ℕ) (c c1 : Cached) (name : ℕ) (o many : Option (Option Block)) (steps : List Made) (said : Option Said)
-    → ((b : Option Block) → o ≡ Some b → many ≡ Some b) → IsFreedBy f k c c1 name o steps said → IsFreedBy f k c c1 name many steps said
-freed_same f k c c1 name None many steps said sub is = absurd is
-freed_same f k c c1 name (Some b) many steps said sub is = subst (λ (o : Option (Option Block)). IsFreedBy f k c c1 name o steps said) (sym (sub b refl)) is
+freed_same : (f : Profile) (k : ℕ) (c c1 : Cached) (name : ℕ) (room : Option ℕ) (o many : Option (Option Block)) (steps : List Made) (said : Option Said)
+    → ((b : Option Block) → o ≡ Some b → many ≡ Some b) → IsFreedBy f k c c1 name room o steps said → IsFreedBy f k c c1 name room many steps said
+freed_same f k c c1 name room None many steps said sub is = absurd is
+freed_same f k c c1 name room (Some b) many steps said sub is = subst (λ (o : Option (Option Block)). IsFreedBy f k c c1 name room o steps said) (sym (sub b refl)) is
 
 keeps_names : (f : Profile) (k : ℕ) (what : What) (asked : List ℕ) (few names : List Named) (v : View) (c : Cached) (a : Answer)
     → a.names ≡ few → AreAmong few names → OnlyAsked (asked_after what asked) names → IsAnswered f k what (having names v c) (answer_of a.steps a.said names a.cache) → Retold f k what asked names v c a
@@ -69,8 +69,10 @@ retold f limit k (Alloc name heap size align) asked few names v c a among only f
       only_asked = λ n is. asked_more (name == n) block (standing_for names n) (is_asked asked n) (only n) is;
       same_names = λ n other. ap (λ (t : Bool). if t then Some block else standing_for names n) (ne_eqb name n other);
     }
-retold f limit k (Free name) asked few names v c a among only fit answered = keeps_names f k (Free name) asked few names v c a answered.1 among only (freed_same f k c a.cache name (standing_for few name) (standing_for names name) a.steps a.said (among name) answered.0, refl)
+retold f limit k (Free name) asked few names v c a among only fit answered = keeps_names f k (Free name) asked few names v c a answered.1 among only (freed_same f k c a.cache name None (standing_for few name) (standing_for names name) a.steps a.said (among name) answered.0, refl)
+retold f limit k (FreeSized name room) asked few names v c a among only fit answered = keeps_names f k (FreeSized name room) asked few names v c a answered.1 among only (freed_same f k c a.cache name (Some room) (standing_for few name) (standing_for names name) a.steps a.said (among name) answered.0, refl)
 retold f limit k (Raw block) asked few names v c a among only fit answered = keeps_names f k (Raw block) asked few names v c a answered.1 among only (answered.0, refl)
+retold f limit k (RawSized room block) asked few names v c a among only fit answered = keeps_names f k (RawSized room block) asked few names v c a answered.1 among only (answered.0, refl)
 retold f limit k Flush asked few names v c a among only fit answered = keeps_names f k Flush asked few names v c a answered.2 among only (answered.0, answered.1, refl)
 retold f limit k Stop asked few names v c a among only fit answered = keeps_names f k Stop asked few names v c a answered.2 among only (answered.0, answered.1, refl)
 retold f limit k what asked few names v c a among only fit answered = absurd answered

@@ -1,18 +1,35 @@
+use Rattle.std.proofs.Common.{refl}
+use Rattle.pas_trace.specs.declared.plan.Task.TheVariants as Task
 use Rattle.pas_cache.specs.Caches.{cached}
-use Rattle.pas_answers.proofs.Frees.{performs_free, performs_skip, performs_raw, performs_flush, performs_stop}
+use Rattle.pas_answers.proofs.Frees.{can_log, fits_task, performs_free, performs_skip, performs_raw, performs_flush, performs_stop}
 use Rattle.pas_answers.proofs.answering.perform.Goals as goal
 
 pub free-requires-clause-turn : goal.free-requires-clause-turn
 free-requires-clause-turn g c = (c.requires.stands c.in-Some.block c.in-Some.is).turn
 
+pub free-requires-clause-room : goal.free-requires-clause-room
+free-requires-clause-room g c = (fits_task (Task.Free c.in-Free.name c.in-Free.room) c.in-Free.is c.requires.fit.2).1
+
+pub free-requires-clause-can : goal.free-requires-clause-can
+free-requires-clause-can g c = can_log (cached c.args.cache.now) (Task.Free c.in-Free.name c.in-Free.room) c.in-Some.block.name (g.D.Desk.spare_of c.args.desk.now) c.in-Free.is refl c.requires.can
+
+pub free-in-FreeRaw-requires-clause-turn : goal.free-in-FreeRaw-requires-clause-turn
+free-in-FreeRaw-requires-clause-turn g c = (fits_task (Task.FreeRaw c.in-FreeRaw.block c.in-FreeRaw.room) c.in-FreeRaw.is c.requires.fit.2).0
+
+pub free-in-FreeRaw-requires-clause-room : goal.free-in-FreeRaw-requires-clause-room
+free-in-FreeRaw-requires-clause-room g c = (fits_task (Task.FreeRaw c.in-FreeRaw.block c.in-FreeRaw.room) c.in-FreeRaw.is c.requires.fit.2).1
+
+pub free-in-FreeRaw-requires-clause-can : goal.free-in-FreeRaw-requires-clause-can
+free-in-FreeRaw-requires-clause-can g c = can_log (cached c.args.cache.now) (Task.FreeRaw c.in-FreeRaw.block c.in-FreeRaw.room) c.in-FreeRaw.block (g.D.Desk.spare_of c.args.desk.now) c.in-FreeRaw.is refl c.requires.can
+
 pub returns-in-Some-clause-performs : goal.returns-in-Some-clause-performs
-returns-in-Some-clause-performs g c = performs_free c.args.task c.args.meant (cached c.args.cache.now) (cached c.free.new.cache) c.in-Free.name c.in-Some.block c.in-Free.is c.in-Some.is c.free.ensures.frees
+returns-in-Some-clause-performs g c = performs_free c.args.task c.args.meant (cached c.args.cache.now) (cached c.free.new.cache) c.in-Free.name c.in-Free.room c.in-Some.block c.in-Free.is c.in-Some.is c.free.ensures.frees
 
 pub returns-in-None-clause-performs : goal.returns-in-None-clause-performs
-returns-in-None-clause-performs g c = performs_skip c.args.task c.args.meant (cached c.args.cache.now) c.in-Free.name c.in-Free.is c.in-None.is
+returns-in-None-clause-performs g c = performs_skip c.args.task c.args.meant (cached c.args.cache.now) c.in-Free.name c.in-Free.room c.in-Free.is c.in-None.is
 
 pub returns-in-FreeRaw-clause-performs : goal.returns-in-FreeRaw-clause-performs
-returns-in-FreeRaw-clause-performs g c = performs_raw c.args.task c.args.meant (cached c.args.cache.now) (cached c.free-in-FreeRaw.new.cache) c.in-FreeRaw.block c.in-FreeRaw.is c.free-in-FreeRaw.ensures.frees
+returns-in-FreeRaw-clause-performs g c = performs_raw c.args.task c.args.meant (cached c.args.cache.now) (cached c.free-in-FreeRaw.new.cache) c.in-FreeRaw.block c.in-FreeRaw.room c.in-FreeRaw.is c.free-in-FreeRaw.ensures.frees
 
 pub returns-in-Flush-clause-performs : goal.returns-in-Flush-clause-performs
 returns-in-Flush-clause-performs g c = performs_flush c.args.task c.args.meant (cached c.args.cache.now) (cached c.flush.new.self) c.in-Flush.is c.flush.ensures.flushes
