@@ -72,8 +72,8 @@ can_log {σ} {task} c task' block spare is one can =
     let cost = ap cost_of_work (task_of task) ∙ ap cost_of_task is ∙ one in
     record { view = can.view; whole = can.whole; stood = can.stood; met = let room = can.met.room in record { rest = can.met.rest; room = omega (arith, room, cost) } }
 
-pub fits_task : {f : Profile} {limit : ℕ} {asked : List ℕ} {task : Task} (task' : Task) → task ≡ task' → IsFitWhat f limit asked (what_of task) → IsFitTask f limit asked task'
-fits_task {f} {limit} {asked} {task} task' is fit = subst (λ (w : Work). IsFitWork f limit asked w) (task_of task ∙ ap (λ (t : Task). Work.Own t) is) fit
+pub fits_task : (f : Profile) (limit : ℕ) (asked : List ℕ) {task : Task} (task' : Task) → task ≡ task' → IsFitWhat f limit asked (what_of task) → IsFitTask f limit asked task'
+fits_task f limit asked {task} task' is fit = subst (λ (w : Work). IsFitWork f limit asked w) (task_of task ∙ ap (λ (t : Task). Work.Own t) is) fit
 
 -- ---- a free by a name of the trace
 -- a name that was asked for stands for what is meant

@@ -132,10 +132,14 @@ abbrev pub said_of_fault : Name → FreeFault → Said
 said_of_fault name Outside = Said.Outside name
 said_of_fault name Unaligned = Said.Unaligned name
 
+-- the room that an entry notes of a free that names this one, or none
+abbrev pub room_noted : Option ℕ → ℕ
+room_noted None = 0
+room_noted (Some room) = room
+
 -- the entry of a name, with the room that its free names, if any
 abbrev pub entry_with : Name → Option ℕ → Entry
-entry_with name None = entry_of name
-entry_with name (Some room) = sized_entry name room
+entry_with name room = sized_entry name (room_noted room)
 
 -- the entry is logged, after a full log was emptied; or its name can't be any block's, which is said
 abbrev pub IsFreed : Profile → ℕ → Cached → Cached → Entry → List Made → Option Said → Type 0

@@ -8,19 +8,19 @@ pub free-requires-clause-turn : goal.free-requires-clause-turn
 free-requires-clause-turn g c = (c.requires.stands c.in-Some.block c.in-Some.is).turn
 
 pub free-requires-clause-room : goal.free-requires-clause-room
-free-requires-clause-room g c = (fits_task (Task.Free c.in-Free.name c.in-Free.room) c.in-Free.is c.requires.fit.2).1
+free-requires-clause-room g c = (fits_task (g.D.Desk.standing c.args.desk.now).seat.profile c.requires.fit.0 c.requires.fit.1 (Task.Free c.in-Free.name c.in-Free.room) c.in-Free.is c.requires.fit.2).1
 
 pub free-requires-clause-can : goal.free-requires-clause-can
 free-requires-clause-can g c = can_log (cached c.args.cache.now) (Task.Free c.in-Free.name c.in-Free.room) c.in-Some.block.name (g.D.Desk.spare_of c.args.desk.now) c.in-Free.is refl c.requires.can
 
-pub free-in-FreeRaw-requires-clause-turn : goal.free-in-FreeRaw-requires-clause-turn
-free-in-FreeRaw-requires-clause-turn g c = (fits_task (Task.FreeRaw c.in-FreeRaw.block c.in-FreeRaw.room) c.in-FreeRaw.is c.requires.fit.2).0
+pub free-requires-in-FreeRaw-clause-turn : goal.free-requires-in-FreeRaw-clause-turn
+free-requires-in-FreeRaw-clause-turn g c = (fits_task (g.D.Desk.standing c.args.desk.now).seat.profile c.requires.fit.0 c.requires.fit.1 (Task.FreeRaw c.in-FreeRaw.block c.in-FreeRaw.room) c.in-FreeRaw.is c.requires.fit.2).0
 
-pub free-in-FreeRaw-requires-clause-room : goal.free-in-FreeRaw-requires-clause-room
-free-in-FreeRaw-requires-clause-room g c = (fits_task (Task.FreeRaw c.in-FreeRaw.block c.in-FreeRaw.room) c.in-FreeRaw.is c.requires.fit.2).1
+pub free-requires-in-FreeRaw-clause-room : goal.free-requires-in-FreeRaw-clause-room
+free-requires-in-FreeRaw-clause-room g c = (fits_task (g.D.Desk.standing c.args.desk.now).seat.profile c.requires.fit.0 c.requires.fit.1 (Task.FreeRaw c.in-FreeRaw.block c.in-FreeRaw.room) c.in-FreeRaw.is c.requires.fit.2).1
 
-pub free-in-FreeRaw-requires-clause-can : goal.free-in-FreeRaw-requires-clause-can
-free-in-FreeRaw-requires-clause-can g c = can_log (cached c.args.cache.now) (Task.FreeRaw c.in-FreeRaw.block c.in-FreeRaw.room) c.in-FreeRaw.block (g.D.Desk.spare_of c.args.desk.now) c.in-FreeRaw.is refl c.requires.can
+pub free-requires-in-FreeRaw-clause-can : goal.free-requires-in-FreeRaw-clause-can
+free-requires-in-FreeRaw-clause-can g c = can_log (cached c.args.cache.now) (Task.FreeRaw c.in-FreeRaw.block c.in-FreeRaw.room) c.in-FreeRaw.block (g.D.Desk.spare_of c.args.desk.now) c.in-FreeRaw.is refl c.requires.can
 
 pub returns-in-Some-clause-performs : goal.returns-in-Some-clause-performs
 returns-in-Some-clause-performs g c = performs_free c.args.task c.args.meant (cached c.args.cache.now) (cached c.free.new.cache) c.in-Free.name c.in-Free.room c.in-Some.block c.in-Free.is c.in-Some.is c.free.ensures.frees
