@@ -1,5 +1,5 @@
 -- What each actor's turn needs and leaves: instances of the turn.
-use Rattle.std.proofs.Common.{◌≡◌, ◌≢◌, ℕ, ◌-◌, ◌≤◌, ◌==◌, Bool, if◌then◌else◌, List, [], ◌∷◌, ◌++◌, length, set, get_or, Option, refl, ap, sym, ◌∙◌, subst, arith}
+use Rattle.std.proofs.Common.{◌≡◌, ◌≢◌, ℕ, ◌-◌, ◌≤◌, ◌==◌, Bool, true, false, if◌then◌else◌, List, [], ◌∷◌, ◌++◌, length, set, get_or, Option, refl, ap, sym, ◌∙◌, subst, arith}
 use Rattle.std.proofs.lemmas.Bool.{eq-eqb, ne_eqb}
 use Rattle.std.proofs.lemmas.List.{append-nil}
 use Rattle.pas_profile.specs.declared.name.Block.{Block}
@@ -45,6 +45,11 @@ act_turn {r} {more} {act} {caches = caches} {table = table} {p = p} k there cach
     let names = at.names in
     thread_turn k cache some within seat (there_is p.caches caches k there some within at.caches_are is) (omega (arith, none)) (λ j ne. let own = free j in omega (arith, own)) at did
     (subst (λ (ns : List Named). HasNames r.profile more table ns) (sym did.names) record { asked = names.asked; fit = fit (names_held table) names.asked names.fit; tells = names.tells; stand = names.stand; known = names.known }) at.operate.1 few added room
+
+-- what a name stands for once another or itself was set
+pub set_stands : (f : Profile) (t : Bool) (came old new : Option Block) → new ≡ (if t then came else old) → MayStand f came → MayStand f old → MayStand f new
+set_stands f true came old new is now before = subst (MayStand f) (sym is) now
+set_stands f false came old new is now before = subst (MayStand f) (sym is) before
 
 -- ---- an operation of thread k, which asks for `what`
 pub may_operate : {r : Replay} {more : List Act} {op : Op} {what : What} {desk desk1 : PlainDesk} {passes passes1 : Slots} {caches : List ThreadCache} {places : ℕ} {table : Names} {out : Records} {p : Progress} {meant : Option Block} (k : ℕ) (there : ThreadCache) → op.actor ≡ k → op.what ≡ what → 1 ≤ k → k ≤ length caches
