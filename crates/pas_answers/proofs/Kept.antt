@@ -3,12 +3,13 @@ use Rattle.std.proofs.Common.{◌≡◌, ℕ, List, Option, Some, None, refl, ap
 use Rattle.pas_profile.specs.declared.name.Block.{Block}
 use Rattle.pas_profile.specs.declared.profile.Profile.{Profile}
 use Rattle.pas_trace.specs.declared.plan.What.{What}
-use Rattle.pas_trace.specs.Asked.{work_of}
+use Rattle.std.specs.Prelude.{option_and_then}
+use Rattle.pas_trace.specs.Asked.{work_of, of_task, request_of, freed_of}
 use Rattle.pas_trace.specs.declared.plan.What.TheVariants.{Alloc, Free, FreeSized, Raw, RawSized, Flush, Stop}
 use Rattle.pas_trace.specs.declared.plan.Task.{Task}
 use Rattle.pas_trace.specs.declared.plan.Work.{Work}
 use Rattle.pas_answers.specs.Answers.{Named, standing_for}
-use Rattle.pas_answers.specs.Calls.{what_of, MayStand, block_behind, IsMeant, freed_by}
+use Rattle.pas_answers.specs.Calls.{what_of, MayStand, block_behind, IsMeant, named_with, named_by, freed_by}
 
 -- it is the one that asks its thread for this
 same_own : {a b : Task} → Work.Own a ≡ Work.Own b → a ≡ b
@@ -32,6 +33,13 @@ task_of (Task.FreeRaw block None) = refl
 task_of (Task.FreeRaw block (Some room)) = refl
 task_of Task.Flush = refl
 task_of Task.Stop = refl
+
+-- the name that is freed, and the one that is asked for, by the task
+pub freed_task : (block : ℕ → Option Block) (task : Task) → option_and_then block (freed_of task) ≡ freed_by block (what_of task)
+freed_task block task = ap (λ (w : Work). option_and_then block (of_task freed_of w)) (sym (task_of task))
+
+pub named_task : (task : Task) (came : Option Block) → named_with (request_of task) came ≡ named_by (what_of task) came
+named_task task came = ap (λ (w : Work). named_with (of_task request_of w) came) (sym (task_of task))
 
 -- what is said of each name is said of the freed one
 pub meant_by : (block : ℕ → Option Block) (names : List Named) (what : What) → ((n : ℕ) → block n ≡ block_behind (standing_for names n)) → IsMeant names what (freed_by block what)

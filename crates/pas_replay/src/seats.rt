@@ -1,14 +1,15 @@
 //! The actors' places at the region. One sits at the desk at a time.
-ghost use Rattle.std.specs.Prelude.{◌≡◌, ◌≢◌, ◌<◌, ◌-◌, ◌≤◌, ◌++◌, ℕ, List, [], ◌∷◌, length, slice_set};
+ghost use Rattle.std.specs.Prelude.{◌≡◌, ◌≢◌, ◌<◌, ◌-◌, ◌≤◌, ◌++◌, ℕ, List, [], ◌∷◌, length, option_and_then, slice_set};
 ghost use Rattle.pas_profile.specs.declared.profile.Profile.{Profile as TheProfile};
 ghost use Rattle.pas_plain.specs.Plain.{actor_of};
 ghost use Rattle.pas_plain.specs.Seats.{pass_of};
 ghost use Rattle.pas_cache.specs.Caches.{cached};
 ghost use Rattle.pas_cache.specs.declared.cache.ThreadCache.{ThreadCache as TheCache};
 ghost use Rattle.pas_report.specs.Rooms.{Records as TheRecords};
+ghost use Rattle.pas_trace.specs.Asked.{request_of, freed_of};
 ghost use Rattle.pas_trace.specs.Acts.{Act, Operates, Settles, Ticks, MakesPass, ReadsEpoch, StopsIdle, Wakes, Ends};
 ghost use Rattle.pas_answers.specs.Answers.{Named};
-ghost use Rattle.pas_answers.specs.Calls.{what_of, Tells, MayStand, AllMayStand, freed_by, named_by};
+ghost use Rattle.pas_answers.specs.Calls.{what_of, Tells, MayStand, AllMayStand, named_with};
 ghost use Rattle.pas_trace.specs.declared.plan.Op.{Op as TheOp};
 ghost use Rattle.pas_answers.specs.Fit.{IsFitWhat};
 ghost use Rattle.pas_answers.specs.Names.{block_named, names_held};
@@ -92,7 +93,7 @@ fn change_seats(desk: &mut PlainDesk, passes: &mut Vec<Option<PlainPass>>, actor
 /// What the name that the task frees stands for.
 #[inline(always)]
 fn freed(names: &Names, task: Task) -> Option<Block>
-    ensures { result ≡ freed_by (block_named names.now) (what_of task) }
+    ensures { result ≡ option_and_then (block_named names.now) (freed_of task) }
 {
     match task {
         Task::Free { name, .. } => names.get(name),
@@ -104,7 +105,7 @@ fn freed(names: &Names, task: Task) -> Option<Block>
 #[inline(always)]
 fn keep(names: &mut Names, task: Task, came: Option<Block>)
     requires fit { (f : TheProfile) × (asked : List ℕ) × IsFitWhat f (names_held names.old) asked (what_of task) }
-    ensures tells { (known : List Named) → Tells names.old known → Tells names.new (named_by (what_of task) came ++ known) }
+    ensures tells { (known : List Named) → Tells names.old known → Tells names.new (named_with (request_of task) came ++ known) }
     ensures stand { (f : TheProfile) → AllMayStand f names.old → MayStand f came → AllMayStand f names.new }
     ensures held { names_held names.new ≡ names_held names.old }
 {
