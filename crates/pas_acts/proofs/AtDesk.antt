@@ -23,6 +23,9 @@ use Rattle.pas_report.specs.declared.record.Record.{Record}
 use Rattle.pas_report.specs.declared.record.Said.{Said}
 use Rattle.pas_cache.specs.Caches.{Cached, AtRest}
 use Rattle.pas_cache.specs.Calls.{Begins}
+use Rattle.pas_profile.specs.declared.event.Range.{Range}
+use Rattle.pas_cache.specs.Calls.{SettlesEach}
+use Rattle.pas_answers.specs.Indexes.{IsNamedFor}
 use Rattle.pas_trace.specs.Acts.{Act, Operates, Settles, StopsIdle, Wakes, Ends}
 use Rattle.pas_answers.specs.Answers.{having, Answer, answer_of, Progress, begun, settled, stopped, epoch_look, after_answer, after_settling, after_wake, after_stop, IsAnswered, IsStopped, records_of, said_by}
 use Rattle.pas_answers.specs.Calls.{named_by, owed_events, MayAnswer, AnswersMeant}
@@ -33,7 +36,7 @@ use Rattle.pas_answers.proofs.OwnRecords.{piece_of, events_of_piece}
 use Rattle.pas_answers.proofs.SingleActs.{its_cache, other_cache, if_same, records_count}
 use Rattle.pas_acts.specs.Works.{Later, Sits}
 use Rattle.pas_acts.specs.Turns.{RestsAt, Moves, LeavesRest}
-use Rattle.pas_acts.specs.AtDesks.{Here, here, MayOperate, ThreadActs}
+use Rattle.pas_acts.specs.AtDesks.{Here, here, MayOperate, ThreadActs, GoesThrough}
 use Rattle.pas_acts.proofs.Alone.{of_seat, rests_after}
 
 -- ---- with less room
@@ -82,7 +85,7 @@ module _ {f : Profile} {k : ℕ} {what : What} {meant came : Option Block} {σ �
   was_at_rest = subst (λ (g : Profile). AtRest g c v) (sym may.rests.sits.profile) may.rests.sits.rest
 
   abbrev pub the_answer : Answer
-  the_answer = answer_of steps did.said (named_by what came ++ p.names) c1
+  the_answer = answer_of steps did.said did.performs.found (named_by what came ++ p.names) c1
 
   is_answered : IsAnswered f k what (having p.names v c) the_answer
   is_answered = of_seat may.rests.sits (λ (j : ℕ) (g : Profile). IsAnswered g j what (having p.names v c) the_answer) (did.performs.answered v may.rests.sits.beside may.rests.sits.stood was_at_rest p.names may.means may.known)
@@ -130,34 +133,45 @@ settled_rest {f} {c} {c'} w is rest = subst (λ (d : Cached). AtRest f d w) (sym
 pub own_cost : (op : Op) → (if op.actor == op.actor then cost_of_what op.what else 0) ≡ cost_of_what op.what
 own_cost op = if_same (op.actor == op.actor) (cost_of_what op.what) (eq-eqb op.actor op.actor refl)
 
-pub has_operated : {f : Profile} {op : Op} {what : What} {meant came : Option Block} {σ σ' : Standing} {c c1 c' : Cached} {out out' : Records} {later : Later} {p : Progress} → op.what ≡ what → MayOperate f op.actor op.what meant (here σ c out) later p
-    → AnswersMeant what meant came c c1 out out' σ σ' → c' ≡ settled c1 → ThreadActs f op.actor (Operates op ∷ (Settles op.actor ∷ [])) (named_by op.what came) [] (here σ c out) (here σ' c' out') later p
-has_operated {f} {op} {what} {meant} {came} {σ} {σ'} {c} {c1} {c'} {out} {out'} {later} {p} asks may answers is =
-    let k = op.actor in
-    let did : AnswersMeant op.what meant came c c1 out out' σ σ' = subst (λ (w : What). AnswersMeant w meant came c c1 out out' σ σ') (sym asks) answers in
-    let a = the_answer may did in
-    let midway = after_answer p k a in
-    let q = after_settling midway k in
-    let calls : Calls σ σ' (AtRest f c) (λ x w. AtRest f c' w) a.steps = call_as (λ x w. AtRest f c' w) (calls_so may did) (λ x met. met) (λ x w met rest. settled_rest w is rest) in
-    let moves : Moves k (AtRest f c) (AtRest f c') σ σ' p q = record { steps = a.steps; list_is = refl; calls = calls } in
-    let log = ap (λ (d : Cached). length d.log) is in
-    let cost = own_cost op in
-    let paid = paid_so may did c' log in
-    record {
-      reached = q;
-      reaches = (midway, (a, answered may did, refl), (q, refl, refl));
-      stands = rests_again may did moves refl log (its_cache midway.caches k (settled (midway.caches k)) ∙ ap settled (its_cache p.caches k c1) ∙ sym is);
-      moves = moves;
-      own = piece may did;
-      records_are = ap (λ (rs : List Record). p.records ++ rs) (sym (append-nil (piece may did)));
-      pushed = pushed_so may did;
-      room = did.room;
-      each = piece_of k (part k p.list) a.steps did.said;
-      caches = λ j ne. other_cache midway.caches k j (settled (midway.caches k)) ne ∙ other_cache p.caches k j c1 ne;
-      names = refl;
-      epoch = refl;
-      paid = omega (arith, cost, paid);
-    }
+-- a door was asked by it, and handed what the cache noted
+module _ {Door : Type 0} (Answers : Door → Door → ℕ → ℕ → Option ℕ → Type 0) (HandsOn : Door → Door → ℕ → Range → Type 0) (door next door' : Door) where
+  -- the operation was answered, with the run that the door named
+  abbrev pub AnswersAsking : What → Option Block → Option Block → Cached → Cached → Records → Records → Standing → Standing → Type 0
+  AnswersAsking what meant came c c1 out out' σ σ' = (did : AnswersMeant what meant came c c1 out out' σ σ') × IsNamedFor σ.seat.profile (Answers door next) (next ≡ door) what did.performs.found
+
+  pub has_operated : {f : Profile} {op : Op} {what : What} {meant came : Option Block} {σ σ' : Standing} {c c1 c' : Cached} {out out' : Records} {later : Later} {p : Progress} → op.what ≡ what → MayOperate f op.actor op.what meant (here σ c out) later p
+      → AnswersAsking what meant came c c1 out out' σ σ' → c' ≡ settled c1 → SettlesEach HandsOn c1.noted next door'
+      → (did : ThreadActs f op.actor (Operates op ∷ (Settles op.actor ∷ [])) (named_by op.what came) [] (here σ c out) (here σ' c' out') later p) × GoesThrough Answers HandsOn f op p did.reached did.reaches door door'
+  has_operated {f} {op} {what} {meant} {came} {σ} {σ'} {c} {c1} {c'} {out} {out'} {later} {p} asks may answers is handed =
+      let k = op.actor in
+      let both : AnswersAsking op.what meant came c c1 out out' σ σ' = subst (λ (w : What). AnswersAsking w meant came c c1 out out' σ σ') (sym asks) answers in
+      let did : AnswersMeant op.what meant came c c1 out out' σ σ' = both.0 in
+      let named = subst (λ (g : Profile). IsNamedFor g (Answers door next) (next ≡ door) op.what did.performs.found) may.rests.sits.profile both.1 in
+      let a = the_answer may did in
+      let midway = after_answer p k a in
+      let q = after_settling midway k in
+      let calls : Calls σ σ' (AtRest f c) (λ x w. AtRest f c' w) a.steps = call_as (λ x w. AtRest f c' w) (calls_so may did) (λ x met. met) (λ x w met rest. settled_rest w is rest) in
+      let moves : Moves k (AtRest f c) (AtRest f c') σ σ' p q = record { steps = a.steps; list_is = refl; calls = calls } in
+      let log = ap (λ (d : Cached). length d.log) is in
+      let cost = own_cost op in
+      let paid = paid_so may did c' log in (
+      record {
+        reached = q;
+        reaches = (midway, (a, answered may did, refl), (q, refl, refl));
+        stands = rests_again may did moves refl log (its_cache midway.caches k (settled (midway.caches k)) ∙ ap settled (its_cache p.caches k c1) ∙ sym is);
+        moves = moves;
+        own = piece may did;
+        records_are = ap (λ (rs : List Record). p.records ++ rs) (sym (append-nil (piece may did)));
+        pushed = pushed_so may did;
+        room = did.room;
+        each = piece_of k (part k p.list) a.steps did.said;
+        caches = λ j ne. other_cache midway.caches k j (settled (midway.caches k)) ne ∙ other_cache p.caches k j c1 ne;
+        names = refl;
+        epoch = refl;
+        paid = omega (arith, cost, paid);
+      },
+      (next, named, subst (λ (d : Cached). SettlesEach HandsOn d.noted next door') (sym (its_cache p.caches k c1)) handed),
+      )
 
 -- ---- a thread is stopped
 pub may_stop : {f : Profile} {k : ℕ} {σ : Standing} {c : Cached} {out : Records} {later : Later} {p : Progress} → RestsAt f k σ c out later p → MayOperate f k Stop None (here σ c out) later p

@@ -10,7 +10,11 @@ use Rattle.pas_trace.specs.declared.plan.What.{What}
 use Rattle.pas_report.specs.Rooms.{records_in, room_of, Records}
 use Rattle.pas_report.specs.declared.record.Record.{Record}
 use Rattle.pas_cache.specs.Caches.{Cached, AtRest}
-use Rattle.pas_trace.specs.Acts.{Act}
+use Rattle.pas_profile.specs.declared.event.Range.{Range}
+use Rattle.pas_cache.specs.Calls.{SettlesEach}
+use Rattle.pas_trace.specs.declared.plan.Op.{Op}
+use Rattle.pas_trace.specs.Acts.{Act, Operates, Settles}
+use Rattle.pas_answers.specs.Indexes.{IsNamedFor}
 use Rattle.pas_answers.specs.Answers.{Named, Progress, stopped}
 use Rattle.pas_answers.specs.Calls.{MayStand, IsKnown, IsMeant, owed_events}
 use Rattle.pas_answers.specs.Fit.{IsFitWhat, cost_of_what, cost_of_act, own_costs_of, unbacks_of_act}
@@ -60,6 +64,12 @@ pub record ThreadActs (f : Profile) (k : ℕ) (acts : List Act) (came : List Nam
   pub names : reached.names ≡ came ++ p.names
   pub epoch : reached.epoch ≡ p.epoch
   pub paid : length own + owed_events f new.cache (part k reached.list) ≤ own_costs_of k acts + owed_events f old.cache (part k p.list)
+
+-- ---- the door
+-- What became of a door by the two acts of an operation: it was asked for a run where that is a request for whole pages, and then handed the runs that the
+-- cache noted.
+abbrev pub GoesThrough : {Door : Type 0} → (Door → Door → ℕ → ℕ → Option ℕ → Type 0) → (Door → Door → ℕ → Range → Type 0) → (f : Profile) (op : Op) (p q : Progress) → Reaches f (Operates op ∷ (Settles op.actor ∷ [])) p q → Door → Door → Type 0
+GoesThrough {Door} Answers HandsOn f op p q is door door' = (next : Door) × IsNamedFor f (Answers door next) (next ≡ door) op.what is.1.0.found × SettlesEach HandsOn (is.0.caches op.actor).noted next door'
 
 -- what is to be said of an idle thread, where it was stopped
 abbrev pub told_if : Bool → ℕ → List Record

@@ -10,11 +10,11 @@ ghost use Rattle.pas_answers.specs.Calls.{what_of, MayStand, named_by};
 ghost use Rattle.pas_trace.specs.declared.plan.Op.{Op as TheOp};
 ghost use Rattle.pas_acts.specs.Works.{Later};
 ghost use Rattle.pas_acts.specs.Turns.{RestsAt};
-ghost use Rattle.pas_acts.specs.AtDesks.{here, told_if, MayOperate, ThreadActs, for_act, HasRoomAt, ScavengerActs};
+ghost use Rattle.pas_acts.specs.AtDesks.{here, told_if, MayOperate, GoesThrough, ThreadActs, for_act, HasRoomAt, ScavengerActs};
 
 use pas_answers::{answer_meant, is_idle_for};
 use pas_cache::ThreadCache;
-use pas_large::NoIndex;
+use pas_large::{Door, NoIndex};
 use pas_profile::{Block, Word};
 use pas_report::Records;
 use pas_steps::Desk;
@@ -24,12 +24,13 @@ use pas_utility::Outcomes;
 /// The scavenger's number.
 pub const SCAVENGER: u8 = 0;
 
-/// Does a task of the desk's thread, and hands on the runs of large blocks that its cache noted. `meant` is the block that the freed name of a
+/// Does a task of the desk's thread, for which a request for whole pages asks the door, and hands it the runs of large blocks that its cache noted. `meant` is the block that the freed name of a
 /// `Task::Free` stands for, if any, and the result the block that the asked name of a `Task::Request` stands for from then on; None for every other task.
 /// This answers each operation of the thread that asks for the task.
 #[inline(always)]
-pub fn operate<D: Desk>(
+pub fn operate<D: Desk, O: Door>(
     desk: &mut D,
+    door: &mut O,
     cache: &mut ThreadCache,
     task: Task,
     meant: Option<Block>,
@@ -37,12 +38,13 @@ pub fn operate<D: Desk>(
 ) -> Option<Block>
     requires stands { (f : TheProfile) × (op : TheOp) × (later : Later) × (p : Progress) × (op.what ≡ what_of task) × MayOperate f op.actor op.what meant (here (D.standing desk.old) (cached cache.old) out.old) later p }
     ensures operates { (f : TheProfile) (op : TheOp) (later : Later) (p : Progress) → op.what ≡ what_of task → MayOperate f op.actor op.what meant (here (D.standing desk.old) (cached cache.old) out.old) later p
-        → ThreadActs f op.actor (Operates op ∷ (Settles op.actor ∷ [])) (named_by op.what result) [] (here (D.standing desk.old) (cached cache.old) out.old) (here (D.standing desk.new) (cached cache.new) out.new) later p }
+        → (did : ThreadActs f op.actor (Operates op ∷ (Settles op.actor ∷ [])) (named_by op.what result) [] (here (D.standing desk.old) (cached cache.old) out.old) (here (D.standing desk.new) (cached cache.new) out.new) later p)
+        × GoesThrough O.answers O.settles f op p did.reached did.reaches door.old door.new }
     ensures stands { MayStand (D.standing desk.old).seat.profile result }
     ensures home { D.home desk.new ≡ D.home desk.old }
 {
-    let came = answer_meant(desk, cache, task, meant, out);
-    cache.settle(&mut NoIndex);
+    let came = answer_meant(desk, door, cache, task, meant, out);
+    cache.settle(door);
     came
 }
 
@@ -61,7 +63,7 @@ pub fn stop_if_idle<D: Desk>(
     ensures home { D.home desk.new ≡ D.home desk.old }
 {
     if is_idle_for(cache, epochs, epoch) {
-        answer_meant(desk, cache, Task::Stop, None, out);
+        answer_meant(desk, &mut NoIndex, cache, Task::Stop, None, out);
         true
     } else {
         false

@@ -13,6 +13,7 @@ use crate::at_desk;
 use crate::gate::Gate;
 use crate::names::{NameBook, Request, Requests};
 use pas_cache::ThreadCache;
+use pas_large::Door;
 use pas_profile::Block;
 use pas_report::Records;
 use pas_steps::Desk;
@@ -44,8 +45,9 @@ fn keep(requests: &mut Requests, task: Task, came: Option<Block>)
 }
 
 /// Performs an operation of the desk's thread, of which none is a chore. Its name is looked up and kept in book and requests.
-fn operate<D: Desk>(
+fn operate<D: Desk, O: Door>(
     desk: &mut D,
+    door: &mut O,
     book: &NameBook,
     cache: &mut ThreadCache,
     requests: &mut Requests,
@@ -59,14 +61,15 @@ fn operate<D: Desk>(
 {
     if let Work::Own(task) = op.work() {
         let meant = freed(book, requests, task);
-        let came = at_desk::operate(desk, cache, task, meant, out);
+        let came = at_desk::operate(desk, door, cache, task, meant, out);
         keep(requests, task, came);
     }
 }
 
 /// Performs the operations of the desk's thread among those of a phase, in order, with the gate called round each.
-pub fn work<D: Desk, G: Gate>(
+pub fn work<D: Desk, O: Door, G: Gate>(
     desk: &mut D,
+    door: &mut O,
     book: &NameBook,
     cache: &mut ThreadCache,
     requests: &mut Requests,
@@ -88,7 +91,7 @@ pub fn work<D: Desk, G: Gate>(
         if op.actor == actor {
             number += 1;
             gate.before(actor, number);
-            operate(desk, book, cache, requests, *op, out);
+            operate(desk, door, book, cache, requests, *op, out);
             gate.after(actor, number);
         }
     }

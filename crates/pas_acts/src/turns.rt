@@ -11,6 +11,7 @@ ghost use Rattle.pas_acts.specs.AtDesks.{here, ThreadActs};
 
 use pas_answers::answer_meant;
 use pas_cache::ThreadCache;
+use pas_large::NoIndex;
 use pas_report::Records;
 use pas_steps::Desk;
 use pas_trace::Task;
@@ -33,5 +34,5 @@ pub fn end<D: Desk>(desk: &mut D, cache: &mut ThreadCache, out: &mut Records)
     ensures empty { (cached cache.new).locals ≡ [] }
     ensures home { D.home desk.new ≡ D.home desk.old }
 {
-    answer_meant(desk, cache, Task::Stop, None, out);
+    answer_meant(desk, &mut NoIndex, cache, Task::Stop, None, out);
 }

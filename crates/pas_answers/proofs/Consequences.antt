@@ -29,6 +29,7 @@ use Rattle.pas_passes.specs.Records.{records_of_pass}
 use Rattle.pas_trace.specs.Acts.{Act, Operates, Settles, Ticks, MakesPass, ReadsEpoch, StopsIdle, MarksPhase, Wakes, MarksClose, Ends, acts_of}
 use Rattle.pas_answers.specs.Answers.{Progress, having, records_of, said_by, stopped, epoch_look, IsStopped, after_stop}
 use Rattle.pas_answers.specs.Reaching.{Advances, Reaches}
+use Rattle.pas_answers.specs.Indexes.{GoByIndexes}
 use Rattle.pas_answers.specs.Refusals.{AreRefusalsTrue}
 use Rattle.pas_answers.specs.Replays.{at_start, phases_of, IsReplay, region_of, threads_of}
 use Rattle.pas_answers.specs.Ways.{Way, IsOneOrder, arranged}
@@ -147,8 +148,8 @@ can_be_shown {way} {plan} {whole} {records} is =
 
 pub replays : (way : Way) (plan : Plan) (reached : Progress) (whole : Whole) (records : List Record) → IsValid (region_of plan) → (answers : Reaches (region_of plan) (acts_of (threads_of plan) (phases_of plan)) at_start reached)
     → IsOneOrder way reached.list whole → records ≡ arranged way (region_of plan).threads reached.records → Legal (region_of plan) whole → ((k : ℕ) → HasNothing (part k whole))
-    → AreRefusalsTrue way (region_of plan) (acts_of (threads_of plan) (phases_of plan)) at_start reached answers → IsReplay way plan whole records
-replays way plan reached whole records valid answers one_order records_are legal nothing refusals = record {
+    → AreRefusalsTrue way (region_of plan) (acts_of (threads_of plan) (phases_of plan)) at_start reached answers → GoByIndexes way (region_of plan) (acts_of (threads_of plan) (phases_of plan)) at_start reached answers → IsReplay way plan whole records
+replays way plan reached whole records valid answers one_order records_are legal nothing refusals indexes = record {
   reached = reached;
   answers = answers;
   one_order = one_order;
@@ -160,4 +161,5 @@ replays way plan reached whole records valid answers one_order records_are legal
   stamps = stamps_are way (region_of plan) (acts_of (threads_of plan) (phases_of plan)) reached whole answers one_order legal valid;
   marks = true_marks (region_of plan) whole valid legal nothing;
   refusals = refusals;
+  indexes = indexes;
 }

@@ -13,7 +13,7 @@ use Rattle.pas_steps.specs.Agreement.{Agreed}
 use Rattle.pas_steps.specs.Desks.{Standing, CanCall}
 use Rattle.pas_steps.proofs.Called.{call_none, call_as}
 use Rattle.pas_steps.proofs.Frames.{events_append}
-use Rattle.pas_trace.specs.Asked.{cost_of_task}
+use Rattle.pas_trace.specs.Asked.{request_of, cost_of_task}
 use Rattle.pas_trace.specs.declared.plan.Task.{Task}
 use Rattle.pas_trace.specs.declared.plan.Work.{Work}
 use Rattle.pas_trace.specs.declared.plan.What.TheVariants.{Free, FreeSized, Raw}
@@ -24,6 +24,7 @@ use Rattle.pas_cache.specs.Calls.{TakesEntry, RefusesName, Frees, FlushesLog, St
 use Rattle.pas_answers.specs.Answers.{Named, standing_for, said_of_fault, entry_with, IsFreedBy}
 use Rattle.pas_answers.specs.Calls.{what_of, block_behind, IsMeant, IsKnown, owed_events, MayPerform, PerformsMeant, FreesOne}
 use Rattle.pas_answers.specs.Fit.{IsFitTask, IsFitWork, IsFitWhat, cost_of_work}
+use Rattle.pas_answers.specs.Indexes.{IsNamedFor}
 use Rattle.pas_answers.proofs.Kept.{task_of}
 use Rattle.pas_answers.proofs.OwedEvents.{full_events}
 use Rattle.pas_cache.proofs.Budget.{emptied_events}
@@ -75,6 +76,16 @@ can_log {σ} {task} c task' block spare is one can =
 pub fits_task : (f : Profile) (limit : ℕ) (asked : List ℕ) {task : Task} (task' : Task) → task ≡ task' → IsFitWhat f limit asked (what_of task) → IsFitTask f limit asked task'
 fits_task f limit asked {task} task' is fit = subst (λ (w : Work). IsFitWork f limit asked w) (task_of task ∙ ap (λ (t : Task). Work.Own t) is) fit
 
+-- a task that is no request asks no door
+pub not_asked : (f : Profile) (Answers : ℕ → ℕ → Option ℕ → Type 0) (Same : Type 0) (task : Task) (found : Option ℕ) → request_of task ≡ None → Same → IsNamedFor f Answers Same (what_of task) found
+not_asked f Answers Same (Task.Request name heap size align) found none same = absurd cc
+not_asked f Answers Same (Task.Free name None) found none same = same
+not_asked f Answers Same (Task.Free name (Some room)) found none same = same
+not_asked f Answers Same (Task.FreeRaw block None) found none same = same
+not_asked f Answers Same (Task.FreeRaw block (Some room)) found none same = same
+not_asked f Answers Same Task.Flush found none same = same
+not_asked f Answers Same Task.Stop found none same = same
+
 -- ---- a free by a name of the trace
 -- a name that was asked for stands for what is meant
 behind : (o : Option (Option Block)) (b : Option Block) → o ≡ Some b → block_behind o ≡ b
@@ -88,6 +99,7 @@ freed_by_name : {σ σ' : Standing} {said : Option Said} (meant : Option Block) 
     → PerformsMeant (what_of (Task.Free name room)) meant None c c' σ σ' said
 freed_by_name {σ} {σ'} {said} meant c c' name None block named frees = record {
   steps = frees.steps;
+  found = None;
   calls = frees.calls;
   few = frees.few;
   answered = λ v l stood rest names means known. (subst (λ o. IsFreedBy σ.seat.profile σ.seat.actor c c' name None o frees.steps said) (sym (stands_for names name (Some block) (means ∙ named) known)) frees.freed, refl);
@@ -95,6 +107,7 @@ freed_by_name {σ} {σ'} {said} meant c c' name None block named frees = record 
 }
 freed_by_name {σ} {σ'} {said} meant c c' name (Some room) block named frees = record {
   steps = frees.steps;
+  found = None;
   calls = frees.calls;
   few = frees.few;
   answered = λ v l stood rest names means known. (subst (λ o. IsFreedBy σ.seat.profile σ.seat.actor c c' name (Some room) o frees.steps said) (sym (stands_for names name (Some block) (means ∙ named) known)) frees.freed, refl);
@@ -109,6 +122,7 @@ performs_free {σ} {σ'} {said} task meant c c' name room block is named frees =
 skipped : {σ : Standing} (meant : Option Block) (c : Cached) (name : ℕ) (room : Option ℕ) → meant ≡ None → PerformsMeant (what_of (Task.Free name room)) meant None c c σ σ (Some (Said.Skipped name))
 skipped {σ} meant c name None named = record {
   steps = [];
+  found = None;
   calls = call_none (λ v rest. rest);
   few = λ v rest agreed. omega arith;
   answered = λ v l stood rest names means known. (subst (λ o. IsFreedBy σ.seat.profile σ.seat.actor c c name None o [] (Some (Said.Skipped name))) (sym (stands_for names name None (means ∙ named) known)) (refl, refl, refl), refl);
@@ -116,6 +130,7 @@ skipped {σ} meant c name None named = record {
 }
 skipped {σ} meant c name (Some room) named = record {
   steps = [];
+  found = None;
   calls = call_none (λ v rest. rest);
   few = λ v rest agreed. omega arith;
   answered = λ v l stood rest names means known. (subst (λ o. IsFreedBy σ.seat.profile σ.seat.actor c c name (Some room) o [] (Some (Said.Skipped name))) (sym (stands_for names name None (means ∙ named) known)) (refl, refl, refl), refl);
@@ -129,6 +144,7 @@ performs_skip {σ} task meant c name room is named = subst (λ t. PerformsMeant 
 freed_raw : {σ σ' : Standing} {said : Option Said} (meant : Option Block) (c c' : Cached) (block : Name) (room : Option ℕ) → FreesOne (entry_with block room) c c' σ σ' said → PerformsMeant (what_of (Task.FreeRaw block room)) meant None c c' σ σ' said
 freed_raw meant c c' block None frees = record {
   steps = frees.steps;
+  found = None;
   calls = frees.calls;
   few = frees.few;
   answered = λ v l stood rest names means known. (frees.freed, refl);
@@ -136,6 +152,7 @@ freed_raw meant c c' block None frees = record {
 }
 freed_raw meant c c' block (Some room) frees = record {
   steps = frees.steps;
+  found = None;
   calls = frees.calls;
   few = frees.few;
   answered = λ v l stood rest names means known. (frees.freed, refl);
@@ -149,6 +166,7 @@ performs_raw {σ} {σ'} {said} task meant c c' block room is frees = subst (λ t
 pub performs_flush : {σ σ' : Standing} (task : Task) (meant : Option Block) (c c' : Cached) → task ≡ Task.Flush → FlushesLog c c' σ σ' → PerformsMeant (what_of task) meant None c c' σ σ' None
 performs_flush {σ} {σ'} task meant c c' is flushes = subst (λ t. PerformsMeant (what_of t) meant None c c' σ σ' None) (sym is) record {
   steps = flushes.steps;
+  found = None;
   calls = flushes.calls;
   few = λ v rest agreed.
       let events = emptied_events σ.seat.actor c.log c.noted c'.noted flushes.steps v flushes.empties in
@@ -162,6 +180,7 @@ performs_flush {σ} {σ'} task meant c c' is flushes = subst (λ t. PerformsMean
 pub performs_stop : {σ σ' : Standing} (task : Task) (meant : Option Block) (c c' : Cached) → task ≡ Task.Stop → StopsCache c c' σ σ' → PerformsMeant (what_of task) meant None c c' σ σ' None
 performs_stop {σ} {σ'} task meant c c' is stops = subst (λ t. PerformsMeant (what_of t) meant None c c' σ σ' None) (sym is) record {
   steps = stops.stopped ++ stops.flushed;
+  found = None;
   calls = call_as (λ v w. AtRest σ.seat.profile c' w) stops.calls (λ v rest. rest) (λ v w rest stopped. stopped.0);
   few = λ v rest agreed.
       let events = emptied_events σ.seat.actor c.log c.noted c'.noted stops.flushed v stops.empties in

@@ -20,17 +20,17 @@ one_more false block rest old known is = known is
 same_names : (asked : List ℕ) {names names' : List Named} → names' ≡ names → AreKnown asked names → AreKnown asked names'
 same_names asked same known = subst (λ (ns : List Named). AreKnown asked ns) (sym same) known
 
-pub known_after : (f : Profile) (k : ℕ) (what : What) (asked : List ℕ) (names names' : List Named) (v : View) (c c' : Cached) (steps : List Made) (said : Option Said)
-    → IsAnswered f k what (having names v c) (answer_of steps said names' c') → AreKnown asked names → AreKnown (asked_after what asked) names'
-known_after f k (Alloc name heap size align) asked names names' l c c' steps said answered known = subst (λ (ns : List Named). AreKnown (name ∷ asked) ns) (sym answered.names_are)
+pub known_after : (f : Profile) (k : ℕ) (what : What) (asked : List ℕ) (names names' : List Named) (v : View) (c c' : Cached) (steps : List Made) (said : Option Said) (found : Option ℕ)
+    → IsAnswered f k what (having names v c) (answer_of steps said found names' c') → AreKnown asked names → AreKnown (asked_after what asked) names'
+known_after f k (Alloc name heap size align) asked names names' l c c' steps said found answered known = subst (λ (ns : List Named). AreKnown (name ∷ asked) ns) (sym answered.names_are)
     (λ n is. one_more (name == n) (block_of answered.answer) (standing_for names n) (is_asked asked n) (known n) is)
-known_after f k (Free name) asked names names' l c c' steps said answered known = same_names asked answered.1 known
-known_after f k (FreeSized name room) asked names names' l c c' steps said answered known = same_names asked answered.1 known
-known_after f k (Raw block) asked names names' l c c' steps said answered known = same_names asked answered.1 known
-known_after f k (RawSized room block) asked names names' l c c' steps said answered known = same_names asked answered.1 known
-known_after f k Flush asked names names' l c c' steps said answered known = same_names asked answered.2 known
-known_after f k Stop asked names names' l c c' steps said answered known = same_names asked answered.2 known
-known_after f k what asked names names' l c c' steps said answered known = absurd answered
+known_after f k (Free name) asked names names' l c c' steps said found answered known = same_names asked answered.1 known
+known_after f k (FreeSized name room) asked names names' l c c' steps said found answered known = same_names asked answered.1 known
+known_after f k (Raw block) asked names names' l c c' steps said found answered known = same_names asked answered.1 known
+known_after f k (RawSized room block) asked names names' l c c' steps said found answered known = same_names asked answered.1 known
+known_after f k Flush asked names names' l c c' steps said found answered known = same_names asked answered.2 known
+known_after f k Stop asked names names' l c c' steps said found answered known = same_names asked answered.2 known
+known_after f k what asked names names' l c c' steps said found answered known = absurd answered
 
 -- the name that an operation asked for stands for what it came to
 pub known_more : (what : What) (came : Option Block) (asked : List ℕ) (names : List Named) → AreKnown asked names → AreKnown (asked_after what asked) (named_by what came ++ names)

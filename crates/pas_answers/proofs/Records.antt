@@ -63,29 +63,34 @@ said_fits {said} k out pushed events message is fits added same =
     omega (arith, size, one, fits, same)
 
 -- nothing is said besides
-pub answers_silent : {σ σ' : Standing} {said : Option Said} (what : What) (meant came : Option Block) (c c' : Cached) (out out' : Records) (old new : List Event) → said ≡ None
-    → PerformsMeant what meant came c c' σ σ' said → IsShown σ old → IsShown σ' new → records_in out' ≡ records_in out ++ map Record.Event (drop (length old) new) → room_of out' ≡ room_of out → AnswersMeant what meant came c c' out out' σ σ'
-answers_silent {σ} {σ'} {said} what meant came c c' out out' old new is performs before after added room = record {
-  said = said;
-  performs = performs;
-  pushed = λ v l stood rest. added ∙ ap (λ es. records_in out ++ map Record.Event es) (shown_new performs.calls.adds old new before after v l stood rest)
-      ∙ ap (λ rs. records_in out ++ rs) (sym (append-nil (records_of (events_by σ.seat.actor v performs.steps))) ∙ ap (λ o. records_of (events_by σ.seat.actor v performs.steps) ++ said_by σ.seat.actor o) (sym is));
-  room = room;
-}
+pub answers_silent : {σ σ' : Standing} {said : Option Said} (Named : Option ℕ → Type 0) (what : What) (meant came : Option Block) (c c' : Cached) (out out' : Records) (old new : List Event) → said ≡ None
+    → (performs : PerformsMeant what meant came c c' σ σ' said) → Named performs.found → IsShown σ old → IsShown σ' new → records_in out' ≡ records_in out ++ map Record.Event (drop (length old) new) → room_of out' ≡ room_of out → (did : AnswersMeant what meant came c c' out out' σ σ') × Named did.performs.found
+answers_silent {σ} {σ'} {said} Named what meant came c c' out out' old new is performs named before after added room = (
+  record {
+    said = said;
+    performs = performs;
+    pushed = λ v l stood rest. added ∙ ap (λ es. records_in out ++ map Record.Event es) (shown_new performs.calls.adds old new before after v l stood rest)
+        ∙ ap (λ rs. records_in out ++ rs) (sym (append-nil (records_of (events_by σ.seat.actor v performs.steps))) ∙ ap (λ o. records_of (events_by σ.seat.actor v performs.steps) ++ said_by σ.seat.actor o) (sym is));
+    room = room;
+  },
+  named,
+)
 
 -- this is said besides
-pub answers_said : {σ σ' : Standing} {said : Option Said} (what : What) (meant came : Option Block) (c c' : Cached) (out pushed out' : Records) (old new : List Event) (message : Said) (actor : ℕ) → said ≡ Some message → actor ≡ σ'.seat.actor
-    → PerformsMeant what meant came c c' σ σ' said → IsShown σ old → IsShown σ' new → records_in pushed ≡ records_in out ++ map Record.Event (drop (length old) new) → room_of pushed ≡ room_of out
-    → records_in out' ≡ records_in pushed ++ Record.Said actor message ∷ [] → room_of out' ≡ room_of pushed → AnswersMeant what meant came c c' out out' σ σ'
-answers_said {σ} {σ'} {said} what meant came c c' out pushed out' old new message actor is actor_is performs before after added same last room =
-    let own : actor ≡ σ.seat.actor = actor_is ∙ ap (λ s. s.actor) performs.calls.adds.seat_is in
-    record {
-      said = said;
-      performs = performs;
-      pushed = λ v l stood rest.
-          let records = records_of (events_by σ.seat.actor v performs.steps) in
-          let first : records_in pushed ≡ records_in out ++ records = added ∙ ap (λ es. records_in out ++ map Record.Event es) (shown_new performs.calls.adds old new before after v l stood rest) in
-          last ∙ ap (λ k. records_in pushed ++ Record.Said k message ∷ []) own ∙ ap (λ rs. rs ++ said_by σ.seat.actor (Some message)) first
-          ∙ append_assoc (records_in out) records (said_by σ.seat.actor (Some message)) ∙ ap (λ o. records_in out ++ (records ++ said_by σ.seat.actor o)) (sym is);
-      room = room ∙ same;
-    }
+pub answers_said : {σ σ' : Standing} {said : Option Said} (Named : Option ℕ → Type 0) (what : What) (meant came : Option Block) (c c' : Cached) (out pushed out' : Records) (old new : List Event) (message : Said) (actor : ℕ) → said ≡ Some message → actor ≡ σ'.seat.actor
+    → (performs : PerformsMeant what meant came c c' σ σ' said) → Named performs.found → IsShown σ old → IsShown σ' new → records_in pushed ≡ records_in out ++ map Record.Event (drop (length old) new) → room_of pushed ≡ room_of out
+    → records_in out' ≡ records_in pushed ++ Record.Said actor message ∷ [] → room_of out' ≡ room_of pushed → (did : AnswersMeant what meant came c c' out out' σ σ') × Named did.performs.found
+answers_said {σ} {σ'} {said} Named what meant came c c' out pushed out' old new message actor is actor_is performs named before after added same last room =
+    let own : actor ≡ σ.seat.actor = actor_is ∙ ap (λ s. s.actor) performs.calls.adds.seat_is in (
+      record {
+        said = said;
+        performs = performs;
+        pushed = λ v l stood rest.
+            let records = records_of (events_by σ.seat.actor v performs.steps) in
+            let first : records_in pushed ≡ records_in out ++ records = added ∙ ap (λ es. records_in out ++ map Record.Event es) (shown_new performs.calls.adds old new before after v l stood rest) in
+            last ∙ ap (λ k. records_in pushed ++ Record.Said k message ∷ []) own ∙ ap (λ rs. rs ++ said_by σ.seat.actor (Some message)) first
+            ∙ append_assoc (records_in out) records (said_by σ.seat.actor (Some message)) ∙ ap (λ o. records_in out ++ (records ++ said_by σ.seat.actor o)) (sym is);
+        room = room ∙ same;
+      },
+      named,
+    )

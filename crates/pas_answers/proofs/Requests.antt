@@ -36,11 +36,12 @@ use Rattle.pas_cache.specs.Caches.{Cached, AtRest}
 use Rattle.pas_profile.specs.declared.directory.Route.{Route}
 use Rattle.pas_trace.specs.Reasons.{cost_of_size}
 use Rattle.pas_trace.proofs.Costs.{small_cost, large_cost, some_cost}
-use Rattle.pas_cache.specs.Calls.{Allocates, AllocatesPages, most_events, MayRequestBy, MayRequest, AllocatesBy, AllocatesRequest}
+use Rattle.pas_cache.specs.Calls.{Allocates, AllocatesPages, most_events, IsNamed, MayRequestBy, MayRequest, AllocatesBy, AllocatesRequest}
 use Rattle.pas_cache.proofs.Budget.{log_kept}
 use Rattle.pas_cache.specs.Serves.{IsSmallRoute, Wanted, wanted_for, pages_of, IsBlockFor, IsDeedOf, IsSilent, MakesFew, MakesAtMost, MakesDeedsOf}
 use Rattle.pas_steps.specs.Unknown.{unknown_pages}
-use Rattle.pas_answers.specs.Answers.{named, block_of, said_by, said_of_request, RefusalEnds, RequestEnds}
+use Rattle.pas_answers.specs.Answers.{named as the_name, block_of, said_by, said_of_request, RefusalEnds, RequestEnds}
+use Rattle.pas_answers.specs.Indexes.{IsNamedFor}
 use Rattle.pas_answers.specs.Calls.{IsBlockOf, MayStand, owed_events, MayPerform, Serves, events_for, PerformsMeant}
 use Rattle.pas_steps.proofs.Adding.{adds_none, can_call}
 use Rattle.pas_steps.proofs.Unknown.{unknown_stays, has_room}
@@ -124,9 +125,9 @@ serves_pages {σ} {σ'} {answer} {found} c c' heap size align large call =
     }
 
 -- by its route
-pub serves : {σ σ' : Standing} {answer : Result Block NoRoom} {Answers : Option ℕ → Type 0} {tells : Bool} (c c' : Cached) (heap size align : ℕ) → (r : AllocatesRequest Answers (wanted_for σ.seat.profile heap size align) tells c c' σ σ' answer)
+pub serves : {σ σ' : Standing} {answer : Result Block NoRoom} {Answers : Option ℕ → Type 0} {Same : Type 0} {tells : Bool} (c c' : Cached) (heap size align : ℕ) → (r : AllocatesRequest Answers Same (wanted_for σ.seat.profile heap size align) tells c c' σ σ' answer)
     → Serves (cost_of_size size) (wanted_for σ.seat.profile heap size align) r.found c c' σ σ' answer
-serves {σ} {σ'} {answer} {Answers} {tells} c c' heap size align r =
+serves {σ} {σ'} {answer} {Answers} {Same} {tells} c c' heap size align r =
     let f = σ.seat.profile in
     let w = wanted_for f heap size align in
     let route = route_in f size align in
@@ -134,14 +135,17 @@ serves {σ} {σ'} {answer} {Answers} {tells} c c' heap size align r =
       | inl large ↦ serves_pages c c' heap size align large (subst (λ (x : Route). AllocatesBy x w r.found tells c c' σ σ' answer) (is_large f.classes size align large) r.allocates)
       | inr few ↦
           let small : IsSmallRoute route = is_small f.classes size align few in
-          subst (λ (o : Option ℕ). Serves (cost_of_size size) w o c c' σ σ' answer) (sym (none_named Answers route (λ large answers. absurd (subst IsSmallRoute large small)) r.named)) (serves_small c c' heap size align few (small_did w r.found route small r.allocates))
+          subst (λ (o : Option ℕ). Serves (cost_of_size size) w o c c' σ σ' answer) (sym (none_named Answers Same route (λ large answers. absurd (subst IsSmallRoute large small)) r.named)) (serves_small c c' heap size align few (small_did w r.found route small r.allocates))
     ]
 
--- .. where the door has no index, so that it names no run
-pub serves_unnamed : {σ σ' : Standing} {answer : Result Block NoRoom} {tells : Bool} (c c' : Cached) (heap size align : ℕ) → AllocatesRequest (λ found. found ≡ None) (wanted_for σ.seat.profile heap size align) tells c c' σ σ' answer
-    → Serves (cost_of_size size) (wanted_for σ.seat.profile heap size align) None c c' σ σ' answer
-serves_unnamed {σ} {σ'} {answer} c c' heap size align r = subst (λ (o : Option ℕ). Serves (cost_of_size size) (wanted_for σ.seat.profile heap size align) o c c' σ σ' answer)
-    (none_named (λ found. found ≡ None) (route_in σ.seat.profile size align) (λ large none. none) r.named) (serves c c' heap size align r)
+-- what its route says of the run that was named, for its number of pages
+named_on : (f : Profile) (heap size align : ℕ) (Answers : ℕ → Option ℕ → Type 0) (Same : Type 0) (found : Option ℕ) (route : Route) → route_in f size align ≡ route → IsNamed route (Answers ((size + 4096 - 1) / 4096)) Same found → IsNamed route (Answers (pages_of (wanted_for f heap size align))) Same found
+named_on f heap size align Answers Same found (Route.Class class) is named = named
+named_on f heap size align Answers Same found Route.Bitfit is named = named
+named_on f heap size align Answers Same found Route.Large is named = subst (λ n. Answers n found) (sym (pages_asked f size align is)) named
+
+pub named_for : (f : Profile) (name heap size align : ℕ) (Answers : ℕ → ℕ → Option ℕ → Type 0) (Same : Type 0) (found : Option ℕ) → IsNamed (route_in f size align) (Answers heap ((size + 4096 - 1) / 4096)) Same found → IsNamedFor f Answers Same (Alloc name heap size align) found
+named_for f name heap size align Answers Same found named = named_on f heap size align (Answers heap) Same found (route_in f size align) refl named
 
 -- ---- the directory
 -- a deed word of a directory is of that one
@@ -173,8 +177,8 @@ sixteenth a align is at =
     ap (λ n. n % 16) (bytes ∙ ap (λ n. a / align * n) (sym whole) ∙ sym (mul_assoc (a / align) (align / 16) 16)) ∙ mul-mod_left (a / align * (align / 16)) 16
 
 -- a block that was given may be freed or replaced
-pub given_stands : {σ σ' : Standing} (c c' : Cached) (name heap size align spare : ℕ) (block : Block) → IsAdmitted σ.seat.profile size align heap
-    → CanCall σ (MayPerform σ.seat.profile c (Alloc name heap size align) spare) → Serves (cost_of_size size) (wanted_for σ.seat.profile heap size align) None c c' σ σ' (Ok block) → MayStand σ.seat.profile (Some block)
+pub given_stands : {σ σ' : Standing} {found : Option ℕ} (c c' : Cached) (name heap size align spare : ℕ) (block : Block) → IsAdmitted σ.seat.profile size align heap
+    → CanCall σ (MayPerform σ.seat.profile c (Alloc name heap size align) spare) → Serves (cost_of_size size) (wanted_for σ.seat.profile heap size align) found c c' σ σ' (Ok block) → MayStand σ.seat.profile (Some block)
 given_stands {σ} c c' name heap size align spare block admitted can call =
     let f = σ.seat.profile in
     let of = call.outcome in
@@ -190,9 +194,9 @@ given_stands {σ} c c' name heap size align spare block admitted can call =
     }
 
 -- ---- a request
-module _ (σ σ' : Standing) (c c' : Cached) (name heap size align : ℕ) where
+module _ (σ σ' : Standing) (c c' : Cached) (name heap size align : ℕ) (found : Option ℕ) where
   abbrev Served : Result Block NoRoom → Type 0
-  Served answer = Serves (cost_of_size size) (wanted_for σ.seat.profile heap size align) None c c' σ σ' answer
+  Served answer = Serves (cost_of_size size) (wanted_for σ.seat.profile heap size align) found c c' σ σ' answer
 
   abbrev IsPaid : Result Block NoRoom → List Made → View → Type 0
   IsPaid answer steps v = length (events_by σ.seat.actor v steps) + length (said_by σ.seat.actor (said_of_request name answer)) + owed_events σ.seat.profile c' (steps ++ v) ≤ cost_of_size size + owed_events σ.seat.profile c v
@@ -214,11 +218,16 @@ module _ (σ σ' : Standing) (c c' : Cached) (name heap size align : ℕ) where
   }
   ends (Err room) call v l stood rest = call.outcome σ.seat.actor v
 
-  pub performs_request : (answer : Result Block NoRoom) (meant : Option Block) → Served answer → PerformsMeant (Alloc name heap size align) meant (block_of answer) c c' σ σ' (said_of_request name answer)
-  performs_request answer meant call = record {
-    steps = call.steps;
-    calls = call.calls;
-    few = paid answer call;
-    answered = λ v l stood rest names means known. record { rest = rest; answer = answer; serves = call.change; kinds = call.kinds; ends = ends answer call v l stood rest; said_is = refl; names_are = refl };
-    others = λ none. absurd (let bad : named name (block_of answer) ∷ [] ≡ [] = none in cc);
-  }
+  pub performs_request : (answer : Result Block NoRoom) (meant : Option Block) (Answers : ℕ → ℕ → Option ℕ → Type 0) (Same : Type 0) → Served answer → IsNamed (route_in σ.seat.profile size align) (Answers heap ((size + 4096 - 1) / 4096)) Same found
+      → (did : PerformsMeant (Alloc name heap size align) meant (block_of answer) c c' σ σ' (said_of_request name answer)) × IsNamedFor σ.seat.profile Answers Same (Alloc name heap size align) did.found
+  performs_request answer meant Answers Same call named = (
+    record {
+      steps = call.steps;
+      found = found;
+      calls = call.calls;
+      few = paid answer call;
+      answered = λ v l stood rest names means known. record { rest = rest; answer = answer; serves = call.change; kinds = call.kinds; ends = ends answer call v l stood rest; said_is = refl; names_are = refl };
+      others = λ none. absurd (let bad : the_name name (block_of answer) ∷ [] ≡ [] = none in cc);
+    },
+    named_for σ.seat.profile name heap size align Answers Same found named,
+  )

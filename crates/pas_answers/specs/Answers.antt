@@ -56,15 +56,17 @@ pub record Having : Type 0 where
 abbrev pub having : List Named → View → Cached → Having
 having names v c = record { names = names; view = v; cache = c }
 
--- an answer: its steps, what is said besides, and then what the names stand for and what the cache holds
+-- an answer: its steps, what is said besides, the run of pages that was named for it where it is a request for whole ones, and then what the names stand for
+-- and what the cache holds
 pub record Answer : Type 0 where
   pub steps : List Made
   pub said : Option Said
+  pub found : Option ℕ
   pub names : List Named
   pub cache : Cached
 
-abbrev pub answer_of : List Made → Option Said → List Named → Cached → Answer
-answer_of steps said names c = record { steps = steps; said = said; names = names; cache = c }
+abbrev pub answer_of : List Made → Option Said → Option ℕ → List Named → Cached → Answer
+answer_of steps said found names c = record { steps = steps; said = said; found = found; names = names; cache = c }
 
 -- ---- records
 -- those of steps: their events in the order in which they were made
@@ -116,12 +118,12 @@ RefusalEnds Route.Large d es = AllByRecursion (IsDeedOf d) es
 abbrev pub RequestEnds : ℕ → Wanted → View → List Made → Result Block NoRoom → Type 0
 RequestEnds k wanted v steps served = MatchResult served (IsGiven k wanted v steps) (λ room. RefusalEnds wanted.route wanted.directory (events_by k v steps))
 
--- Actor k is at rest with its cache, which serves the request, or refuses it with the evidence of its search. There is no index that names a run of pages for
--- it. Only a flush stamps pages, and none is made. From then on the name stands for the block, or for nothing.
+-- Actor k is at rest with its cache, which serves the request, or refuses it with the evidence of its search: with the run of pages that was named for it, or
+-- none. Only a flush stamps pages, and none is made. From then on the name stands for the block, or for nothing.
 pub record IsServed (f : Profile) (k : ℕ) (r : Request) (before : Having) (after : Answer) : Type 0 where
   pub rest : AtRest f before.cache before.view
   pub answer : Result Block NoRoom
-  pub serves : ServesRequest f (wanted_by f r) None before.cache after.cache after.steps answer
+  pub serves : ServesRequest f (wanted_by f r) after.found before.cache after.cache after.steps answer
   pub kinds : Only allocating after.steps
   pub ends : RequestEnds k (wanted_by f r) before.view after.steps answer
   pub said_is : after.said ≡ said_of_request r.name answer

@@ -105,15 +105,16 @@ pub record MayPerform (f : Profile) (c : Cached) (what : What) (spare : ℕ) (v 
   pub rest : AtRest f c v
   pub room : cost_of_what what + owed_events f c v ≤ spare
 
--- The steps and what is said answer the operation, of which the freed name stands for `meant`, and the asked one for `came` from then on. The actor is at
--- rest again. The events and what is said are paid for.
+-- The steps and what is said answer the operation, with the run that was named for it, of which the freed name stands for `meant`, and the asked one for
+-- `came` from then on. The actor is at rest again. The events and what is said are paid for.
 pub record PerformsMeant (what : What) (meant came : Option Block) (c c' : Cached) (desk desk' : Standing) (said : Option Said) : Type 0 where
   pub steps : List Made
+  pub found : Option ℕ
   pub calls : Rests c c' desk desk' steps
   pub few : (v : View) → AtRest desk.seat.profile c v → Agreed desk.seat.profile v steps
       → length (events_by desk.seat.actor v steps) + length (said_by desk.seat.actor said) + owed_events desk.seat.profile c' (steps ++ v) ≤ cost_of_what what + owed_events desk.seat.profile c v
   pub answered : (v : View) (l : Whole) → desk.stands v l → AtRest desk.seat.profile c v → (names : List Named) → IsMeant names what meant → IsKnown names what
-      → IsAnswered desk.seat.profile desk.seat.actor what (having names v c) (answer_of steps said (named_by what came ++ names) c')
+      → IsAnswered desk.seat.profile desk.seat.actor what (having names v c) (answer_of steps said found (named_by what came ++ names) c')
   pub others : named_by what came ≡ [] → came ≡ None
 
 -- how many events a request makes at most, beside the deeds that weren't known: what it costs, or none where it was refused

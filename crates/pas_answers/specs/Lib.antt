@@ -2,6 +2,7 @@ pub mod Named
 pub mod Answers
 pub mod Reaching
 pub mod Ways
+pub mod Indexes
 pub mod Refusals
 pub mod Replays
 pub mod Fit

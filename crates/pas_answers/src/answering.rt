@@ -8,12 +8,13 @@ ghost use Rattle.pas_cache.specs.Calls.{Frees};
 ghost use Rattle.pas_trace.specs.EveryPlan.{IsRoomNamed};
 ghost use Rattle.pas_answers.specs.Answers.{said_of_room, entry_with};
 ghost use Rattle.pas_answers.specs.Fit.{IsFitWhat};
+ghost use Rattle.pas_answers.specs.Indexes.{IsNamedFor};
 ghost use Rattle.pas_profile.specs.Profiles.{IsAdmitted};
 ghost use Rattle.pas_profile.specs.declared.name.Block.{Block as TheBlock};
 ghost use Rattle.pas_answers.specs.Calls.{what_of, MayStand, MayPerform, PerformsMeant, FreesOne, MayAnswer, AnswersMeant};
 
 use pas_cache::ThreadCache;
-use pas_large::NoIndex;
+use pas_large::Door;
 use pas_profile::{Block, Event, FreeFault, Name, NoRoom};
 use pas_report::{Record, Records, Said};
 use pas_steps::Desk;
@@ -44,8 +45,9 @@ fn refusal(name: u32, room: NoRoom) -> Said
 
 /// Serves a request: what its name stands for from then on, and what is said where it was refused.
 #[inline(always)]
-fn allocate<D: Desk>(
+fn allocate<D: Desk, O: Door>(
     desk: &mut D,
+    door: &mut O,
     cache: &mut ThreadCache,
     name: u32,
     heap: u8,
@@ -54,11 +56,12 @@ fn allocate<D: Desk>(
 ) -> (Option<Block>, Option<Said>)
     requires admitted { IsAdmitted (D.standing desk.old).seat.profile size align heap }
     requires can { CanCall (D.standing desk.old) (MayPerform (D.standing desk.old).seat.profile (cached cache.old) (TheWhat.Alloc name heap size align) (D.spare_of desk.old)) }
-    ensures performs { (meant : Option TheBlock) → PerformsMeant (TheWhat.Alloc name heap size align) meant result.0 (cached cache.old) (cached cache.new) (D.standing desk.old) (D.standing desk.new) result.1 }
+    ensures performs { (meant : Option TheBlock) → (did : PerformsMeant (TheWhat.Alloc name heap size align) meant result.0 (cached cache.old) (cached cache.new) (D.standing desk.old) (D.standing desk.new) result.1)
+        × IsNamedFor (D.standing desk.old).seat.profile (O.answers door.old door.new) (door.new ≡ door.old) (TheWhat.Alloc name heap size align) did.found }
     ensures stands { MayStand (D.standing desk.old).seat.profile result.0 }
     ensures home { D.home desk.new ≡ D.home desk.old }
 {
-    match cache.serve(desk, &mut NoIndex, heap, size, align) {
+    match cache.serve(desk, door, heap, size, align) {
         Ok(block) => (Some(block), None),
         Err(room) => (None, Some(refusal(name, room))),
     }
@@ -105,8 +108,9 @@ fn free<D: Desk>(
 
 /// Does the task, of which the freed name stands for `meant`: what the asked name stands for from then on, and what is said besides its events.
 #[inline(always)]
-fn perform<D: Desk>(
+fn perform<D: Desk, O: Door>(
     desk: &mut D,
+    door: &mut O,
     cache: &mut ThreadCache,
     task: Task,
     meant: Option<Block>,
@@ -114,7 +118,8 @@ fn perform<D: Desk>(
     requires fit { (limit : ℕ) × (asked : List ℕ) × IsFitWhat (D.standing desk.old).seat.profile limit asked (what_of task) }
     requires stands { MayStand (D.standing desk.old).seat.profile meant }
     requires can { CanCall (D.standing desk.old) (MayPerform (D.standing desk.old).seat.profile (cached cache.old) (what_of task) (D.spare_of desk.old)) }
-    ensures performs { PerformsMeant (what_of task) meant result.0 (cached cache.old) (cached cache.new) (D.standing desk.old) (D.standing desk.new) result.1 }
+    ensures performs { (did : PerformsMeant (what_of task) meant result.0 (cached cache.old) (cached cache.new) (D.standing desk.old) (D.standing desk.new) result.1)
+        × IsNamedFor (D.standing desk.old).seat.profile (O.answers door.old door.new) (door.new ≡ door.old) (what_of task) did.found }
     ensures stands { MayStand (D.standing desk.old).seat.profile result.0 }
     ensures home { D.home desk.new ≡ D.home desk.old }
 {
@@ -124,7 +129,7 @@ fn perform<D: Desk>(
             heap,
             size,
             align,
-        } => allocate(desk, cache, name, heap, size, align),
+        } => allocate(desk, door, cache, name, heap, size, align),
         Task::Free { name, room } => match meant {
             Some(block) => (None, free(desk, cache, block.name, room)),
             None => (None, Some(Said::Skipped { name })),
@@ -142,10 +147,12 @@ fn perform<D: Desk>(
 }
 
 /// Does a thread's task, and adds its events and what is said to the records. `meant` is the block that the freed name of a `Task::Free` stands for, if
-/// any, and the result the block that the asked name of a `Task::Request` stands for from then on; None for every other task.
+/// any, and the result the block that the asked name of a `Task::Request` stands for from then on; None for every other task. A request for whole pages
+/// asks the door for a run first; nothing else asks it or changes it.
 #[inline(always)]
-pub fn answer_meant<D: Desk>(
+pub fn answer_meant<D: Desk, O: Door>(
     desk: &mut D,
+    door: &mut O,
     cache: &mut ThreadCache,
     task: Task,
     meant: Option<Block>,
@@ -154,12 +161,13 @@ pub fn answer_meant<D: Desk>(
     requires fit { (limit : ℕ) × (asked : List ℕ) × IsFitWhat (D.standing desk.old).seat.profile limit asked (what_of task) }
     requires stands { MayStand (D.standing desk.old).seat.profile meant }
     requires can { CanCall (D.standing desk.old) (MayAnswer (D.standing desk.old).seat.profile (cached cache.old) (what_of task) (D.spare_of desk.old) out.old) }
-    ensures answers { AnswersMeant (what_of task) meant result (cached cache.old) (cached cache.new) out.old out.new (D.standing desk.old) (D.standing desk.new) }
+    ensures answers { (did : AnswersMeant (what_of task) meant result (cached cache.old) (cached cache.new) out.old out.new (D.standing desk.old) (D.standing desk.new))
+        × IsNamedFor (D.standing desk.old).seat.profile (O.answers door.old door.new) (door.new ≡ door.old) (what_of task) did.performs.found }
     ensures stands { MayStand (D.standing desk.old).seat.profile result }
     ensures home { D.home desk.new ≡ D.home desk.old }
 {
     let before = desk.shown().len();
-    let (came, said) = perform(desk, cache, task, meant);
+    let (came, said) = perform(desk, door, cache, task, meant);
     push_events(desk.shown(), before, out);
     if let Some(said) = said {
         out.push(Record::Said(desk.actor(), said));

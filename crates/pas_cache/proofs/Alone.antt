@@ -1,8 +1,12 @@
--- A request that was refused where no other actor made a step meanwhile, whatever its desk tells.
-use Rattle.std.proofs.Common.{◌≡◌, ℕ, List, ◌++◌, None, Result, Ok, Err, refl, ap, sym, ◌∙◌, subst, true≢false, inl, inr}
+-- A request whose actor alone made steps meanwhile, whatever its desk tells: a refusal is true, and the run that a door named is taken where it is whole.
+use Rattle.std.proofs.Common.{◌≡◌, ℕ, List, ◌++◌, Option, Result, Ok, Err, refl, ap, sym, ◌∙◌, subst, true≢false, inl, inr}
 use Rattle.pas_profile.specs.Profiles.{IsValid, IsAdmitted}
 use Rattle.pas_profile.specs.Requests.{is_shared, kind_of_route, route_in, room_in, class_home}
+use Rattle.pas_profile.specs.Directories.{IsKind}
+use Rattle.pas_profile.specs.declared.directory.Directory.{Directory}
 use Rattle.pas_profile.specs.declared.directory.Route.{Route}
+use Rattle.pas_profile.specs.declared.name.Block.{Block}
+use Rattle.pas_steps.specs.Views.{View}
 use Rattle.pas_profile.specs.declared.event.NoRoom.{NoRoom}
 use Rattle.pas_profile.specs.declared.profile.Profile.{Profile}
 use Rattle.pas_steps.specs.Desks.{triples}
@@ -21,14 +25,15 @@ use Rattle.pas_search.proofs.Alone.{refused_told}
 use Rattle.pas_bitfit.specs.Allocates.{bitfit_directory, run_for}
 use Rattle.pas_bitfit.specs.Runs.{NoneFits, fewer_runs}
 use Rattle.pas_large.specs.Finds.{MayFind}
-use Rattle.pas_large.proofs.Alone.{scanned, no_run_before, no_run_after, reason_after}
+use Rattle.pas_large.specs.Alone.{GoesByDoor}
+use Rattle.pas_large.proofs.Alone.{refused_alone, goes_by_door}
 use Rattle.pas_segregated.specs.Refills.{Filling}
 use Rattle.pas_segregated.specs.declared.slots.Slots.{Slots}
 use Rattle.pas_cache.specs.Caches.{Cached, AtRest}
 use Rattle.pas_cache.specs.Changes.{LeavesSpent}
 use Rattle.pas_cache.specs.Locals.{local_for, RestsWith}
 use Rattle.pas_cache.specs.Parts.{IsTrueOf}
-use Rattle.pas_cache.specs.Refusals.{IsTrulyRefusedBy, IsTrulyRefused}
+use Rattle.pas_cache.specs.Refusals.{IsTrulyRefusedBy, IsTrulyRefused, GoesByDoorOn, TakesWhatIsNamed}
 use Rattle.pas_cache.specs.Serves.{Wanted, wanted_for, pages_of, filling_in, IsFilling, HasNoneCached, Fetches, IsObtained, IsAnswered, ServesLocals, ServesClass, ServesBitfit, ServesPages, ServesBy, ServesRequest, IsTrueRefusal}
 use Rattle.pas_cache.proofs.Routes.{may_search_bitfit, bitfit_wanted, may_find}
 use Rattle.pas_cache.proofs.Obtained.{no_fit_before, none_shortened, may_search, refused_steps, refusal}
@@ -72,8 +77,18 @@ module _ (f : Profile) (k : ℕ) (l : Whole) (valid : IsValid f) (fill : Filling
       subst (λ xs. IsTrueOf fill f locals l (triples k xs ++ l) room) (sym serves.steps_are)
       (answered_refused serves.fewer locals' serves.given serves.before serves.found room (subst (λ xs. Legal f (triples k xs ++ l)) serves.steps_are legal) serves.obtained serves.ends)
 
--- ---- any request
-module _ (f : Profile) (heap size align k : ℕ) (c c' : Cached) (l : Whole) (steps : List Made) (room : NoRoom) (valid : IsValid f) (admitted : IsAdmitted f size align heap) (rest : AtRest f c (part k l)) (legal : Legal f (triples k steps ++ l)) where
+-- ---- a request for whole pages
+large_home : (f : Profile) (heap size align : ℕ) → route_in f size align ≡ Route.Large → large_directory heap ≡ (wanted_for f heap size align).directory
+large_home f heap size align route = ap (λ (r : Route). record { heap = heap; kind = kind_of_route (is_shared f heap) r }) (sym route)
+
+kind_large : (f : Profile) (heap size align : ℕ) → route_in f size align ≡ Route.Large → IsKind (wanted_for f heap size align).directory.kind
+kind_large f heap size align route = subst (λ (d : Directory). IsKind d.kind) (large_home f heap size align route) tt
+
+find_large : (f : Profile) (heap size align : ℕ) (locals : List Slots) (v : View) → route_in f size align ≡ Route.Large → RestsWith f locals v → MayFind (wanted_for f heap size align).directory v
+find_large f heap size align locals v route rest = subst (λ d. MayFind d v) (large_home f heap size align route) (may_find f v heap locals rest)
+
+-- ---- any request that was refused
+module _ (f : Profile) (heap size align k : ℕ) (found : Option ℕ) (c c' : Cached) (l : Whole) (steps : List Made) (room : NoRoom) (valid : IsValid f) (admitted : IsAdmitted f size align heap) (rest : AtRest f c (part k l)) (legal : Legal f (triples k steps ++ l)) where
   abbrev exit : Whole
   exit = triples k steps ++ l
 
@@ -100,21 +115,30 @@ module _ (f : Profile) (heap size align k : ℕ) (c c' : Cached) (l : Whole) (st
       (refused_told none f d k l serves.searched valid (record { heap = admitted.of_profile; kind = tt; class = tt }) (fewer_runs (run_for r align)) (subst (λ xs. Legal f (triples k xs ++ l)) all legal) serves.searches (may_search_bitfit f (part k l) heap c.locals rest.locals) room refused) in
       subst (λ (w : Wanted). IsTrueRefusal f w c.locals l exit room) same (record { cached = λ none. none; entry_fit = told.0; exit_fit = told.1; reason = told.2 })
 
-  pages_refused : route_in f size align ≡ Route.Large → ServesPages f wanted None c c' steps (Err room) → IsTrulyRefusedBy Route.Large f wanted c.locals l exit room
+  pages_refused : route_in f size align ≡ Route.Large → ServesPages f wanted found c c' steps (Err room) → IsTrulyRefusedBy Route.Large f wanted c.locals l exit room
   pages_refused route serves =
-      let n = pages_of wanted in
-      let same : large_directory heap ≡ wanted.directory = ap (λ (r : Route). record { heap = heap; kind = kind_of_route (is_shared f heap) r }) (sym route) in
-      let r = scanned f wanted.directory n serves.tried serves.rest room serves.outcome in
-      let all : steps ≡ r.1 ++ r.0 = serves.steps_are ∙ r.3 in
-      let stands : Legal f (triples k (r.1 ++ r.0) ++ l) = subst (λ xs. Legal f (triples k xs ++ l)) all legal in
-      let met = subst (λ d. MayFind d (part k l)) same (may_find f (part k l) heap c.locals rest.locals) in
-      subst (λ xs. IsTrulyRefusedBy Route.Large f wanted c.locals l (triples k xs ++ l) room) (sym all)
-      (no_run_before f k l wanted.directory n r.0 r.1 room valid r.2 stands met, no_run_after f k l wanted.directory n r.0 r.1 room valid r.2 stands met, reason_after f k l wanted.directory n r.0 r.1 room valid r.2 stands met)
+      let stands : Legal f (triples k (serves.rest ++ serves.tried) ++ l) = subst (λ xs. Legal f (triples k xs ++ l)) serves.steps_are legal in
+      let told = refused_alone f k l wanted.directory (pages_of wanted) found serves.tried serves.rest valid (kind_large f heap size align route) serves.old serves.returns stands (find_large f heap size align c.locals (part k l) route rest.locals) room serves.outcome in
+      subst (λ xs. IsTrulyRefusedBy Route.Large f wanted c.locals l (triples k xs ++ l) room) (sym serves.steps_are) (told.before, told.after, told.reason)
 
-  by_route : (r : Route) → route_in f size align ≡ r → ServesBy r f wanted None c c' steps (Err room) → IsTrulyRefusedBy r f wanted c.locals l exit room
+  by_route : (r : Route) → route_in f size align ≡ r → ServesBy r f wanted found c c' steps (Err room) → IsTrulyRefusedBy r f wanted c.locals l exit room
   by_route (Route.Class class) route serves = class_refused class route serves
   by_route Route.Bitfit route serves = bitfit_refused route serves
   by_route Route.Large route serves = pages_refused route serves
 
-  pub truly_refused : ServesRequest f (wanted_for f heap size align) None c c' steps (Err room) → IsTrulyRefused f (wanted_for f heap size align) c.locals l (triples k steps ++ l) room
+  pub truly_refused : ServesRequest f (wanted_for f heap size align) found c c' steps (Err room) → IsTrulyRefused f (wanted_for f heap size align) c.locals l (triples k steps ++ l) room
   truly_refused serves = by_route (route_in f size align) refl serves
+
+-- ---- the run that a door named
+module _ (f : Profile) (heap size align k : ℕ) (found : Option ℕ) (c c' : Cached) (l : Whole) (steps : List Made) (answer : Result Block NoRoom) (valid : IsValid f) (rest : AtRest f c (part k l)) (legal : Legal f (triples k steps ++ l)) where
+  takes_on : (r : Route) → route_in f size align ≡ r → ServesBy r f (wanted_for f heap size align) found c c' steps answer → GoesByDoorOn r f (wanted_for f heap size align) found l steps answer
+  takes_on (Route.Class class) route serves = tt
+  takes_on Route.Bitfit route serves = tt
+  takes_on Route.Large route serves =
+      let w = wanted_for f heap size align in
+      let stands : Legal f (triples k (serves.rest ++ serves.tried) ++ l) = subst (λ xs. Legal f (triples k xs ++ l)) serves.steps_are legal in
+      subst (λ xs. GoesByDoor f w.directory (pages_of w) found l xs answer) (sym serves.steps_are)
+      (goes_by_door f k l w.directory (pages_of w) found serves.tried serves.rest valid (kind_large f heap size align route) serves.old serves.returns stands (find_large f heap size align c.locals (part k l) route rest.locals) answer serves.outcome)
+
+  pub takes_named : ServesRequest f (wanted_for f heap size align) found c c' steps answer → TakesWhatIsNamed f (wanted_for f heap size align) found l steps answer
+  takes_named serves = takes_on (route_in f size align) refl serves

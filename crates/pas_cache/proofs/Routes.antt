@@ -57,12 +57,12 @@ use Rattle.pas_steps.proofs.Frames.{events_append}
 use Rattle.pas_steps.proofs.Past.{always_pair}
 use Rattle.pas_steps.proofs.Unknown.{unknown_stays}
 use Rattle.pas_large.specs.Allocates.{GaveLarge, IsServedNamed, IsScanned, AllocatesLarge}
-use Rattle.pas_large.proofs.Outcomes.{MadeOf, IsGivenRun, IsRefusedRun, HasEnded, ended, told_unnamed}
+use Rattle.pas_large.proofs.Outcomes.{MadeOf, IsGivenRun, IsRefusedRun, HasEnded, ended}
 use Rattle.pas_large.specs.Claims.{in_span}
 use Rattle.pas_large.specs.Finds.{MayFind, FindRoom, finding}
 use Rattle.pas_large.specs.Pages.{OnlyDeedsShow}
 use Rattle.pas_large.specs.Named.{missed_steps}
-use Rattle.pas_large.specs.Telling.{IsToldLarge}
+use Rattle.pas_large.specs.Telling.{IsToldByDoor}
 use Rattle.pas_large.proofs.Claims.{in_parts}
 use Rattle.pas_large.proofs.Gives.{run_is, back_events}
 use Rattle.pas_scan.specs.Runs.{large_directory}
@@ -90,11 +90,11 @@ pub large_size : (classes size align : ℕ) → route_of classes size align ≡ 
 large_size classes size align e = (subst (IsRouteOf classes size align) e (route_is classes size align)).0
 
 -- ==== A request goes by its route.
-pub goes : {σ σ' : Standing} {Answers : Option ℕ → Type 0} {wanted : Wanted} {tells : Bool} {c c' : Cached} {answer : Result Block NoRoom} (way : Route) (found : Option ℕ) → wanted.route ≡ way → IsNamed way Answers found
-    → AllocatesBy way wanted found tells c c' σ σ' answer → AllocatesRequest Answers wanted tells c c' σ σ' answer
-goes {σ} {σ'} {Answers} {wanted} {tells} {c} {c'} {answer} way found route named it = record {
+pub goes : {σ σ' : Standing} {Answers : Option ℕ → Type 0} {Same : Type 0} {wanted : Wanted} {tells : Bool} {c c' : Cached} {answer : Result Block NoRoom} (way : Route) (found : Option ℕ) → wanted.route ≡ way → IsNamed way Answers Same found
+    → AllocatesBy way wanted found tells c c' σ σ' answer → AllocatesRequest Answers Same wanted tells c c' σ σ' answer
+goes {σ} {σ'} {Answers} {Same} {wanted} {tells} {c} {c'} {answer} way found route named it = record {
   found = found;
-  named = subst (λ (r : Route). IsNamed r Answers found) (sym route) named;
+  named = subst (λ (r : Route). IsNamed r Answers Same found) (sym route) named;
   allocates = subst (λ (r : Route). AllocatesBy r wanted found tells c c' σ σ' answer) (sym route) it;
 }
 
@@ -114,10 +114,10 @@ small_did wanted found Route.Bitfit small it = it
 small_did wanted found Route.Large small it = absurd small
 
 -- no run was named where the door names none for whole pages
-pub none_named : (Answers : Option ℕ → Type 0) {found : Option ℕ} (route : Route) → (route ≡ Route.Large → Answers found → found ≡ None) → IsNamed route Answers found → found ≡ None
-none_named Answers (Route.Class class) by named = named
-none_named Answers Route.Bitfit by named = named
-none_named Answers Route.Large by named = by refl named
+pub none_named : (Answers : Option ℕ → Type 0) (Same : Type 0) {found : Option ℕ} (route : Route) → (route ≡ Route.Large → Answers found → found ≡ None) → IsNamed route Answers Same found → found ≡ None
+none_named Answers Same (Route.Class class) by named = named.0
+none_named Answers Same Route.Bitfit by named = named.0
+none_named Answers Same Route.Large by named = by refl named
 
 -- where it is for whole pages, so many
 pub pages_asked : (f : Profile) (size align : ℕ) → route_in f size align ≡ Route.Large → room_in f size align / 4096 ≡ (size + 4096 - 1) / 4096
@@ -417,6 +417,6 @@ pages_allocates {σ} {σ'} size align heap n found tells c answer is some alignm
           (subst (λ xs. length (events_by k v xs) + unknown_pages f (xs ++ v) ≤ most_events n answer + unknown_pages f v) (sym same) (few f heap n e.got e.after answer e.outcome e.shows k v (subst (Agreed f v) same agreed)));
       outcome = subst (λ xs. MatchResult answer (IsBlockFor f (record { directory = large_directory heap; route = Route.Large; room = n * 4096; align = align }) (AtRest f c) xs) (λ why. MakesDeedsOf (large_directory heap) xs)) (sym same)
           (ends f heap n e.got e.after {Meets = AtRest f c} align c.locals alignment e.kinds (λ v met. met.locals) answer e.outcome);
-      told = λ none t v l stood met. subst (λ k. IsToldLarge f (large_directory heap) k l (triples σ.seat.actor (a.rest ++ a.tried) ++ l) answer) (sym count)
-          (told_unnamed f (large_directory heap) n found l (triples σ.seat.actor (a.rest ++ a.tried) ++ l) (a.rest ++ a.tried) answer none (a.told t v l stood (may_find f v heap c.locals met.locals)));
+      told = λ t v l stood met. subst (λ k. IsToldByDoor f (large_directory heap) k found l (triples σ.seat.actor (a.rest ++ a.tried) ++ l) (a.rest ++ a.tried) answer) (sym count)
+          (a.told t v l stood (may_find f v heap c.locals met.locals));
     })

@@ -15,7 +15,7 @@ use Rattle.pas_steps.specs.Desks.{Standing, triples, made}
 use Rattle.pas_steps.specs.declared.step.Made.{Made}
 use Rattle.pas_steps.specs.declared.step.Step.TheVariants.{Look}
 use Rattle.pas_large.specs.Named.{missed_steps}
-use Rattle.pas_large.specs.Telling.{IsToldLarge}
+use Rattle.pas_large.specs.Telling.{IsToldByDoor}
 use Rattle.pas_search.specs.Searches.{search_steps}
 use Rattle.pas_steps.specs.Unknown.{HasRoom, unknown_pages}
 use Rattle.pas_free_log.specs.declared.noting.EndedRun.{EndedRun}
@@ -74,8 +74,8 @@ most_events n (Err room) = 0
 -- The run that the door named or the search for one serves the request, the cache is as it was, and its actor is at rest again. The events are deeds of
 -- the directory that weren't known, and where the block is given backs after them, one for each page at most, and last the give. At most 56 steps for each
 -- page of the region, 12 for each page that is asked for, and 66 more, and where a run was named 48 more for each page that is asked for. On a desk that
--- tells the whole state, where no run was named, the block is on the lowest run of usable pages at entry, and a refusal comes only where there is none
--- then and none at exit, with its true reason.
+-- tells the whole state the block is on the run that was named wherever its pages are whole at entry, in at most 18 steps for each page and two more. In every
+-- other case it is on the lowest run of usable pages at entry, and a refusal comes only where there is none then and none at exit, with its true reason.
 pub record AllocatesPages (wanted : Wanted) (found : Option ℕ) (tells : Bool) (c c' : Cached) (desk desk' : Standing) (answer : Result Block NoRoom) : Type 0 where
   pub steps : List Made
   pub calls : Rests c c' desk desk' steps
@@ -84,15 +84,15 @@ pub record AllocatesPages (wanted : Wanted) (found : Option ℕ) (tells : Bool) 
   pub short : length steps ≤ 56 * desk.seat.profile.pages + 12 * pages_of wanted + missed_steps found (pages_of wanted) + 66
   pub few : MakesAtMost desk.seat.profile (AtRest desk.seat.profile c) (most_events (pages_of wanted) answer) steps
   pub outcome : MatchResult answer (IsBlockFor desk.seat.profile wanted (AtRest desk.seat.profile c) steps) (λ room. MakesDeedsOf wanted.directory steps)
-  pub told : found ≡ None → tells ≡ true → (v : View) (l : Whole) → desk.stands v l → AtRest desk.seat.profile c v → IsToldLarge desk.seat.profile wanted.directory (pages_of wanted) l (triples desk.seat.actor steps ++ l) answer
+  pub told : tells ≡ true → (v : View) (l : Whole) → desk.stands v l → AtRest desk.seat.profile c v → IsToldByDoor desk.seat.profile wanted.directory (pages_of wanted) found l (triples desk.seat.actor steps ++ l) steps answer
 
 -- ---- serve
 -- What is known of the run that was named for a request of this route: the door's answer where the request is for whole pages. For another request the
--- door isn't asked.
-abbrev pub IsNamed : Route → (Option ℕ → Type 0) → Option ℕ → Type 0
-IsNamed (Route.Class class) Answers found = found ≡ None
-IsNamed Route.Bitfit Answers found = found ≡ None
-IsNamed Route.Large Answers found = Answers found
+-- door isn't asked: none is named, and it is so of the door that nothing changed.
+abbrev pub IsNamed : Route → (Option ℕ → Type 0) → Type 0 → Option ℕ → Type 0
+IsNamed (Route.Class class) Answers Same found = (found ≡ None) × Same
+IsNamed Route.Bitfit Answers Same found = (found ≡ None) × Same
+IsNamed Route.Large Answers Same found = Answers found
 
 -- the actor may make a request of this route, for n pages where it is for whole ones, and what it comes to
 abbrev pub MayRequestBy : Route → Profile → Cached → ℕ → ℕ → View → Type 0
@@ -110,9 +110,9 @@ abbrev pub MayRequest : Profile → Wanted → Cached → ℕ → View → Type 
 MayRequest f wanted c spare v = MayRequestBy wanted.route f c (pages_of wanted) spare v
 
 -- A request goes by its route, with the run that the door named for it or none.
-pub record AllocatesRequest (Answers : Option ℕ → Type 0) (wanted : Wanted) (tells : Bool) (c c' : Cached) (desk desk' : Standing) (answer : Result Block NoRoom) : Type 0 where
+pub record AllocatesRequest (Answers : Option ℕ → Type 0) (Same : Type 0) (wanted : Wanted) (tells : Bool) (c c' : Cached) (desk desk' : Standing) (answer : Result Block NoRoom) : Type 0 where
   pub found : Option ℕ
-  pub named : IsNamed wanted.route Answers found
+  pub named : IsNamed wanted.route Answers Same found
   pub allocates : AllocatesBy wanted.route wanted found tells c c' desk desk' answer
 
 -- ---- settle

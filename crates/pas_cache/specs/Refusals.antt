@@ -1,10 +1,13 @@
--- When the refusal of a request is true of the states before and after it.
-use Rattle.std.specs.Prelude.{List}
+-- When the refusal of a request is true of the states before and after it, and when what a door named for it serves it.
+use Rattle.std.specs.Prelude.{ℕ, List, Option, Result}
 use Rattle.pas_profile.specs.declared.directory.Route.{Route}
 use Rattle.pas_profile.specs.declared.event.NoRoom.{NoRoom}
+use Rattle.pas_profile.specs.declared.name.Block.{Block}
 use Rattle.pas_profile.specs.declared.profile.Profile.{Profile}
 use Rattle.pas_steps.specs.Lists.{Whole}
 use Rattle.pas_search.specs.Telling.{IsTrueReason}
+use Rattle.pas_steps.specs.declared.step.Made.{Made}
+use Rattle.pas_large.specs.Alone.{GoesByDoor}
 use Rattle.pas_large.specs.Telling.{HasNoUsableRun}
 use Rattle.pas_segregated.specs.declared.slots.Slots.{Slots}
 use Rattle.pas_cache.specs.Serves.{Wanted, pages_of, IsTrueRefusal}
@@ -18,3 +21,13 @@ IsTrulyRefusedBy Route.Large f wanted locals entry exit room = HasNoUsableRun f 
 -- run of usable ones. The reason is true after.
 abbrev pub IsTrulyRefused : Profile → Wanted → List Slots → Whole → Whole → NoRoom → Type 0
 IsTrulyRefused f wanted locals entry exit room = IsTrulyRefusedBy wanted.route f wanted locals entry exit room
+
+-- ---- what a door names
+abbrev pub GoesByDoorOn : Route → Profile → Wanted → Option ℕ → Whole → List Made → Result Block NoRoom → Type 0
+GoesByDoorOn (Route.Class class) f wanted found l steps answer = Unit {0}
+GoesByDoorOn Route.Bitfit f wanted found l steps answer = Unit {0}
+GoesByDoorOn Route.Large f wanted found l steps answer = GoesByDoor f wanted.directory (pages_of wanted) found l steps answer
+
+-- Where a door named a run for a request for whole pages, the request is served on it exactly where its pages were whole before, the list l.
+abbrev pub TakesWhatIsNamed : Profile → Wanted → Option ℕ → Whole → List Made → Result Block NoRoom → Type 0
+TakesWhatIsNamed f wanted found l steps answer = GoesByDoorOn wanted.route f wanted found l steps answer

@@ -60,7 +60,7 @@ impl ThreadCache {
     /// Of a class: where the local allocator of the heap and the class has a slot, its lowest one is given in two steps. Otherwise one without a
     /// slot is left, the one used longest ago is stopped where 32 are there, and new slots are searched for, in shared pages where the heap is
     /// declared as shared: in the offered pages from the lowest up, then in the lowest page without a deed. A bit-fit request is served from the
-    /// heap's bit-fit pages, and nothing is cached. One for whole pages goes as `alloc_large` says; no other asks the door.
+    /// heap's bit-fit pages, and nothing is cached. One for whole pages goes as `alloc_large` says; no other asks the door, nor changes it.
     ///
     /// `NoSpace` and `Held` come where no page serves: `Held` with the lowest page of the directory that was in some actor's hands. There is room
     /// for two events, and for a third one where the deed of some page isn't known; for whole pages as `alloc_large` says.
@@ -75,7 +75,7 @@ impl ThreadCache {
     ) -> Result<Block, NoRoom>
         requires admitted { IsAdmitted (D.standing desk.old).seat.profile size align heap }
         requires can { CanCall (D.standing desk.old) (MayRequest (D.standing desk.old).seat.profile (wanted_for (D.standing desk.old).seat.profile heap size align) (cached self.old) (D.spare_of desk.old)) }
-        ensures allocates { AllocatesRequest (O.answers door.old door.new heap ((size + 4096 - 1) / 4096)) (wanted_for (D.standing desk.old).seat.profile heap size align) D.tells (cached self.old) (cached self.new) (D.standing desk.old) (D.standing desk.new) result }
+        ensures allocates { AllocatesRequest (O.answers door.old door.new heap ((size + 4096 - 1) / 4096)) (door.new ≡ door.old) (wanted_for (D.standing desk.old).seat.profile heap size align) D.tells (cached self.old) (cached self.new) (D.standing desk.old) (D.standing desk.new) result }
         ensures actor { seat_of self.new ≡ seat_of self.old }
         ensures home { D.home desk.new ≡ D.home desk.old }
     {

@@ -18,7 +18,7 @@ use Rattle.pas_steps.proofs.Adding.{Tells, adds_call, agreed_later, legal_after,
 use Rattle.pas_steps.proofs.Called.{call_then, next_call}
 use Rattle.pas_steps.proofs.Calls.{leads_then, leads_idly, does_then}
 use Rattle.pas_large.specs.Allocates.{GaveLarge, IsAllocatedLarge, IsRefusedLarge, AllocatesByScan, AllocatesLarge}
-use Rattle.pas_large.specs.Named.{ClaimsNamed}
+use Rattle.pas_large.specs.Named.{HoldsNamed, ClaimsNamed}
 use Rattle.pas_large.specs.Evidence.{TakenWholeHere}
 use Rattle.pas_large.specs.Telling.{IsNamedWhole, IsToldLarge}
 use Rattle.pas_large.proofs.Named.{named_steps}
@@ -27,7 +27,9 @@ use Rattle.pas_large.specs.Claims.{in_span, HasPages}
 use Rattle.pas_large.specs.Finds.{MayFind, FindRoom, LooksAlone, Finds}
 use Rattle.pas_rights.specs.Gives.{give_steps}
 use Rattle.pas_large.specs.Gives.{GivesRun}
-use Rattle.pas_large.specs.Pages.{GotPages, OnlyDeedsShow}
+use Rattle.pas_large.specs.Pages.{GotPages, OnlyDeedsShow, claiming_old}
+use Rattle.pas_search.specs.Kinds.{ReturnsDuly}
+use Rattle.pas_steps.specs.Past.{Always}
 use Rattle.pas_large.specs.Refusals.{IsReason, Refuses}
 use Rattle.pas_large.proofs.Claims.{has_got, room_after, span_in}
 use Rattle.std.specs.Prelude.{Bool}
@@ -171,20 +173,24 @@ can_scan {σ} {σ1} d n k claim spare spare1 can law law1 =
       });
     }
 
--- on a desk that tells the whole state its pages were whole at entry
+-- in a legal list its pages were whole before these steps
+pub holds_whole : (f : Profile) (k : ℕ) (l : Whole) (d : Directory) (n first : ℕ) (found : Option ℕ) (steps : List Made) → IsValid f → IsKind d.kind → MayFind d (part k l) → Legal f (triples k steps ++ l) → Only claiming_old steps → Always ReturnsDuly steps → GotPages (in_span first (first + n)) d (part k l) (steps ++ part k l)
+    → HoldsNamed f d n found steps first → IsNamedWhole f d n l found first
+holds_whole f k l d n first found steps valid kind met legal old returns got holds = record {
+  named = holds.named;
+  of_region = holds.of_region;
+  whole = λ p here.
+      let is = span_in first (first + n) p here.0 here.1 in
+      got_whole f k l d p valid kind met steps legal old returns (holds.of p is)
+      (λ g at. got.apart g (ap (in_span first (first + n)) at ∙ is))
+      (λ word lt. once_map (TakenWholeHere p word) (WholeHere p word) steps (λ m b h. h.0) (since_once (TakenWholeHere p word) (KeptHere p) steps (holds.holding.whole p word here.0 here.1 lt)));
+}
+
 named_whole : {σ σ1 : Standing} (d : Directory) (n first : ℕ) (found : Option ℕ) (claim : ClaimsNamed d n found σ σ1 (Some first)) → IsValid σ.seat.profile → IsKind d.kind → (v : View) (l : Whole) → part σ.seat.actor l ≡ v → MayFind d v → Agreed σ.seat.profile v claim.steps
     → Legal σ.seat.profile (triples σ.seat.actor claim.steps ++ l) → IsNamedWhole σ.seat.profile d n l found first
 named_whole {σ} d n first found claim valid kind v l own met agreed legal =
-    let got = claim.outcome.got.from v met agreed in
-    record {
-      named = claim.outcome.named;
-      of_region = claim.outcome.of_region;
-      whole = λ p here.
-          let is = span_in first (first + n) p here.0 here.1 in
-          got_whole σ.seat.profile σ.seat.actor l d p valid kind (subst (MayFind d) (sym own) met) claim.steps legal claim.old claim.returns (claim.outcome.of p is)
-          (λ g at. ap (λ u. holds u g) own ∙ got.apart g (ap (in_span first (first + n)) at ∙ is))
-          (λ word lt. once_map (TakenWholeHere p word) (WholeHere p word) claim.steps (λ m b h. h.0) (since_once (TakenWholeHere p word) (KeptHere p) claim.steps (claim.outcome.holding.whole p word here.0 here.1 lt)));
-    }
+    holds_whole σ.seat.profile σ.seat.actor l d n first found claim.steps valid kind (subst (MayFind d) (sym own) met) legal claim.old claim.returns
+    (subst (λ u. GotPages (in_span first (first + n)) d u (claim.steps ++ u)) (sym own) (claim.outcome.got.from v met agreed)) claim.outcome
 
 pub serves_named : {σ σ1 σ2 : Standing} (heap n first : ℕ) (found : Option ℕ) (tells : Bool) (claim : ClaimsNamed (large_directory heap) n found σ σ1 (Some first)) (block : Block) → IsValid σ.seat.profile → (tells ≡ true → Tells σ2)
     → (tells ≡ true → (v : View) (l : Whole) → σ.stands v l → part σ.seat.actor l ≡ v) → GivesRun (large_directory heap) first n block σ1 σ2 → AllocatesLarge heap n found tells σ σ2 (Ok block)

@@ -1,6 +1,8 @@
 -- A request for whole pages that is refused where no other actor made a step meanwhile, whatever its desk tells.
-use Rattle.std.proofs.Common.{◌≡◌, ℕ, ◌<◌, true, false, ◌⊎◌, Bool, List, ◌++◌, None, Result, Ok, Err, inl, inr, refl, ap, sym, ◌∙◌, subst, true≢false, append-nil}
+use Rattle.std.proofs.Common.{◌≡◌, ℕ, ◌*◌, ◌<◌, true, false, ◌⊎◌, Bool, List, ◌++◌, Option, Result, Ok, Err, inl, inr, refl, ap, sym, ◌∙◌, subst, true≢false}
 use Rattle.std.proofs.lemmas.Bool.{cases_eq}
+use Rattle.pas_profile.specs.Blocks.{address_of}
+use Rattle.pas_profile.specs.Directories.{IsKind}
 use Rattle.pas_profile.specs.Profiles.{IsValid, IsDirectoryOf}
 use Rattle.pas_profile.specs.declared.directory.Directory.{Directory}
 use Rattle.pas_profile.specs.declared.event.NoRoom.{NoRoom}
@@ -8,7 +10,12 @@ use Rattle.pas_profile.specs.declared.event.NoRoom.TheVariants.{Held}
 use Rattle.pas_profile.specs.declared.name.Block.{Block}
 use Rattle.pas_profile.specs.declared.profile.Profile.{Profile}
 use Rattle.pas_profile.proofs.Codecs.{deed_word_of-positive}
+use Rattle.pas_steps.specs.Agreement.{Agreed}
+use Rattle.pas_steps.specs.Calls.{nothing, Does}
 use Rattle.pas_steps.specs.Desks.{Standing, triples}
+use Rattle.pas_steps.specs.Past.{Always}
+use Rattle.pas_steps.proofs.Adding.{triples_append}
+use Rattle.pas_search.specs.Kinds.{ReturnsDuly}
 use Rattle.pas_steps.specs.Frames.{GivesUp}
 use Rattle.pas_steps.specs.Kinds.{looking, kind_of, is_in, Only}
 use Rattle.pas_steps.specs.Lists.{Whole, part, Legal}
@@ -18,7 +25,6 @@ use Rattle.pas_steps.specs.declared.step.Step.{Step}
 use Rattle.pas_steps.proofs.Apart.{only_both}
 use Rattle.pas_steps.proofs.Parts.{part_of_own, part_of_others}
 use Rattle.pas_steps.proofs.Past.{once_later}
-use Rattle.pas_core.specs.Rights.{AllRest}
 use Rattle.pas_core.proofs.Nexts.{agreed_steps}
 use Rattle.pas_core.proofs.OneActor.{legal_earlier, in_hands, is_with_own}
 use Rattle.pas_core.proofs.Rights.{own_eligible, spot_of, is_with, spotted}
@@ -26,12 +32,15 @@ use Rattle.pas_scan.specs.Runs.{large_directory}
 use Rattle.pas_scan.specs.Usable.{DeedReadHere}
 use Rattle.pas_search.specs.Telling.{IsInHands, IsTrueReason}
 use Rattle.pas_large.specs.Allocates.{IsRefusedLarge, IsServedNamed, IsScanned, AllocatesLarge}
-use Rattle.pas_large.specs.Alone.{FindsTheRunThereIs}
+use Rattle.pas_large.specs.Alone.{GoesByDoor, FindsTheRunThereIs}
 use Rattle.pas_large.specs.Evidence.{BadHere, IsVain}
 use Rattle.pas_large.specs.Finds.{MayFind, LooksAlone}
-use Rattle.pas_large.specs.Telling.{HasNoUsableRun}
-use Rattle.pas_large.proofs.Allocates.{scans_only}
+use Rattle.pas_large.specs.Pages.{claiming_old}
+use Rattle.pas_large.specs.Telling.{IsUsablePage, HasNoUsableRun, IsNamedWhole, TakesNamed}
+use Rattle.pas_large.proofs.Allocates.{scans_only, holds_whole}
+use Rattle.pas_large.proofs.Lifted.{find_again}
 use Rattle.pas_large.proofs.Told.{once_of, unusable_here}
+use Rattle.pas_large.proofs.ToldByDoor.{never_missed, usable_later}
 use Rattle.pas_large.proofs.ToldReasons.{none_after, true_reason}
 
 -- ---- looks alone lose and break no page
@@ -52,6 +61,14 @@ no_run f k l d n steps legal only vain first low le usable =
         | inr broken ↦ gives_up_look bad.0 m.step broken.left t.look
       ]
     ]) bad.2
+
+-- ---- who has rights
+-- nobody, where nobody had one before these steps, which leave all as it was
+nobody_after : (k : ℕ) (l : Whole) (xs : List Made) → Does nothing (part k l) (xs ++ part k l) → ((p j : ℕ) → has_right (part j l) p ≡ false) → (p j : ℕ) → has_right (part j (triples k xs ++ l)) p ≡ false
+nobody_after k l xs still none p j = elim (cases_eq k j) [
+  | inl same ↦ ap (λ (i : ℕ). has_right (part i (triples k xs ++ l)) p) (sym same) ∙ ap (λ v. has_right v p) (part_of_own k xs l) ∙ (still.right p ∙ none p k)
+  | inr other ↦ ap (λ v. has_right v p) (part_of_others j k xs l other) ∙ none p j
+]
 
 -- ---- the refusal is true
 -- the scan found no run, and where no other actor made a step meanwhile it made looks alone
@@ -85,39 +102,105 @@ module _ (f : Profile) (k : ℕ) (l : Whole) (d : Directory) (n : ℕ) (searched
   reason_after = true_reason f k l d (after ++ searched) legal only (agreed_steps f k l (after ++ searched) valid legal) (λ p of. once_later (DeedReadHere p) after searched (is.found.vain.deeds p of)) why is.reason
 
   -- ---- where nobody had a right before
-  nobody : AllRest f l → (p j : ℕ) → has_right (part j w) p ≡ false
-  nobody rest p j = elim (cases_eq k j) [
-    | inl same ↦ ap (λ (i : ℕ). has_right (part i w) p) (sym same) ∙ ap (λ v. has_right v p) (part_of_own k (after ++ searched) l) ∙ ((is.still.from (part k l) met (agreed_steps f k l (after ++ searched) valid legal)).right p ∙ rest.rights p k)
-    | inr other ↦ ap (λ v. has_right v p) (part_of_others j k (after ++ searched) l other) ∙ rest.rights p j
-  ]
+  nobody : ((p j : ℕ) → has_right (part j l) p ≡ false) → (p j : ℕ) → has_right (part j w) p ≡ false
+  nobody = nobody_after k l (after ++ searched) (is.still.from (part k l) met (agreed_steps f k l (after ++ searched) valid legal))
 
-  none_in_hands : IsDirectoryOf f d → AllRest f l → (p : ℕ) → IsInHands f d w p → ⊥
-  none_in_hands of rest p hands =
+  none_in_hands : IsDirectoryOf f d → ((p j : ℕ) → has_right (part j l) p ≡ false) → (p : ℕ) → IsInHands f d w p → ⊥
+  none_in_hands of none p hands =
       let at = spotted f w legal p in
       let with = in_hands (spot_of w p) _ at.deed (λ z. deed_word_of-positive d (sym hands.of_directory ∙ z)) (sym (own_eligible f w legal p d of hands.of_directory) ∙ hands.not_offered) (sym at.parked ∙ hands.not_parked) in
-      true≢false (sym (at.has with.0 ∙ ap (is_with with.0) with.1 ∙ is_with_own with.0) ∙ nobody rest p with.0)
+      true≢false (sym (at.has with.0 ∙ ap (is_with with.0) with.1 ∙ is_with_own with.0) ∙ nobody none p with.0)
 
-  pub none_held : IsDirectoryOf f d → AllRest f l → (p : ℕ) → why ≡ Held p → ⊥
-  none_held of rest p held = none_in_hands of rest p (subst (IsTrueReason f d w) held reason_after).0
+  pub none_held : IsDirectoryOf f d → ((p j : ℕ) → has_right (part j l) p ≡ false) → (p : ℕ) → why ≡ Held p → ⊥
+  none_held of none p held = none_in_hands of none p (subst (IsTrueReason f d w) held reason_after).0
 
--- ---- the whole request, where the door named no run
--- nothing was tried before the scan then
-pub scanned : (f : Profile) (d : Directory) (n : ℕ) (tried rest : List Made) (why : NoRoom) → IsServedNamed f d n None tried rest (Err why) ⊎ IsScanned f d n None tried rest (Err why) → (searched : List Made) × (after : List Made) × IsRefusedByScan f d n searched after why × (rest ++ tried ≡ after ++ searched)
-scanned f d n tried rest why (inl served) = absurd (let bad : Err why ≡ Ok served.0 = served.1 in cc)
-scanned f d n tried rest why (inr is) = (is.searched, is.after, record { is = is.own; alone = is.looked why refl }, ap (λ xs. rest ++ xs) (is.misses.unnamed refl) ∙ append-nil rest ∙ is.rest_is)
+-- ---- the whole request
+-- the run that was named, or the scan, after what was tried with that run
+abbrev IsOutcome : Profile → Directory → ℕ → Option ℕ → List Made → List Made → Result Block NoRoom → Type 0
+IsOutcome f d n found tried rest answer = IsServedNamed f d n found tried rest answer ⊎ IsScanned f d n found tried rest answer
+
+-- a refusal of it is true
+pub record IsRefusedAlone (f : Profile) (d : Directory) (n : ℕ) (l exit : Whole) (why : NoRoom) : Type 0 where
+  pub before : HasNoUsableRun f d n l
+  pub after : HasNoUsableRun f d n exit
+  pub reason : IsTrueReason f d exit why
+  pub not_held : IsDirectoryOf f d → ((p j : ℕ) → has_right (part j l) p ≡ false) → (p : ℕ) → why ≡ Held p → ⊥
+
+module _ (f : Profile) (k : ℕ) (l : Whole) (d : Directory) (n : ℕ) (found : Option ℕ) (tried rest : List Made) (valid : IsValid f) (kind : IsKind d.kind) (old : Only claiming_old tried) (returns : Always ReturnsDuly tried) (legal : Legal f (triples k (rest ++ tried) ++ l)) (met : MayFind d (part k l)) where
+  -- the state after what was tried
+  abbrev mid : Whole
+  mid = triples k tried ++ l
+
+  at_mid : Legal f mid
+  at_mid = legal_earlier f k rest tried l legal
+
+  agreed : Agreed f (part k l) tried
+  agreed = agreed_steps f k l tried valid at_mid
+
+  module _ (why : NoRoom) (is : IsScanned f d n found tried rest (Err why)) where
+    still : Does nothing (part k l) (tried ++ part k l)
+    still = is.misses.still.from (part k l) met agreed
+
+    exit_is : triples k (is.after ++ is.searched) ++ mid ≡ triples k (rest ++ tried) ++ l
+    exit_is = ap (λ xs. triples k xs ++ mid) (sym is.rest_is) ∙ triples_append k rest tried l
+
+    legal_mid : Legal f (triples k (is.after ++ is.searched) ++ mid)
+    legal_mid = subst (Legal f) (sym exit_is) legal
+
+    met_mid : MayFind d (part k mid)
+    met_mid = subst (MayFind d) (sym (part_of_own k tried l)) (find_again f d (part k l) tried met agreed still)
+
+    by_scan : IsRefusedByScan f d n is.searched is.after why
+    by_scan = record { is = is.own; alone = is.looked why refl }
+
+    later : (p : ℕ) → IsUsablePage d l p → IsUsablePage d mid p
+    later p = usable_later f k l d p valid kind met tried at_mid old returns (is.misses.left p) still
+
+    refused_scan : IsRefusedAlone f d n l (triples k (rest ++ tried) ++ l) why
+    refused_scan = record {
+      before = λ first low le usable. no_run_before f k mid d n is.searched is.after why valid by_scan legal_mid met_mid first low le (λ p here. later p (usable p here));
+      after = subst (HasNoUsableRun f d n) exit_is (no_run_after f k mid d n is.searched is.after why valid by_scan legal_mid met_mid);
+      reason = subst (λ x. IsTrueReason f d x why) exit_is (reason_after f k mid d n is.searched is.after why valid by_scan legal_mid met_mid);
+      not_held = λ of none. none_held f k mid d n is.searched is.after why valid by_scan legal_mid met_mid of (nobody_after k l tried still none);
+    }
+
+  pub refused_alone : (why : NoRoom) → IsOutcome f d n found tried rest (Err why) → IsRefusedAlone f d n l (triples k (rest ++ tried) ++ l) why
+  refused_alone why (inl served) = absurd (let bad : Err why ≡ Ok served.0 = served.1 in cc)
+  refused_alone why (inr is) = refused_scan why is
+
+  -- the named run serves exactly where it was whole
+  abbrev IsWholeThere : ℕ → Type 0
+  IsWholeThere first = IsNamedWhole f d n l found first
+
+  served_named : (answer : Result Block NoRoom) → IsOutcome f d n found tried rest answer → TakesNamed f d n found l (rest ++ tried) answer
+  served_named answer (inl served) first whole =
+      let is = served.2 in
+      let same : is.first ≡ first = let both = sym is.holds_it.named ∙ whole.named in cc in
+      (served.0, served.1, ap (λ (b : Block). address_of b.name) is.block_is ∙ ap (λ x. x * 4096) same, is.few)
+  served_named answer (inr is) first whole =
+      let miss = is.misses.missed first whole.named whole.of_region.0 whole.of_region.1 in
+      absurd (never_missed f k l d miss.0 valid kind met tried at_mid old (whole.whole miss.0 miss.1) miss.2)
+
+  scanned_else : (answer : Result Block NoRoom) → IsOutcome f d n found tried rest answer → ((first : ℕ) → IsWholeThere first → ⊥) → IsScanned f d n found tried rest answer
+  scanned_else answer (inl served) none = let is = served.2 in absurd (none is.first (holds_whole f k l d n is.first found tried valid kind met at_mid old returns (is.holds_it.got.from (part k l) met agreed) is.holds_it))
+  scanned_else answer (inr is) none = is
+
+  pub goes_by_door : (answer : Result Block NoRoom) → IsOutcome f d n found tried rest answer → GoesByDoor f d n found l (rest ++ tried) answer
+  goes_by_door answer outcome = record { served = served_named answer outcome; tried = tried; rest = rest; steps_are = refl; otherwise = scanned_else answer outcome }
 
 large_of : (f : Profile) (heap : ℕ) → heap < f.heaps → IsDirectoryOf f (large_directory heap)
 large_of f heap lt = record { heap = lt; kind = tt; class = tt }
 
-pub request_alone : {σ σ' : Standing} (heap n : ℕ) (tells : Bool) (answer : Result Block NoRoom) → (call : AllocatesLarge heap n None tells σ σ' answer) → (l : Whole) → IsValid σ.seat.profile → heap < σ.seat.profile.heaps
-    → Legal σ.seat.profile (triples σ.seat.actor (call.rest ++ call.tried) ++ l) → MayFind (large_directory heap) (part σ.seat.actor l) → FindsTheRunThereIs σ.seat.profile (large_directory heap) n l answer
-request_alone {σ} heap n tells answer call l valid lt legal met =
+pub request_alone : {σ σ' : Standing} (heap n : ℕ) (found : Option ℕ) (tells : Bool) (answer : Result Block NoRoom) → (call : AllocatesLarge heap n found tells σ σ' answer) → (l : Whole) → IsValid σ.seat.profile → heap < σ.seat.profile.heaps
+    → Legal σ.seat.profile (triples σ.seat.actor (call.rest ++ call.tried) ++ l) → MayFind (large_directory heap) (part σ.seat.actor l) → FindsTheRunThereIs σ.seat.profile (large_directory heap) n found l (call.rest ++ call.tried) answer
+request_alone {σ} heap n found tells answer call l valid lt legal met =
     let f = σ.seat.profile in
     let k = σ.seat.actor in
     let d = large_directory heap in
-    let refused : (why : NoRoom) → answer ≡ Err why → (searched : List Made) × (after : List Made) × IsRefusedByScan f d n searched after why × (call.rest ++ call.tried ≡ after ++ searched)
-    = λ why is. scanned f d n call.tried call.rest why (subst (λ a. IsServedNamed f d n None call.tried call.rest a ⊎ IsScanned f d n None call.tried call.rest a) is call.outcome) in
+    let refused : (why : NoRoom) → answer ≡ Err why → IsRefusedAlone f d n l (triples k (call.rest ++ call.tried) ++ l) why
+    = λ why is. refused_alone f k l d n found call.tried call.rest valid tt call.old call.returns legal met why (subst (IsOutcome f d n found call.tried call.rest) is call.outcome) in
     record {
-      none_usable = λ why is. let r = refused why is in no_run_before f k l d n r.0 r.1 why valid r.2 (subst (λ xs. Legal f (triples k xs ++ l)) r.3 legal) met;
-      not_held = λ rest page is. let r = refused (Held page) is in none_held f k l d n r.0 r.1 (Held page) valid r.2 (subst (λ xs. Legal f (triples k xs ++ l)) r.3 legal) met (large_of f heap lt) rest page refl;
+      by_door = goes_by_door f k l d n found call.tried call.rest valid tt call.old call.returns legal met answer call.outcome;
+      none_usable = λ why is. (refused why is).before;
+      not_held = λ rest page is. (refused (Held page) is).not_held (large_of f heap lt) (λ p j. rest.rights p j) page refl;
     }

@@ -1,5 +1,5 @@
 -- A request for whole pages, however its run was found: what its steps did.
-use Rattle.std.proofs.Common.{◌≡◌, ℕ, ◌+◌, ◌≤◌, true, List, ◌++◌, ◌∷◌, [], length, Option, None, Result, MatchResult, Ok, Err, inl, inr, refl, ap, sym, ◌∙◌, subst, true≢false, append_assoc, ◌⊎◌}
+use Rattle.std.proofs.Common.{◌≡◌, ℕ, ◌+◌, ◌≤◌, true, List, ◌++◌, ◌∷◌, [], length, Option, Result, MatchResult, Ok, Err, inl, inr, refl, ap, sym, ◌∙◌, subst, true≢false, append_assoc, ◌⊎◌}
 use Rattle.pas_profile.specs.declared.directory.Directory.{Directory}
 use Rattle.pas_profile.specs.declared.event.NoRoom.{NoRoom}
 use Rattle.pas_profile.specs.declared.name.Block.{Block}
@@ -18,9 +18,6 @@ use Rattle.pas_large.specs.Finds.{MayFind, finding}
 use Rattle.pas_rights.specs.Gives.{give_steps}
 use Rattle.pas_large.specs.Gives.{run_block}
 use Rattle.pas_large.specs.Pages.{OnlyDeedsShow, claiming_old}
-use Rattle.pas_large.specs.Telling.{IsToldLarge, IsToldByDoor}
-use Rattle.pas_large.proofs.Named.{some_none}
-use Rattle.pas_steps.specs.Lists.{Whole}
 use Rattle.pas_large.proofs.Pages.{shows_both}
 
 -- each deed that was made is of the directory
@@ -119,7 +116,3 @@ module _ (f : Profile) (d : Directory) (n : ℕ) (tried : List Made) (old : Only
 
   pub ended : (found : Option ℕ) (rest : List Made) (answer : Result Block NoRoom) → IsServedNamed f d n found tried rest answer ⊎ IsScanned f d n found tried rest answer → HasEnded f d n (rest ++ tried) answer
   ended found rest answer outcome = elim outcome [ inl served ↦ named_ended found rest answer served | inr scanned ↦ scan_ended rest answer scanned ]
-
--- where the door named no run
-pub told_unnamed : (f : Profile) (d : Directory) (n : ℕ) (found : Option ℕ) (entry exit : Whole) (steps : List Made) (answer : Result Block NoRoom) → found ≡ None → IsToldByDoor f d n found entry exit steps answer → IsToldLarge f d n entry exit answer
-told_unnamed f d n found entry exit steps answer none told = told.otherwise (λ first is. some_none first found is.named none)

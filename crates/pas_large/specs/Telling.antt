@@ -50,8 +50,11 @@ IsToldLarge f d n entry exit answer = MatchResult answer
     (λ block. (first : ℕ) × IsLowestRun f d n entry first × (address_of block.name ≡ first * 4096))
     (λ room. HasNoUsableRun f d n entry × HasNoUsableRun f d n exit × IsTrueReason f d exit room)
 
--- Where the run that the door named was whole at entry, the block is given on it, in at most 18 steps for each page and two more. In every other case the
--- lowest usable run is taken, as where the door named none.
+-- Where the run that the door named was whole at entry, the block is given on it, in at most 18 steps for each page and two more.
+abbrev pub TakesNamed : Profile → Directory → ℕ → Option ℕ → Whole → List Made → Result Block NoRoom → Type 0
+TakesNamed f d n found entry steps answer = (first : ℕ) → IsNamedWhole f d n entry found first → (block : Block) × (answer ≡ Ok block) × (address_of block.name ≡ first * 4096) × (length steps ≤ 18 * n + 2)
+
+-- In every other case the lowest usable run is taken, as where the door named none.
 pub record IsToldByDoor (f : Profile) (d : Directory) (n : ℕ) (found : Option ℕ) (entry exit : Whole) (steps : List Made) (answer : Result Block NoRoom) : Type 0 where
-  pub served : (first : ℕ) → IsNamedWhole f d n entry found first → (block : Block) × (answer ≡ Ok block) × (address_of block.name ≡ first * 4096) × (length steps ≤ 18 * n + 2)
+  pub served : TakesNamed f d n found entry steps answer
   pub otherwise : ((first : ℕ) → IsNamedWhole f d n entry found first → ⊥) → IsToldLarge f d n entry exit answer

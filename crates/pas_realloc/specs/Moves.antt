@@ -33,20 +33,21 @@ pub record MayMove (f : Profile) (c : Cached) (cost spare : ℕ) (v : View) : Ty
   pub rest : AtRest f c v
   pub room : cost + unknown_pages f v + flush_of_full c.log ≤ spare
 
--- It suits as it is: nothing was done.
-pub record Keeps (old : Block) (size align : ℕ) (c c' : Cached) (steps : List Made) : Type 0 where
+-- It suits as it is: nothing was done, and no door was asked.
+pub record Keeps (Same : Type 0) (old : Block) (size align : ℕ) (c c' : Cached) (steps : List Made) : Type 0 where
   pub suits : Suits old size align
   pub no_steps : steps ≡ []
   pub cache : c' ≡ c
+  pub door : Same
 
 -- It doesn't, and the request for another block in its heap was served. Then the old name was logged, and is the last that is.
-pub record Replaces (Answers : Option ℕ → Type 0) (f : Profile) (actor : ℕ) (wanted : Wanted) (old : Block) (size align : ℕ) (c c' : Cached) (steps : List Made) (block : Block) : Type 0 where
+pub record Replaces (Answers : Option ℕ → Type 0) (Same : Type 0) (f : Profile) (actor : ℕ) (wanted : Wanted) (old : Block) (size align : ℕ) (c c' : Cached) (steps : List Made) (block : Block) : Type 0 where
   pub unsuited : Suits old size align → ⊥
   pub placed : List Made
   pub freed : List Made
   pub between : Cached
   pub found : Option ℕ
-  pub named : IsNamed wanted.route Answers found
+  pub named : IsNamed wanted.route Answers Same found
   pub serves : ServesRequest f wanted found c between placed (Ok block)
   pub kinds : Only allocating placed
   pub block_for : IsBlockFor f wanted (AtRest f c) placed block
@@ -55,22 +56,22 @@ pub record Replaces (Answers : Option ℕ → Type 0) (f : Profile) (actor : ℕ
   pub steps_are : steps ≡ freed ++ placed
 
 -- .. or was refused, and nothing was logged
-pub record CannotMove (Answers : Option ℕ → Type 0) (f : Profile) (wanted : Wanted) (old : Block) (size align : ℕ) (c c' : Cached) (steps : List Made) (room : NoRoom) : Type 0 where
+pub record CannotMove (Answers : Option ℕ → Type 0) (Same : Type 0) (f : Profile) (wanted : Wanted) (old : Block) (size align : ℕ) (c c' : Cached) (steps : List Made) (room : NoRoom) : Type 0 where
   pub unsuited : Suits old size align → ⊥
   pub found : Option ℕ
-  pub named : IsNamed wanted.route Answers found
+  pub named : IsNamed wanted.route Answers Same found
   pub serves : ServesRequest f wanted found c c' steps (Err room)
   pub kinds : Only allocating steps
   pub ends : (k : ℕ) (v : View) → RefusalEnds wanted.route wanted.directory (events_by k v steps)
   pub same_log : c'.log ≡ c.log
 
-abbrev pub IsMoved : (Option ℕ → Type 0) → Profile → ℕ → Wanted → Block → ℕ → ℕ → Cached → Cached → List Made → Result Moved NoRoom → Type 0
-IsMoved Answers f actor wanted old size align c c' steps (Ok Kept) = Keeps old size align c c' steps
-IsMoved Answers f actor wanted old size align c c' steps (Ok (New block)) = Replaces Answers f actor wanted old size align c c' steps block
-IsMoved Answers f actor wanted old size align c c' steps (Err room) = CannotMove Answers f wanted old size align c c' steps room
+abbrev pub IsMoved : (Option ℕ → Type 0) → Type 0 → Profile → ℕ → Wanted → Block → ℕ → ℕ → Cached → Cached → List Made → Result Moved NoRoom → Type 0
+IsMoved Answers Same f actor wanted old size align c c' steps (Ok Kept) = Keeps Same old size align c c' steps
+IsMoved Answers Same f actor wanted old size align c c' steps (Ok (New block)) = Replaces Answers Same f actor wanted old size align c c' steps block
+IsMoved Answers Same f actor wanted old size align c c' steps (Err room) = CannotMove Answers Same f wanted old size align c c' steps room
 
 -- the actor is at rest before and afterwards
-pub record Moves (Answers : Option ℕ → Type 0) (wanted : Wanted) (old : Block) (size align : ℕ) (c c' : Cached) (desk desk' : Standing) (answer : Result Moved NoRoom) : Type 0 where
+pub record Moves (Answers : Option ℕ → Type 0) (Same : Type 0) (wanted : Wanted) (old : Block) (size align : ℕ) (c c' : Cached) (desk desk' : Standing) (answer : Result Moved NoRoom) : Type 0 where
   pub steps : List Made
   pub calls : Rests c c' desk desk' steps
-  pub moved : IsMoved Answers desk.seat.profile desk.seat.actor wanted old size align c c' steps answer
+  pub moved : IsMoved Answers Same desk.seat.profile desk.seat.actor wanted old size align c c' steps answer

@@ -39,7 +39,7 @@ pub fn reallocate<D: Desk, O: Door>(
     requires region { IsInRegion (D.standing desk.old).seat.profile old.name }
     requires turn { old.name.turn < 2 ^ 40 - 1 }
     requires can { CanCall (D.standing desk.old) (MayMove (D.standing desk.old).seat.profile (cached cache.old) (cost_of_size size) (D.spare_of desk.old)) }
-    ensures moves { Moves (O.answers door.old door.new old.heap ((size + 4096 - 1) / 4096)) (wanted_for (D.standing desk.old).seat.profile old.heap size align) old size align (cached cache.old) (cached cache.new) (D.standing desk.old) (D.standing desk.new) result }
+    ensures moves { Moves (O.answers door.old door.new old.heap ((size + 4096 - 1) / 4096)) (door.new ≡ door.old) (wanted_for (D.standing desk.old).seat.profile old.heap size align) old size align (cached cache.old) (cached cache.new) (D.standing desk.old) (D.standing desk.new) result }
     ensures home { D.home desk.new ≡ D.home desk.old }
 {
     if suits(old, size, align) {

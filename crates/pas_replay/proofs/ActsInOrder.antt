@@ -9,6 +9,8 @@ use Rattle.pas_report.specs.Rooms.{records_in, room_of, Records}
 use Rattle.pas_report.specs.declared.record.Record.{Record}
 use Rattle.pas_trace.specs.Acts.{Act, Wakes, is_active, numbers_from, active_threads, idle_threads, acts_of_op, acts_of_ops, phase_acts}
 use Rattle.pas_answers.specs.Answers.{Caches, Progress, with_records}
+use Rattle.pas_large.specs.Doors.{Indexes}
+use Rattle.pas_answers.specs.Indexes.{ReachesBy}
 use Rattle.pas_answers.specs.Reaching.{Advances}
 use Rattle.pas_plain.specs.declared.pass.PlainPass.{PlainPass}
 use Rattle.pas_answers.specs.Fit.{AreFit, cost_of_act, own_cost_of_act, unbacks_of_act}
@@ -18,7 +20,7 @@ use Rattle.pas_bits.specs.declared.mask.Mask4.{Mask4}
 use Rattle.pas_plans.specs.Awake.{awake_in, idle_in}
 use Rattle.pas_replay.specs.Sessions.{own_events, ActorStands, Replay, Hand, IsAt, SoFar}
 use Rattle.pas_plans.proofs.ActsLeft.{number_next, number_last, threads_alike}
-use Rattle.pas_replay.proofs.Turning.{free_act}
+use Rattle.pas_replay.proofs.Turning.{AsksNoIndex, free_act}
 
 -- ---- marks
 still_stands : {f : Profile} {k : ℕ} {slot : Option PlainPass} {l : Whole} (caches : Caches) (acts more : List Act) → own_events f k acts ≡ own_events f k more → ActorStands f k caches slot l acts → ActorStands f k caches slot l more
@@ -26,8 +28,8 @@ still_stands caches acts more same st = let room = st.room in record { pass = st
 
 -- no actor has a hand in a mark
 pub after_mark : {r : Replay} {more : List Act} {act : Act} {T : Type 0} {h : Hand} (out' : Records) (mark : Record) → T × SoFar r (act ∷ more) h → ((p : Progress) → Advances r.profile act p (with_records p (mark ∷ []))) → ((j : ℕ) → own_cost_of_act j act ≡ 0) → unbacks_of_act r.profile act ≡ 0 → cost_of_act r.profile act ≡ 1
-    → ((limit : ℕ) (asked : List ℕ) → AreFit r.profile limit asked (act ∷ more) → AreFit r.profile limit asked more) → records_in out' ≡ records_in h.out ++ mark ∷ [] → room_of out' ≡ room_of h.out → T × SoFar r more (record h { out = out' })
-after_mark {r} {more} {act} {T} {h} out' mark (taken, (p, at)) advances free none one fit pushed room =
+    → ((limit : ℕ) (asked : List ℕ) → AreFit r.profile limit asked (act ∷ more) → AreFit r.profile limit asked more) → AsksNoIndex r.profile act → records_in out' ≡ records_in h.out ++ mark ∷ [] → room_of out' ≡ room_of h.out → T × SoFar r more (record h { out = out' })
+after_mark {r} {more} {act} {T} {h} out' mark (taken, (p, at)) advances free none one fit asks pushed room =
     let names = at.names in
     let long = ap (λ (rs : List Record). length rs) pushed ∙ length-append (records_in h.out) (mark ∷ []) in
     let spare = at.spare in (
@@ -48,7 +50,10 @@ after_mark {r} {more} {act} {T} {h} out' mark (taken, (p, at)) advances free non
           caches_are = at.caches_are;
           records_are = pushed ∙ ap (λ (rs : List Record). rs ++ mark ∷ []) at.records_are;
           spare = omega (arith, long, spare, room, one);
-          answers = λ q rest. at.answers q (with_records p (mark ∷ []), advances p, rest);
+          answers = λ q rest.
+              let then = with_records p (mark ∷ []) in
+              let left = subst (λ (ix : Indexes). ReachesBy r.profile ix more then q) (sym (asks h.indexes p).0) rest in
+              at.answers q ((then, advances p, left.0), ((asks h.indexes p).1 then (advances p), left.1));
         },
       ),
     )

@@ -30,21 +30,23 @@ use Rattle.pas_acts.specs.AtDesks.{here, and_for, MayOperate, ThreadActs}
 use Rattle.pas_acts.proofs.AtDesk.{rests_for}
 use Rattle.pas_replay.specs.Sessions.{Slots, IsTaken, TakesSeat, Replay, HasNames, IsAt, SoFar}
 use Rattle.pas_replay.proofs.Threads.{there_is}
-use Rattle.pas_replay.proofs.Turning.{hand, thread_now, later_for, thread_turn}
+use Rattle.pas_large.specs.Doors.{Indexes}
+use Rattle.pas_replay.specs.Operating.{ActsByIndexes}
+use Rattle.pas_replay.proofs.Turning.{hand, AsksNoIndex, thread_now, later_for, thread_turn}
 
 -- ---- an act of a thread for which no name stands: it wakes, it is stopped where it is idle, it ends
-pub rests_now : {r : Replay} {more : List Act} {act : Act} {desk desk1 : PlainDesk} {passes passes1 : Slots} {caches : List ThreadCache} {places : ℕ} {table : Names} {out : Records} {p : Progress} (k extra : ℕ) (there : ThreadCache) → 1 ≤ k → k ≤ length caches → own_cost_of_act k act ≡ 0
-    → cost_of_act r.profile act ≡ extra → TakesSeat desk desk1 passes passes1 k → there ≡ get_or caches (k - 1) there → IsAt r (act ∷ more) (hand desk passes caches places table out) p → RestsAt r.profile k (standing_of desk1) (cached there) out (later_for r k p more extra) p
+pub rests_now : {r : Replay} {more : List Act} {act : Act} {desk desk1 : PlainDesk} {passes passes1 : Slots} {caches : List ThreadCache} {places : ℕ} {indexes : Indexes} {table : Names} {out : Records} {p : Progress} (k extra : ℕ) (there : ThreadCache) → 1 ≤ k → k ≤ length caches → own_cost_of_act k act ≡ 0
+    → cost_of_act r.profile act ≡ extra → TakesSeat desk desk1 passes passes1 k → there ≡ get_or caches (k - 1) there → IsAt r (act ∷ more) (hand desk passes caches places indexes table out) p → RestsAt r.profile k (standing_of desk1) (cached there) out (later_for r k p more extra) p
 rests_now {more = more} {caches = caches} {p = p} k extra there some within own cost seat is at =
     rests_for (thread_now k 0 extra more some within seat (there_is p.caches caches k there some within at.caches_are is) (omega (arith, own)) (omega (arith, cost)) at) (omega arith) (omega arith)
 
-pub act_turn : {r : Replay} {more : List Act} {act : Act} {desk desk1 desk2 : PlainDesk} {passes passes1 : Slots} {caches : List ThreadCache} {places : ℕ} {table : Names} {out out1 out2 : Records} {p : Progress} {told : List Record} {extra : ℕ} (k : ℕ) (there cache : ThreadCache)
-    → 1 ≤ k → k ≤ length caches → ((j : ℕ) → own_cost_of_act j act ≡ 0) → unbacks_of_act r.profile act ≡ 0 → ((limit : ℕ) (asked : List ℕ) → AreFit r.profile limit asked (act ∷ more) → AreFit r.profile limit asked more) → TakesSeat desk desk1 passes passes1 k → there ≡ get_or caches (k - 1) there
-    → IsAt r (act ∷ more) (hand desk passes caches places table out) p → (did : ThreadActs r.profile k (act ∷ []) [] told (here (standing_of desk1) (cached there) out) (here (standing_of desk2) (cached cache) out1) (later_for r k p more extra) p) → length told ≤ extra
-    → records_in out2 ≡ records_in out1 ++ told → room_of out2 ≡ room_of out1 → IsTaken desk2 passes1 × IsAt r more (hand desk2 passes1 (set caches (k - 1) cache) places table out2) did.reached
-act_turn {r} {more} {act} {caches = caches} {table = table} {p = p} k there cache some within free none fit seat is at did few added room =
+pub act_turn : {r : Replay} {more : List Act} {act : Act} {desk desk1 desk2 : PlainDesk} {passes passes1 : Slots} {caches : List ThreadCache} {places : ℕ} {indexes : Indexes} {table : Names} {out out1 out2 : Records} {p : Progress} {told : List Record} {extra : ℕ} (k : ℕ) (there cache : ThreadCache)
+    → 1 ≤ k → k ≤ length caches → ((j : ℕ) → own_cost_of_act j act ≡ 0) → unbacks_of_act r.profile act ≡ 0 → ((limit : ℕ) (asked : List ℕ) → AreFit r.profile limit asked (act ∷ more) → AreFit r.profile limit asked more) → AsksNoIndex r.profile act → TakesSeat desk desk1 passes passes1 k → there ≡ get_or caches (k - 1) there
+    → IsAt r (act ∷ more) (hand desk passes caches places indexes table out) p → (did : ThreadActs r.profile k (act ∷ []) [] told (here (standing_of desk1) (cached there) out) (here (standing_of desk2) (cached cache) out1) (later_for r k p more extra) p) → length told ≤ extra
+    → records_in out2 ≡ records_in out1 ++ told → room_of out2 ≡ room_of out1 → IsTaken desk2 passes1 × IsAt r more (hand desk2 passes1 (set caches (k - 1) cache) places indexes table out2) did.reached
+act_turn {r} {more} {act} {caches = caches} {indexes = indexes} {table = table} {p = p} k there cache some within free none fit asks seat is at did few added room =
     let names = at.names in
-    thread_turn k cache some within seat (there_is p.caches caches k there some within at.caches_are is) (omega (arith, none)) (λ j ne. let own = free j in omega (arith, own)) at did
+    thread_turn k cache some within seat (there_is p.caches caches k there some within at.caches_are is) (omega (arith, none)) (λ j ne. let own = free j in omega (arith, own)) at did ((asks indexes p).1 did.reaches.0 did.reaches.1, tt) (sym (asks indexes p).0)
     (subst (λ (ns : List Named). HasNames r.profile more table ns) (sym did.names) record { asked = names.asked; fit = fit (names_held table) names.asked names.fit; tells = names.tells; stand = names.stand; known = names.known }) at.operate.1 few added room
 
 -- what a name stands for once another or itself was set
@@ -53,8 +55,8 @@ set_stands f true came old new is now before = subst (MayStand f) (sym is) now
 set_stands f false came old new is now before = subst (MayStand f) (sym is) before
 
 -- ---- an operation of thread k, which asks for `what`
-pub may_operate : {r : Replay} {more : List Act} {op : Op} {what : What} {desk desk1 : PlainDesk} {passes passes1 : Slots} {caches : List ThreadCache} {places : ℕ} {table : Names} {out : Records} {p : Progress} {meant : Option Block} (k : ℕ) (there : ThreadCache) → op.actor ≡ k → op.what ≡ what → 1 ≤ k → k ≤ length caches
-    → TakesSeat desk desk1 passes passes1 k → there ≡ get_or caches (k - 1) there → meant ≡ freed_by (block_named table) what → IsAt r (Operates op ∷ (Settles op.actor ∷ more)) (hand desk passes caches places table out) p
+pub may_operate : {r : Replay} {more : List Act} {op : Op} {what : What} {desk desk1 : PlainDesk} {passes passes1 : Slots} {caches : List ThreadCache} {places : ℕ} {indexes : Indexes} {table : Names} {out : Records} {p : Progress} {meant : Option Block} (k : ℕ) (there : ThreadCache) → op.actor ≡ k → op.what ≡ what → 1 ≤ k → k ≤ length caches
+    → TakesSeat desk desk1 passes passes1 k → there ≡ get_or caches (k - 1) there → meant ≡ freed_by (block_named table) what → IsAt r (Operates op ∷ (Settles op.actor ∷ more)) (hand desk passes caches places indexes table out) p
     → MayOperate r.profile op.actor op.what meant (here (standing_of desk1) (cached there) out) (later_for r op.actor p more 0) p
 may_operate {r} {more} {op} {desk1 = desk1} {caches = caches} {table = table} {out} {p} k there mine asks some within seat is means at =
     let cost = if_same (op.actor == k) (cost_of_what op.what) (eq-eqb op.actor k mine) in
@@ -73,14 +75,15 @@ may_operate {r} {more} {op} {desk1 = desk1} {caches = caches} {table = table} {o
 other_cost : (op : Op) (k j : ℕ) → op.actor ≡ k → j ≢ k → (if op.actor == j then cost_of_what op.what else 0) ≡ 0
 other_cost op k j mine ne = ap (λ (t : Bool). if t then cost_of_what op.what else 0) (ne_eqb op.actor j (λ e. ne (sym e ∙ mine)))
 
-pub operate_turn : {r : Replay} {more : List Act} {op : Op} {what : What} {desk desk1 desk2 : PlainDesk} {passes passes1 : Slots} {caches : List ThreadCache} {places : ℕ} {table table' : Names} {out out' : Records} {p : Progress} (k : ℕ) (came : Option Block) (there cache : ThreadCache)
-    → op.actor ≡ k → op.what ≡ what → 1 ≤ k → k ≤ length caches → TakesSeat desk desk1 passes passes1 k → there ≡ get_or caches (k - 1) there → IsAt r (Operates op ∷ (Settles op.actor ∷ more)) (hand desk passes caches places table out) p
-    → ThreadActs r.profile op.actor (Operates op ∷ (Settles op.actor ∷ [])) (named_by op.what came) [] (here (standing_of desk1) (cached there) out) (here (standing_of desk2) (cached cache) out') (later_for r op.actor p more 0) p
-    → names_held table' ≡ names_held table → Tells table' (named_by what came ++ p.names) → AllMayStand r.profile table' → IsTaken desk2 passes1 × SoFar r more (hand desk2 passes1 (set caches (k - 1) cache) places table' out')
-operate_turn {r} {more} {op} {desk1 = desk1} {desk2} {caches = caches} {table = table} {table'} {out} {out'} {p} k came there cache mine asks some within seat is at acted held tells stand =
+pub operate_turn : {r : Replay} {more : List Act} {op : Op} {what : What} {desk desk1 desk2 : PlainDesk} {passes passes1 : Slots} {caches : List ThreadCache} {places : ℕ} {indexes indexes' : Indexes} {table table' : Names} {out out' : Records} {p : Progress} (k : ℕ) (came : Option Block) (there cache : ThreadCache)
+    → op.actor ≡ k → op.what ≡ what → 1 ≤ k → k ≤ length caches → TakesSeat desk desk1 passes passes1 k → there ≡ get_or caches (k - 1) there → IsAt r (Operates op ∷ (Settles op.actor ∷ more)) (hand desk passes caches places indexes table out) p
+    → ActsByIndexes r.profile op.actor op indexes indexes' (named_by op.what came) (here (standing_of desk1) (cached there) out) (here (standing_of desk2) (cached cache) out') (later_for r op.actor p more 0) p
+    → names_held table' ≡ names_held table → Tells table' (named_by what came ++ p.names) → AllMayStand r.profile table' → IsTaken desk2 passes1 × SoFar r more (hand desk2 passes1 (set caches (k - 1) cache) places indexes' table' out')
+operate_turn {r} {more} {op} {desk1 = desk1} {desk2} {caches = caches} {indexes = indexes} {indexes'} {table = table} {table'} {out} {out'} {p} k came there cache mine asks some within seat is at acted held tells stand =
     let names = at.names in
-    let did = subst (λ (j : ℕ). ThreadActs r.profile j (Operates op ∷ (Settles op.actor ∷ [])) (named_by op.what came) [] (here (standing_of desk1) (cached there) out) (here (standing_of desk2) (cached cache) out') (later_for r j p more 0) p) mine acted in
-    let so = thread_turn k cache some within seat (there_is p.caches caches k there some within at.caches_are is) (omega arith) (λ j ne. let none = other_cost op k j mine ne in omega (arith, none)) at did
+    let all = subst (λ (j : ℕ). ActsByIndexes r.profile j op indexes indexes' (named_by op.what came) (here (standing_of desk1) (cached there) out) (here (standing_of desk2) (cached cache) out') (later_for r j p more 0) p) mine acted in
+    let did = all.0 in
+    let so = thread_turn k cache some within seat (there_is p.caches caches k there some within at.caches_are is) (omega arith) (λ j ne. let none = other_cost op k j mine ne in omega (arith, none)) at did all.1 all.2
     (subst (λ (ns : List Named). HasNames r.profile more table' ns) (sym did.names) record {
       asked = asked_after op.what names.asked;
       fit = subst (λ (limit : ℕ). AreFit r.profile limit (asked_after op.what names.asked) more) (sym held) names.fit.2;

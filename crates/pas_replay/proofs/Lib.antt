@@ -7,3 +7,4 @@ mod Opening
 mod StartAndEnd
 mod PlansOfOne
 mod RecordsOfOne
+mod Doors

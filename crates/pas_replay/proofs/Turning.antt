@@ -25,9 +25,11 @@ use Rattle.pas_answers.specs.Answers.{Progress, Named, Caches}
 use Rattle.pas_answers.specs.Calls.{owed_events}
 use Rattle.pas_answers.specs.Fit.{AreFit, AreOfThreads, costs_of, own_costs_of, own_cost_of_act, unbacks_of_act, unbacks_of}
 use Rattle.pas_answers.specs.Names.{names_held}
-use Rattle.pas_answers.specs.Reaching.{Reaches}
+use Rattle.pas_large.specs.Doors.{Indexes}
+use Rattle.pas_answers.specs.Indexes.{indexes_after, indexes_after_all, ActIsNamedBy, AllAreNamedBy, ReachesBy}
+use Rattle.pas_answers.specs.Reaching.{Advances}
 use Rattle.pas_answers.specs.declared.names.Names.{Names}
-use Rattle.pas_answers.proofs.Reached.{reach_both}
+use Rattle.pas_answers.proofs.Reached.{named_both}
 use Rattle.pas_acts.specs.Works.{Later, Sits}
 use Rattle.pas_acts.specs.Turns.{RestsAt, Moves}
 use Rattle.pas_acts.specs.AtDesks.{here, and_for, ThreadActs, for_act, HasRoomAt, ScavengerActs}
@@ -56,20 +58,20 @@ may_take desk actors k within taken at =
     record { taken = taken; place = omega (arith, sized, places, many, within, threads); own = may_sit at.profile_is at.stands (at.each k (omega (arith, within, many, threads))) }
 
 -- what is in hand while an actor sits there
-abbrev pub hand : PlainDesk → Slots → List ThreadCache → ℕ → Names → Records → Hand
-hand desk passes caches places table out = record { region = region_of desk; passes = risen desk passes; caches = caches; places = places; table = table; out = out }
+abbrev pub hand : PlainDesk → Slots → List ThreadCache → ℕ → Indexes → Names → Records → Hand
+hand desk passes caches places indexes table out = record { region = region_of desk; passes = risen desk passes; caches = caches; places = places; indexes = indexes; table = table; out = out }
 
 -- .. is what was in hand before it sat down
-pub sat_down : {r : Replay} {acts : List Act} {desk desk' : PlainDesk} {passes passes' : Slots} {k : ℕ} {caches : List ThreadCache} {places : ℕ} {table : Names} {out : Records} {p : Progress} → TakesSeat desk desk' passes passes' k
-    → IsAt r acts (hand desk passes caches places table out) p → IsAt r acts (hand desk' passes' caches places table out) p
-sat_down {r} {acts} {desk} {desk'} {passes} {passes'} {k} {caches} {places} {table} {out} {p} seat at =
-    subst (λ (ps : Slots). IsAt r acts (record { region = region_of desk'; passes = ps; caches = caches; places = places; table = table; out = out }) p) (sym seat.passes_are)
-    (subst (λ (x : PlainRegion). IsAt r acts (record { region = x; passes = risen desk passes; caches = caches; places = places; table = table; out = out }) p) (sym seat.region_is) at)
+pub sat_down : {r : Replay} {acts : List Act} {desk desk' : PlainDesk} {passes passes' : Slots} {k : ℕ} {caches : List ThreadCache} {places : ℕ} {indexes : Indexes} {table : Names} {out : Records} {p : Progress} → TakesSeat desk desk' passes passes' k
+    → IsAt r acts (hand desk passes caches places indexes table out) p → IsAt r acts (hand desk' passes' caches places indexes table out) p
+sat_down {r} {acts} {desk} {desk'} {passes} {passes'} {k} {caches} {places} {indexes} {table} {out} {p} seat at =
+    subst (λ (ps : Slots). IsAt r acts (record { region = region_of desk'; passes = ps; caches = caches; places = places; indexes = indexes; table = table; out = out }) p) (sym seat.passes_are)
+    (subst (λ (x : PlainRegion). IsAt r acts (record { region = x; passes = risen desk passes; caches = caches; places = places; indexes = indexes; table = table; out = out }) p) (sym seat.region_is) at)
 
 -- ---- at the desk
-module _ {r : Replay} {acts : List Act} {desk0 desk : PlainDesk} {passes0 passes : Slots} {caches : List ThreadCache} {places : ℕ} {table : Names} {out : Records} {p : Progress} (k : ℕ) (within : k ≤ length caches) (seat : TakesSeat desk0 desk passes0 passes k)
-    (before : IsAt r acts (hand desk0 passes0 caches places table out) p) where
-  at : IsAt r acts (hand desk passes caches places table out) p
+module _ {r : Replay} {acts : List Act} {desk0 desk : PlainDesk} {passes0 passes : Slots} {caches : List ThreadCache} {places : ℕ} {indexes : Indexes} {table : Names} {out : Records} {p : Progress} (k : ℕ) (within : k ≤ length caches) (seat : TakesSeat desk0 desk passes0 passes k)
+    (before : IsAt r acts (hand desk0 passes0 caches places indexes table out) p) where
+  at : IsAt r acts (hand desk passes caches places indexes table out) p
   at = sat_down seat before
 
   le : k ≤ r.profile.threads
@@ -123,10 +125,14 @@ other_stands {f} {j} {k} {slot} {slot'} {l} {l'} caches caches' acts more steps 
       room = omega (arith, events, owed, room, free);
     }
 
+-- ---- acts that ask no index for a run and change none
+abbrev pub AsksNoIndex : Profile → Act → Type 0
+AsksNoIndex f act = (indexes : Indexes) (p : Progress) → (indexes_after f act p indexes ≡ indexes) × ((q : Progress) (is : Advances f act p q) → ActIsNamedBy f indexes act p q is)
+
 -- ---- the turn
 -- Actor k did acts at the desk, after which `more` are left: it came from p to q. It sits there again, and the acts cost others nothing.
-pub record Turned (f : Profile) (k : ℕ) (acts more : List Act) (desk desk' : PlainDesk) (p q : Progress) : Type 0 where
-  pub reaches : (r : Progress) → Reaches f more q r → Reaches f acts p r
+pub record Turned (f : Profile) (k : ℕ) (acts more : List Act) (indexes indexes' : Indexes) (desk desk' : PlainDesk) (p q : Progress) : Type 0 where
+  pub reaches : (r : Progress) → ReachesBy f indexes' more q r → ReachesBy f indexes acts p r
   pub moves : Moves k (rests f p.caches k) (rests f q.caches k) (standing_of desk) (standing_of desk') p q
   pub sits : Sits f k (rests f q.caches k) (standing_of desk') (part k q.list) (owes f q.caches k (part k q.list) + own_events f k more)
   pub kept : (j : ℕ) → j ≢ k → q.caches j ≡ p.caches j
@@ -142,8 +148,8 @@ pub record HaveInHand (r : Replay) (more : List Act) (caches : List ThreadCache)
   pub records_are : records_in out ≡ q.records
   pub spare : length (records_in out) + (owed_by r.profile q.list q.caches r.threads + costs_of r.profile more) ≤ room_of out
 
-module _ {r : Replay} {acts more : List Act} {desk0 desk desk' : PlainDesk} {passes0 passes : Slots} {caches caches' : List ThreadCache} {places places' : ℕ} {table table' : Names} {out out' : Records} {p q : Progress} (k : ℕ) (within : k ≤ length caches)
-    (seat : TakesSeat desk0 desk passes0 passes k) (before : IsAt r acts (hand desk0 passes0 caches places table out) p) (x : Turned r.profile k acts more desk desk' p q) (have : HaveInHand r more caches' places' table' out' q) where
+module _ {r : Replay} {acts more : List Act} {desk0 desk desk' : PlainDesk} {passes0 passes : Slots} {caches caches' : List ThreadCache} {places places' : ℕ} {indexes indexes' : Indexes} {table table' : Names} {out out' : Records} {p q : Progress} (k : ℕ) (within : k ≤ length caches)
+    (seat : TakesSeat desk0 desk passes0 passes k) (before : IsAt r acts (hand desk0 passes0 caches places indexes table out) p) (x : Turned r.profile k acts more indexes indexes' desk desk' p q) (have : HaveInHand r more caches' places' table' out' q) where
   stood_then : DeskStands desk' (x.moves.steps ++ part k p.list) q.list
   stood_then = subst (λ (l : Whole). DeskStands desk' (x.moves.steps ++ part k p.list) l) (ap (λ (m : ℕ). triples m x.moves.steps ++ p.list) seat.actor_is ∙ sym x.moves.list_is)
       (x.moves.calls.adds.added (part k p.list) p.list (stood_now k within seat before) (before.each k (le k within seat before)).rest)
@@ -162,7 +168,7 @@ module _ {r : Replay} {acts more : List Act} {desk0 desk desk' : PlainDesk} {pas
   same_slot j ne = put_elsewhere passes (actor_of (pass_of desk')) j (Some (pass_of desk')) (λ (e : j ≡ actor_of (pass_of desk')). ne (e ∙ x.sits.actor))
       ∙ sym (put_elsewhere passes (actor_of (pass_of desk)) j (Some (pass_of desk)) (λ (e : j ≡ actor_of (pass_of desk)). ne (e ∙ seat.actor_is))) ∙ ap (λ (ps : Slots). pass_in ps j) seat.passes_are
 
-  pub turn : IsTaken desk' passes × IsAt r more (hand desk' passes caches' places' table' out') q
+  pub turn : IsTaken desk' passes × IsAt r more (hand desk' passes caches' places' indexes' table' out') q
   turn = (
     let lt = has_place k within seat before in let actor = x.sits.actor in omega (arith, actor, lt),
     record {
@@ -193,10 +199,10 @@ later_for r k p more extra =
     record { events = own_costs_of k more; records = (owed_by r.profile p.list p.caches r.threads - owed_events r.profile (p.caches k) (part k p.list)) + (costs_of r.profile more + extra) }
 
 -- it rests at the desk, with room for acts of this cost
-pub thread_now : {r : Replay} {acts : List Act} {desk0 desk : PlainDesk} {passes0 passes : Slots} {caches : List ThreadCache} {places : ℕ} {table : Names} {out : Records} {p : Progress} {c : Cached} (k cost extra : ℕ) (more : List Act) → 1 ≤ k → k ≤ length caches → TakesSeat desk0 desk passes0 passes k
-    → p.caches k ≡ c → own_costs_of k acts ≡ cost + own_costs_of k more → costs_of r.profile acts ≡ cost + (extra + costs_of r.profile more) → IsAt r acts (hand desk0 passes0 caches places table out) p → RestsAt r.profile k (standing_of desk) c out (and_for cost (later_for r k p more extra)) p
+pub thread_now : {r : Replay} {acts : List Act} {desk0 desk : PlainDesk} {passes0 passes : Slots} {caches : List ThreadCache} {places : ℕ} {indexes : Indexes} {table : Names} {out : Records} {p : Progress} {c : Cached} (k cost extra : ℕ) (more : List Act) → 1 ≤ k → k ≤ length caches → TakesSeat desk0 desk passes0 passes k
+    → p.caches k ≡ c → own_costs_of k acts ≡ cost + own_costs_of k more → costs_of r.profile acts ≡ cost + (extra + costs_of r.profile more) → IsAt r acts (hand desk0 passes0 caches places indexes table out) p → RestsAt r.profile k (standing_of desk) c out (and_for cost (later_for r k p more extra)) p
 thread_now zero cost extra more some most seat cache own costs at = absurd (omega (arith, some))
-thread_now {r} {acts} {desk0} {desk} {passes0} {passes} {caches} {places} {table} {out} {p} {c} (suc i) cost extra more some most seat cache own costs at =
+thread_now {r} {acts} {desk0} {desk} {passes0} {passes} {caches} {places} {indexes} {table} {out} {p} {c} (suc i) cost extra more some most seat cache own costs at =
     let f = r.profile in
     let many = at.many in
     let least = owed_at f p.list p.caches (suc i) r.threads some (omega (arith, most, many)) in
@@ -213,12 +219,12 @@ free_of : {k : ℕ} (f : Profile) (acts more : List Act) → unbacks_of f acts �
 free_of f acts more none others zero ne = none
 free_of f acts more none others (suc i) ne = others (suc i) ne
 
-pub thread_turn : {r : Replay} {first more : List Act} {desk0 desk desk' : PlainDesk} {passes0 passes : Slots} {caches : List ThreadCache} {places : ℕ} {table table' : Names} {out out1 out2 : Records} {p : Progress} {c : Cached} {came : List Named} {told : List Record} {extra : ℕ}
+pub thread_turn : {r : Replay} {first more : List Act} {desk0 desk desk' : PlainDesk} {passes0 passes : Slots} {caches : List ThreadCache} {places : ℕ} {indexes indexes' : Indexes} {table table' : Names} {out out1 out2 : Records} {p : Progress} {c : Cached} {came : List Named} {told : List Record} {extra : ℕ}
     (k : ℕ) (cache : ThreadCache) → 1 ≤ k → k ≤ length caches → TakesSeat desk0 desk passes0 passes k → p.caches k ≡ c → unbacks_of r.profile (first ++ more) ≡ unbacks_of r.profile more → ((j : ℕ) → j ≢ k → own_costs_of j (first ++ more) ≡ own_costs_of j more)
-    → IsAt r (first ++ more) (hand desk0 passes0 caches places table out) p → (did : ThreadActs r.profile k first came told (here (standing_of desk) c out) (here (standing_of desk') (cached cache) out1) (later_for r k p more extra) p) → HasNames r.profile more table' did.reached.names
-    → AreOfThreads r.threads more → length told ≤ extra → records_in out2 ≡ records_in out1 ++ told → room_of out2 ≡ room_of out1 → IsTaken desk' passes × IsAt r more (hand desk' passes (set caches (k - 1) cache) places table' out2) did.reached
-thread_turn zero cache some most seat was none others at did names operate few added room = absurd (omega (arith, some))
-thread_turn {r} {first} {more} {desk0} {desk} {desk'} {passes0} {passes} {caches} {places} {table} {table'} {out} {out1} {out2} {p} {c} {came} {told} {extra} (suc i) cache some most seat was none others at did names operate few added room =
+    → IsAt r (first ++ more) (hand desk0 passes0 caches places indexes table out) p → (did : ThreadActs r.profile k first came told (here (standing_of desk) c out) (here (standing_of desk') (cached cache) out1) (later_for r k p more extra) p) → AllAreNamedBy r.profile indexes first p did.reached did.reaches → indexes' ≡ indexes_after_all r.profile first p did.reached did.reaches indexes
+    → HasNames r.profile more table' did.reached.names → AreOfThreads r.threads more → length told ≤ extra → records_in out2 ≡ records_in out1 ++ told → room_of out2 ≡ room_of out1 → IsTaken desk' passes × IsAt r more (hand desk' passes (set caches (k - 1) cache) places indexes' table' out2) did.reached
+thread_turn zero cache some most seat was none others at did named after names operate few added room = absurd (omega (arith, some))
+thread_turn {r} {first} {more} {desk0} {desk} {desk'} {passes0} {passes} {caches} {places} {indexes} {indexes'} {table} {table'} {out} {out1} {out2} {p} {c} {came} {told} {extra} (suc i) cache some most seat was none others at did named after names operate few added room =
     let f = r.profile in
     let k = suc i in
     let q = did.reached in
@@ -234,7 +240,7 @@ thread_turn {r} {first} {more} {desk0} {desk} {desk'} {passes0} {passes} {caches
     let owed = ap (λ (d : Cached). owed_events f d (part k q.list)) now in
     let longer = ap (λ (rs : List Record). length rs) added ∙ length-append (records_in out1) told in
     let spare = did.stands.spare in
-    turn k most seat at record { reaches = λ s rest. reach_both f first more p q s did.reaches rest; moves = moves; sits = sits; kept = did.caches; free = free_of f (first ++ more) more none others }
+    turn k most seat at record { reaches = λ s rest. named_both f indexes first more p q s did.reaches named (subst (λ (ix : Indexes). ReachesBy f ix more q s) after rest); moves = moves; sits = sits; kept = did.caches; free = free_of f (first ++ more) more none others }
     record {
       many = length-set caches (k - 1) cache ∙ at.many;
       operate = operate;
@@ -249,7 +255,7 @@ thread_turn {r} {first} {more} {desk0} {desk} {desk'} {passes0} {passes} {caches
 abbrev pub later_of : Replay → Progress → List Act → Later
 later_of r p more = record { events = unbacks_of r.profile more; records = owed_by r.profile p.list p.caches r.threads + costs_of r.profile more }
 
-pub scavenger_now : {r : Replay} {more : List Act} {act : Act} {desk0 desk : PlainDesk} {passes0 passes : Slots} {caches : List ThreadCache} {places : ℕ} {table : Names} {out : Records} {p : Progress} → TakesSeat desk0 desk passes0 passes 0 → IsAt r (act ∷ more) (hand desk0 passes0 caches places table out) p
+pub scavenger_now : {r : Replay} {more : List Act} {act : Act} {desk0 desk : PlainDesk} {passes0 passes : Slots} {caches : List ThreadCache} {places : ℕ} {indexes : Indexes} {table : Names} {out : Records} {p : Progress} → TakesSeat desk0 desk passes0 passes 0 → IsAt r (act ∷ more) (hand desk0 passes0 caches places indexes table out) p
     → HasRoomAt r.profile (standing_of desk) out (for_act r.profile act (later_of r p more)) p
 scavenger_now seat at = let spare = at.spare in record { sits = sits_for (sits_now 0 (omega arith) seat at) (omega arith); spare = omega (arith, spare) }
 
@@ -258,10 +264,10 @@ pub free_act : (f : Profile) (act : Act) (more : List Act) → ((j : ℕ) → ow
 free_act f act more free zero none = let is = none refl in omega (arith, is)
 free_act f act more free (suc i) none = let is = free (suc i) in omega (arith, is)
 
-pub scavenger_turn : {r : Replay} {more : List Act} {act : Act} {desk0 desk desk' : PlainDesk} {passes0 passes : Slots} {caches : List ThreadCache} {places places' : ℕ} {table : Names} {out out' : Records} {p : Progress} → TakesSeat desk0 desk passes0 passes 0
-    → ((j : ℕ) → own_cost_of_act j act ≡ 0) → ((limit : ℕ) (asked : List ℕ) → AreFit r.profile limit asked (act ∷ more) → AreFit r.profile limit asked more) → IsAt r (act ∷ more) (hand desk0 passes0 caches places table out) p
-    → (did : ScavengerActs r.profile act (standing_of desk) (standing_of desk') out out' (later_of r p more) p) → places' ≡ places → IsTaken desk' passes × IsAt r more (hand desk' passes caches places' table out') did.reached
-scavenger_turn {r} {more} {act} {desk0} {desk} {desk'} {passes0} {passes} {caches} {places} {places'} {table} {out} {out'} {p} seat free fit at did same =
+pub scavenger_turn : {r : Replay} {more : List Act} {act : Act} {desk0 desk desk' : PlainDesk} {passes0 passes : Slots} {caches : List ThreadCache} {places places' : ℕ} {indexes : Indexes} {table : Names} {out out' : Records} {p : Progress} → TakesSeat desk0 desk passes0 passes 0
+    → ((j : ℕ) → own_cost_of_act j act ≡ 0) → ((limit : ℕ) (asked : List ℕ) → AreFit r.profile limit asked (act ∷ more) → AreFit r.profile limit asked more) → AsksNoIndex r.profile act → IsAt r (act ∷ more) (hand desk0 passes0 caches places indexes table out) p
+    → (did : ScavengerActs r.profile act (standing_of desk) (standing_of desk') out out' (later_of r p more) p) → places' ≡ places → IsTaken desk' passes × IsAt r more (hand desk' passes caches places' indexes table out') did.reached
+scavenger_turn {r} {more} {act} {desk0} {desk} {desk'} {passes0} {passes} {caches} {places} {places'} {indexes} {table} {out} {out'} {p} seat free fit asks at did same =
     let f = r.profile in
     let q = did.reached in
     let names = at.names in
@@ -270,7 +276,7 @@ scavenger_turn {r} {more} {act} {desk0} {desk} {desk'} {passes0} {passes} {cache
     let owed = owed_kept f p.list q.list p.caches q.caches 0 r.threads (λ j low high e. omega (arith, low, e)) kept alike in
     let spare = did.stands.spare in
     turn 0 (omega arith) seat at record {
-      reaches = λ s rest. reach_both f (act ∷ []) more p q s did.reaches rest;
+      reaches = λ s rest. named_both f indexes (act ∷ []) more p q s did.reaches ((asks indexes p).1 did.reaches.0 did.reaches.1, tt) (subst (λ (ix : Indexes). ReachesBy f ix more q s) (sym (asks indexes p).0) rest);
       moves = did.moves;
       sits = sits_for did.stands.sits (omega arith);
       kept = alike;

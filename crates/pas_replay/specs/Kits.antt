@@ -5,6 +5,7 @@ use Rattle.pas_trace.specs.Plans.{bounds_of}
 use Rattle.pas_trace.specs.declared.plan.Plan.{Plan}
 use Rattle.pas_plain.specs.Plain.{profile_of, actor_of, room_of_pass, RegionStands, PassStands}
 use Rattle.pas_plain.specs.declared.pass.PlainPass.{PlainPass}
+use Rattle.pas_large.specs.Doors.{no_ranges}
 use Rattle.pas_answers.specs.Fit.{AllBelow}
 use Rattle.pas_answers.specs.Names.{block_named, names_held}
 use Rattle.pas_answers.specs.Replays.{phases_of, region_of, threads_of}
@@ -21,7 +22,7 @@ pub record IsFresh (plan : Plan) (k : ℕ) (slot : Option PlainPass) : Type 0 wh
   pub stands : PassStands (region_of plan) pass []
   pub room : room_of_pass pass ≡ slice_index (bounds_of plan.bounds) k
 
--- a pass for each actor of the region, and a cache for each thread
+-- a pass for each actor of the region, a cache for each thread, and an index for each heap, which holds nothing
 pub record IsKitOf (plan : Plan) (kit : PlainKit) : Type 0 where
   pub profile : profile_of kit.region ≡ region_of plan
   pub opening : RegionStands kit.region []
@@ -29,6 +30,7 @@ pub record IsKitOf (plan : Plan) (kit : PlainKit) : Type 0 where
   pub fresh : (k : ℕ) → k < (region_of plan).threads + 1 → IsFresh plan k (pass_in kit.actors.passes.items k)
   pub unused : AreUnused (threads_of plan) kit.actors.caches.items
   pub places : places_of kit.actors.outcomes ≡ (region_of plan).pages
+  pub indexes : kit.actors.indexes.items ≡ no_ranges (region_of plan).heaps
   pub no_name : (name : ℕ) → block_named kit.names name ≡ None
   pub names : AllBelow (names_held kit.names) (phases_of plan)
   pub none_left : kit.passes.items ≡ []

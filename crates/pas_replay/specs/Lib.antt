@@ -1,3 +1,4 @@
 pub mod Sessions
 pub mod Kits
 pub mod OneThread
+pub mod Operating

@@ -21,7 +21,8 @@ use Rattle.pas_answers.specs.Answers.{Progress, Named, Caches}
 use Rattle.pas_answers.specs.Calls.{Tells, AllMayStand, AreKnown, owed_events}
 use Rattle.pas_answers.specs.Fit.{AreFit, AreOfThreads, costs_of, own_costs_of, unbacks_of}
 use Rattle.pas_answers.specs.Names.{names_held}
-use Rattle.pas_answers.specs.Reaching.{Reaches}
+use Rattle.pas_large.specs.Doors.{Indexes, no_ranges}
+use Rattle.pas_answers.specs.Indexes.{ReachesBy}
 use Rattle.pas_answers.specs.Replays.{at_start}
 use Rattle.pas_answers.specs.declared.names.Names.{Names}
 use Rattle.pas_replay.specs.declared.seats.Actors.{Actors}
@@ -116,6 +117,7 @@ pub record Hand : Type 0 where
   pub passes : Slots
   pub caches : List ThreadCache
   pub places : ℕ
+  pub indexes : Indexes
   pub table : Names
   pub out : Records
 
@@ -126,6 +128,7 @@ hand_of region actors table out = record {
   passes = actors.passes.items;
   caches = actors.caches.items;
   places = places_of actors.outcomes;
+  indexes = actors.indexes.items;
   table = table;
   out = out;
 }
@@ -137,6 +140,7 @@ hand_at desk actors table out = record {
   passes = risen desk actors.passes.items;
   caches = actors.caches.items;
   places = places_of actors.outcomes;
+  indexes = actors.indexes.items;
   table = table;
   out = out;
 }
@@ -149,8 +153,8 @@ pub record HasNames (f : Profile) (acts : List Act) (table : Names) (names : Lis
   pub stand : AllMayStand f table
   pub known : AreKnown asked names
 
--- These acts of the replay are left, and it came as far as p: wherever they take it from here, all of its acts take it from the start. Each actor of the
--- region stands. There is a cache for each thread. The threads are actors of the region, those operations are theirs, and beside them only the scavenger
+-- These acts of the replay are left, and it came as far as p: wherever they take it from here, with the runs that the indexes name, all of its acts take it
+-- from the start, where the indexes held nothing. Each actor of the region stands. There is a cache for each thread. The threads are actors of the region, those operations are theirs, and beside them only the scavenger
 -- made steps. There is room for what the acts may make.
 pub record IsAt (r : Replay) (acts : List Act) (h : Hand) (p : Progress) : Type 0 where
   pub profile_is : profile_of h.region ≡ r.profile
@@ -166,7 +170,7 @@ pub record IsAt (r : Replay) (acts : List Act) (h : Hand) (p : Progress) : Type 
   pub caches_are : AreCaches p.caches h.caches
   pub records_are : records_in h.out ≡ p.records
   pub spare : length (records_in h.out) + (owed_by r.profile p.list p.caches r.threads + costs_of r.profile acts) ≤ room_of h.out
-  pub answers : (q : Progress) → Reaches r.profile acts p q → Reaches r.profile r.acts at_start q
+  pub answers : (q : Progress) → ReachesBy r.profile h.indexes acts p q → ReachesBy r.profile (no_ranges r.profile.heaps) r.acts at_start q
 
 abbrev pub SoFar : Replay → List Act → Hand → Type 0
 SoFar r acts h = (p : Progress) × IsAt r acts h p

@@ -5,11 +5,13 @@ ghost use Rattle.pas_trace.specs.Plans.{IsPlanOf};
 ghost use Rattle.pas_report.specs.Rooms.{records_in, room_of};
 ghost use Rattle.pas_answers.specs.Replays.{phases_of, Shows};
 ghost use Rattle.pas_answers.specs.Ways.{InOrder};
+ghost use Rattle.pas_large.specs.Doors.{no_ranges};
 ghost use Rattle.pas_replay.specs.Kits.{IsKitOf};
 
 use crate::order::replay;
 use crate::seats::Actors;
 use pas_answers::names::Names;
+use pas_large_index::LargeIndex;
 use pas_plain::{PlainPass, PlainRegion, close};
 use pas_plans::{caches_for, outcomes_from, rooms_of};
 use pas_profile::NoMemory;
@@ -19,7 +21,7 @@ use pas_trace::Plan;
 use pas_utility::Utility;
 use std::alloc::Global;
 
-/// All that a replay needs: the region, the actors with their passes and caches, and the table of names. Once it is made nothing takes
+/// All that a replay needs: the region, the actors with their passes and caches, an index for each heap, and the table of names. Once it is made nothing takes
 /// memory.
 #[derive(Drop)]
 pub struct PlainKit {
@@ -48,6 +50,19 @@ fn places_for(
     Ok(places)
 }
 
+/// An index for each of so many heaps, which holds nothing. NoMemory where memory was wanting; an index has some 4 KB.
+fn indexes_for(alloc: Global, heaps: u8) -> Result<Vec<LargeIndex>, NoMemory>
+    ensures { IfOk result (λ indexes. indexes.items ≡ no_ranges heaps) }
+{
+    let Ok(mut indexes) = Vec::with_capacity(alloc, heaps as usize) else {
+        return Err(NoMemory);
+    };
+    for _heap in 0..heaps {
+        indexes.push_reserved(LargeIndex::new());
+    }
+    Ok(indexes)
+}
+
 impl PlainKit {
     /// The kit of a plan. NoMemory where memory was wanting. Costs one pass over the words of the region and over the names.
     pub fn try_new(alloc: Global, plan: &Plan) -> Result<PlainKit, NoMemory>
@@ -64,6 +79,7 @@ impl PlainKit {
             passes: places,
             caches,
             outcomes: outcomes_from(&mut utility),
+            indexes: indexes_for(alloc, plan.profile.heaps)?,
         };
         Ok(PlainKit {
             region,
@@ -75,7 +91,8 @@ impl PlainKit {
 }
 
 /// Replays the plan in the order of the text, and says what was done. The state of the region at the end, at which no actor holds a grain, has
-/// a right or owes anything. A request is refused only where nothing could serve it then. Takes no memory.
+/// a right or owes anything. A request is refused only where nothing could serve it then. One for whole pages asks the index of its heap, which names the
+/// first pages of its lowest range that is long enough: these serve exactly where each is one of the heap's large pages, offered and free. Takes no memory.
 pub fn in_order(plan: &Plan, kit: PlainKit, out: &mut Records) -> State
     requires plan { (text : List ℕ) × (length text ≤ 16777216) × IsPlanOf text plan.now }
     requires kit { IsKitOf plan.now kit }

@@ -2,14 +2,17 @@
 ghost use Rattle.std.specs.Prelude.{◌≡◌, ◌≢◌, ◌<◌, ◌-◌, ◌≤◌, ◌++◌, ℕ, List, [], ◌∷◌, length, option_and_then, slice_set};
 ghost use Rattle.pas_profile.specs.declared.profile.Profile.{Profile as TheProfile};
 ghost use Rattle.pas_plain.specs.Plain.{actor_of};
-ghost use Rattle.pas_plain.specs.Seats.{pass_of};
+ghost use Rattle.pas_plain.specs.Seats.{pass_of, standing_of};
 ghost use Rattle.pas_cache.specs.Caches.{cached};
 ghost use Rattle.pas_cache.specs.declared.cache.ThreadCache.{ThreadCache as TheCache};
 ghost use Rattle.pas_report.specs.Rooms.{Records as TheRecords};
 ghost use Rattle.pas_trace.specs.Asked.{request_of, freed_of};
 ghost use Rattle.pas_trace.specs.Acts.{Act, Operates, Settles, Ticks, MakesPass, ReadsEpoch, StopsIdle, Wakes, Ends};
-ghost use Rattle.pas_answers.specs.Answers.{Named};
-ghost use Rattle.pas_answers.specs.Calls.{what_of, Tells, MayStand, AllMayStand, named_with};
+ghost use Rattle.pas_answers.specs.Answers.{Named, Progress};
+ghost use Rattle.pas_acts.specs.Works.{Later};
+ghost use Rattle.pas_acts.specs.AtDesks.{here, MayOperate};
+ghost use Rattle.pas_replay.specs.Operating.{ActsByIndexes};
+ghost use Rattle.pas_answers.specs.Calls.{what_of, Tells, MayStand, AllMayStand, named_with, named_by};
 ghost use Rattle.pas_trace.specs.declared.plan.Op.{Op as TheOp};
 ghost use Rattle.pas_answers.specs.Fit.{IsFitWhat};
 ghost use Rattle.pas_answers.specs.Names.{block_named, names_held};
@@ -20,6 +23,8 @@ use pas_acts::at_desk::SCAVENGER;
 use pas_acts::{at_desk, turns};
 use pas_answers::names::Names;
 use pas_cache::ThreadCache;
+use pas_large::PlainDoor;
+use pas_large_index::LargeIndex;
 use pas_plain::{PlainDesk, PlainPass, PlainRegion};
 use pas_profile::Block;
 use pas_report::{Record, Records, Said};
@@ -36,6 +41,8 @@ pub(crate) struct Actors {
     pub(crate) caches: Vec<ThreadCache>,
     /// The scavenger's list for what a pass comes to.
     pub(crate) outcomes: Outcomes,
+    /// By heap: the pages where large blocks ended, which a large request is given first.
+    pub(crate) indexes: Vec<LargeIndex>,
 }
 
 /// The actor of this number sits down at the region's desk.
@@ -128,8 +135,26 @@ pub(crate) fn wake(desk: &mut PlainDesk, actors: &mut Actors, actor: u8)
     turns::begin(desk, cache);
 }
 
-/// The thread of this number does the task, and its events and what is said come to the records. The runs of large blocks that its cache noted are handed
-/// on. This answers each operation of the thread that asks for the task.
+/// The desk's thread does the task, with the indexes as its door. This answers each operation of the thread that asks for the task.
+fn operate_by(
+    desk: &mut PlainDesk,
+    indexes: &mut Vec<LargeIndex>,
+    cache: &mut ThreadCache,
+    task: Task,
+    meant: Option<Block>,
+    out: &mut Records,
+) -> Option<Block>
+    requires stands { (f : TheProfile) × (op : TheOp) × (later : Later) × (p : Progress) × (op.what ≡ what_of task) × MayOperate f op.actor op.what meant (here (standing_of desk.old) (cached cache.old) out.old) later p }
+    ensures operates { (f : TheProfile) (op : TheOp) (later : Later) (p : Progress) → op.what ≡ what_of task → MayOperate f op.actor op.what meant (here (standing_of desk.old) (cached cache.old) out.old) later p
+        → ActsByIndexes f op.actor op indexes.old.items indexes.new.items (named_by op.what result) (here (standing_of desk.old) (cached cache.old) out.old) (here (standing_of desk.new) (cached cache.new) out.new) later p }
+    ensures stands { MayStand (standing_of desk.old).seat.profile result }
+{
+    let mut door = PlainDoor::new(indexes);
+    at_desk::operate(desk, &mut door, cache, task, meant, out)
+}
+
+/// The thread of this number does the task, and its events and what is said come to the records. A request for whole pages asks the indexes, and they take
+/// the runs of large blocks that its cache noted. This answers each operation of the thread that asks for the task.
 #[inline(always)]
 pub(crate) fn operate(
     desk: &mut PlainDesk,
@@ -149,7 +174,7 @@ pub(crate) fn operate(
     take_seat(desk, &mut actors.passes, actor);
     let cache = &mut actors.caches[actor as usize - 1];
     let meant = freed(names, task);
-    let came = at_desk::operate(desk, cache, task, meant, out);
+    let came = operate_by(desk, &mut actors.indexes, cache, task, meant, out);
     keep(names, task, came);
 }
 

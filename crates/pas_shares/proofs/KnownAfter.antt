@@ -16,7 +16,7 @@ same_known asked is known = subst (λ (s : Progress). AreKnown asked s.names) (s
 
 known_one : (f : Profile) (act : Act) (asked : List ℕ) (p q : Progress) → Advances f act p q → AreKnown asked p.names → AreKnown (asked_after_act act asked) q.names
 known_one f (Operates op) asked p q did known = same_known (asked_after_act (Operates op) asked) did.2
-    (known_after f op.actor op.what asked p.names did.0.names (part op.actor p.list) (p.caches op.actor) did.0.cache did.0.steps did.0.said did.1 known)
+    (known_after f op.actor op.what asked p.names did.0.names (part op.actor p.list) (p.caches op.actor) did.0.cache did.0.steps did.0.said did.0.found did.1 known)
 known_one f act asked p q did known = subst (AreKnown asked) (sym (put_on f act p q did).2) known
 
 pub are_known : AreKnownAfter

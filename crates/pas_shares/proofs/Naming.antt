@@ -35,7 +35,7 @@ asked_more false block o old none is = none is
 -- the same answer by all names
 pub record Retold (f : Profile) (k : ℕ) (what : What) (asked : List ℕ) (names : List Named) (v : View) (c : Cached) (a : Answer) : Type 0 where
   pub after : List Named
-  pub answered : IsAnswered f k what (having names v c) (answer_of a.steps a.said after a.cache)
+  pub answered : IsAnswered f k what (having names v c) (answer_of a.steps a.said a.found after a.cache)
   pub own : AreAmong a.names after
   pub others : (few : List Named) → AreAmong few names → AreAmong few after
   pub only_asked : OnlyAsked (asked_after what asked) after
@@ -47,7 +47,7 @@ freed_same f k c c1 name room None many steps said sub is = absurd is
 freed_same f k c c1 name room (Some b) many steps said sub is = subst (λ (o : Option (Option Block)). IsFreedBy f k c c1 name room o steps said) (sym (sub b refl)) is
 
 keeps_names : (f : Profile) (k : ℕ) (what : What) (asked : List ℕ) (few names : List Named) (v : View) (c : Cached) (a : Answer)
-    → a.names ≡ few → AreAmong few names → OnlyAsked (asked_after what asked) names → IsAnswered f k what (having names v c) (answer_of a.steps a.said names a.cache) → Retold f k what asked names v c a
+    → a.names ≡ few → AreAmong few names → OnlyAsked (asked_after what asked) names → IsAnswered f k what (having names v c) (answer_of a.steps a.said a.found names a.cache) → Retold f k what asked names v c a
 keeps_names f k what asked few names v c a same among only answered = record {
   after = names;
   answered = answered;

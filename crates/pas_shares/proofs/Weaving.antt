@@ -47,7 +47,7 @@ operates_one f owner limit asked op p before after fit only share did =
     let c = share.caches k refl in
     let here : IsAnswered f k op.what (having before.names (part k p.list) (p.caches k)) a = subst (λ (d : Cached). IsAnswered f k op.what (having before.names (part k p.list) d) a) c (subst (λ (u : View). IsAnswered f k op.what (having before.names u (before.caches k)) a) v did.1) in
     let again = retold f limit k op.what asked before.names p.names (part k p.list) (p.caches k) a share.names only fit here in
-    let b = answer_of a.steps a.said again.after a.cache in
+    let b = answer_of a.steps a.said a.found again.after a.cache in
     let piece = records_of (events_by k (part k p.list) a.steps) ++ said_by k a.said in
     let each = piece_of k (part k p.list) a.steps a.said in
     let same : after ≡ with_records (record (with_steps before k a.steps a.cache) { names = a.names }) piece = did.2 ∙ ap (λ (u : View). with_records (record (with_steps before k a.steps a.cache) { names = a.names }) (records_of (events_by k u a.steps) ++ said_by k a.said)) v in

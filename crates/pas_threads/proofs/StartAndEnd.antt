@@ -317,7 +317,7 @@ shows {plan} {region} {team} passes {written} {state} valid of_profile replayed 
     record {
       whole = after.whole;
       replay = replays OnThreads plan replayed.end after.whole written valid replayed.answers same replayed.written_are after.legal
-          (λ k. subst HasNothing (sym (same k)) (bare_at replayed.stands replayed.empty k)) tt;
+          (λ k. subst HasNothing (sym (same k)) (bare_at replayed.stands replayed.empty k)) tt tt;
       profile = closed.profile;
       words = after.words;
     }

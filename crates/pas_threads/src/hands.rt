@@ -12,8 +12,10 @@ use crate::scavenger::{Scavenger, keep_up};
 use crate::workers::{Worker, perform};
 use pas_acts::gate::Gate;
 use pas_acts::names::NameBook;
+use pas_large_index::LargeIndex;
 use pas_shared::SharedRegion;
 use pas_trace::Op;
+use std::sync::{Mutex, Wait};
 use std::thread::{Threads, for_each_mut};
 
 /// The most hands of a phase: those of 16 threads and the scavenger.
@@ -29,21 +31,30 @@ pub(crate) enum Hand {
 }
 
 /// The hand does its operations of the phase.
-fn act<G: Gate>(region: &SharedRegion, book: &NameBook, hand: &mut Hand, ops: &[Op], gate: &G)
+fn act<R: Wait, G: Gate>(
+    rt: &R,
+    region: &SharedRegion,
+    indexes: &[Mutex<LargeIndex>],
+    book: &NameBook,
+    hand: &mut Hand,
+    ops: &[Op],
+    gate: &G,
+)
     requires few { length ops.now < 2 ^ 32 }
     requires may { MayAct region.now book.now ops.now hand.old }
     ensures did { DidAct region.now book.now ops.now hand.old hand.new }
 {
     match hand {
-        Hand::Thread(worker) => perform(region, book, worker, ops, gate),
+        Hand::Thread(worker) => perform(rt, region, indexes, book, worker, ops, gate),
         Hand::Scavenger(scavenger) => keep_up(region, scavenger, ops, gate),
     }
 }
 
-/// All hands at once, each in a thread of its own. Nothing waits but the end, for all of them.
-fn act_all<R: Threads + Sync, G: Gate + Sync>(
+/// All hands at once, each in a thread of its own. The end waits for all of them, and a hand for the lock of an index.
+fn act_all<R: Threads + Wait + Sync, G: Gate + Sync>(
     rt: &R,
     region: &SharedRegion,
+    indexes: &[Mutex<LargeIndex>],
     book: &NameBook,
     hands: &mut Vec<Hand>,
     ops: &[Op],
@@ -59,7 +70,7 @@ fn act_all<R: Threads + Sync, G: Gate + Sync>(
         rt,
         hands,
         MOST_HANDS,
-        &|_, hand| act(region, book, hand, ops, gate),
+        &|_, hand| act(rt, region, indexes, book, hand, ops, gate),
     );
 }
 
@@ -77,9 +88,10 @@ fn pop_scavenger(hands: &mut Vec<Hand>) -> Scavenger
 }
 
 /// The hands act, and with them the scavenger where one of the operations is its own. The scavenger, as it is then.
-pub(crate) fn act_with<R: Threads + Sync, G: Gate + Sync>(
+pub(crate) fn act_with<R: Threads + Wait + Sync, G: Gate + Sync>(
     rt: &R,
     region: &SharedRegion,
+    indexes: &[Mutex<LargeIndex>],
     book: &NameBook,
     hands: &mut Vec<Hand>,
     scavenger: Scavenger,
@@ -97,10 +109,10 @@ pub(crate) fn act_with<R: Threads + Sync, G: Gate + Sync>(
     ensures place { vec_capacity hands.new ≡ vec_capacity hands.old }
 {
     if !busy {
-        act_all(rt, region, book, hands, ops, gate);
+        act_all(rt, region, indexes, book, hands, ops, gate);
         return scavenger;
     }
     hands.push_reserved(Hand::Scavenger(scavenger));
-    act_all(rt, region, book, hands, ops, gate);
+    act_all(rt, region, indexes, book, hands, ops, gate);
     pop_scavenger(hands)
 }

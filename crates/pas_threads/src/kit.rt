@@ -5,19 +5,23 @@ ghost use Rattle.pas_shared.specs.Passes.{profile_of_opening};
 ghost use Rattle.pas_threads.specs.Kits.{IsKitOf};
 
 use crate::ahead::{Ahead, Spare};
-use crate::making::{move_rooms, team_for};
+use crate::making::{indexes_for, move_rooms, team_for};
 use crate::phases::Team;
+use pas_large_index::LargeIndex;
 use pas_plans::rooms_of;
 use pas_profile::{EventRoom, NoMemory};
 use pas_shared::{Opening, SharedPass, SharedRegion};
 use pas_trace::Plan;
 use pas_utility::Utility;
 use std::alloc::Global;
+use std::sync::Mutex;
 
-/// All that a replay on threads needs: the region, the workers of all actors with their rooms, and the names. Once it is made nothing takes memory.
+/// All that a replay on threads needs: the region, an index for each heap, the workers of all actors with their rooms, and the names. Once it is made nothing takes memory.
 #[derive(Drop)]
 pub struct SharedKit {
     pub(crate) region: SharedRegion,
+    /// By heap: the pages where large blocks ended, which a large request is given first. Each has a lock of its own.
+    pub(crate) indexes: Vec<Mutex<LargeIndex>>,
     pub(crate) team: Team,
     /// None yet, with a place for that of each actor: with them the region is closed.
     pub(crate) passes: Vec<SharedPass>,
@@ -79,8 +83,10 @@ impl SharedKit {
         let Ok(passes) = Vec::with_capacity(alloc, count as usize + 1) else {
             return Err(NoMemory);
         };
+        let indexes = indexes_for(alloc, plan.profile.heaps)?;
         Ok(SharedKit {
             region,
+            indexes,
             team,
             passes,
         })

@@ -20,6 +20,7 @@ use crate::scavenger::Scavenger;
 use crate::workers::Worker;
 use pas_acts::names::{NameBook, Requests};
 use pas_cache::ThreadCache;
+use pas_large_index::LargeIndex;
 use pas_plans::{active, caches_for, outcomes_from};
 use pas_profile::{EventRoom, NoMemory};
 use pas_report::{Records, room_for_replay};
@@ -27,6 +28,7 @@ use pas_shared::SharedPass;
 use pas_trace::{Op, Phase, Plan};
 use pas_utility::{Outcomes, Utility};
 use std::alloc::Global;
+use std::sync::Mutex;
 
 /// Where the records of a whole replay have room: with this thread, so many in so many phases.
 #[derive(Drop)]
@@ -188,6 +190,17 @@ fn book_of(alloc: Global, limit: usize, before: NameBook) -> Result<NameBook, No
     }
     drop(before);
     NameBook::try_new(alloc, limit)
+}
+
+/// An index for each of so many heaps, which holds nothing. NoMemory where memory was wanting; an index has some 4 KB.
+pub(crate) fn indexes_for(alloc: Global, heaps: u8) -> Result<Vec<Mutex<LargeIndex>>, NoMemory> {
+    let Ok(mut indexes) = Vec::with_capacity(alloc, heaps as usize) else {
+        return Err(NoMemory);
+    };
+    for _heap in 0..heaps {
+        indexes.push_reserved(Mutex::new(LargeIndex::new()));
+    }
+    Ok(indexes)
 }
 
 /// The team of a plan, whose scavenger has the first pass, and whose threads have the others in order. Its names and the rooms of the thread that speaks first lie

@@ -20,10 +20,12 @@ use pas_acts::at_desk::SCAVENGER;
 use pas_acts::gate::Gate;
 use pas_acts::names::NameBook;
 use pas_bits::Mask4;
+use pas_large_index::LargeIndex;
 use pas_plans::active;
 use pas_report::{Record, Records};
 use pas_shared::SharedRegion;
 use pas_trace::{Op, Phase};
+use std::sync::{Mutex, Wait};
 use std::thread::Threads;
 
 /// The number of the phase that begins without a mark.
@@ -42,9 +44,10 @@ pub(crate) struct Team {
 
 /// The operations of a phase, by all hands at once, in as many threads of the system: the worker of each thread that has one, and the scavenger where one is
 /// its own, with the threads that have none. `awake` has the numbers of those that have one.
-fn perform_all<R: Threads + Sync, G: Gate + Sync>(
+fn perform_all<R: Threads + Wait + Sync, G: Gate + Sync>(
     rt: &R,
     region: &SharedRegion,
+    indexes: &[Mutex<LargeIndex>],
     team: Team,
     awake: Mask4,
     ops: &[Op],
@@ -64,7 +67,9 @@ fn perform_all<R: Threads + Sync, G: Gate + Sync>(
     let count = threads.len() as u8;
     deal(&mut threads, awake, &mut hands, &mut scavenger.lent);
     let busy = awake.get(SCAVENGER);
-    let mut scavenger = act_with(rt, region, &book, &mut hands, scavenger, busy, ops, gate);
+    let mut scavenger = act_with(
+        rt, region, indexes, &book, &mut hands, scavenger, busy, ops, gate,
+    );
     take_back(&mut threads, count, awake, &mut hands, &mut scavenger.lent);
     Team {
         threads,
@@ -75,9 +80,10 @@ fn perform_all<R: Threads + Sync, G: Gate + Sync>(
 }
 
 /// One phase: its threads read the epoch, its operations are performed, and what was said is gathered, actor by actor.
-fn perform_phase<R: Threads + Sync, G: Gate + Sync>(
+fn perform_phase<R: Threads + Wait + Sync, G: Gate + Sync>(
     rt: &R,
     region: &SharedRegion,
+    indexes: &[Mutex<LargeIndex>],
     team: Team,
     ops: &[Op],
     gate: &G,
@@ -90,7 +96,7 @@ fn perform_phase<R: Threads + Sync, G: Gate + Sync>(
     let mut team = team;
     wake_all(region, &mut team.threads, awake);
     team.book.note(ops);
-    let mut team = perform_all(rt, region, team, awake, ops, gate);
+    let mut team = perform_all(rt, region, indexes, team, awake, ops, gate);
     out.append(&mut team.scavenger.out);
     gather(&mut team.threads, out);
     take_all(&mut team.book, &mut team.threads);
@@ -111,9 +117,10 @@ fn finish(region: &SharedRegion, team: Team, out: &mut Records) -> Team
 
 /// Performs the phases in order, with a mark before each from the second on, and closes: a mark, and the stop of each thread. The operations of a phase are
 /// performed by as many threads as have one, all at once; the records of each phase come actor by actor. Takes no memory.
-pub(crate) fn replay<R: Threads + Sync, G: Gate + Sync>(
+pub(crate) fn replay<R: Threads + Wait + Sync, G: Gate + Sync>(
     rt: &R,
     region: &SharedRegion,
+    indexes: &[Mutex<LargeIndex>],
     team: Team,
     phases: &[Phase],
     gate: &G,
@@ -132,7 +139,7 @@ pub(crate) fn replay<R: Threads + Sync, G: Gate + Sync>(
         if number > UNMARKED {
             out.push(Record::Phase(number));
         }
-        team = perform_phase(rt, region, team, phase.as_slice(), gate, out);
+        team = perform_phase(rt, region, indexes, team, phase.as_slice(), gate, out);
     }
     out.push(Record::Close);
     finish(region, team, out)

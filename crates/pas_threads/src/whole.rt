@@ -52,7 +52,7 @@ fn passes_of(team: &mut Team, mut passes: Vec<SharedPass>) -> Vec<SharedPass>
 
 /// Replays the plan as `on_threads` does, and gives the rooms of its actors out with the state, so that another thread may let them go: that takes time in
 /// the memory which they touched.
-pub fn on_threads_with_rooms<R: Threads + Sync, G: Gate + Sync>(
+pub fn on_threads_with_rooms<R: Threads + Wait + Sync, G: Gate + Sync>(
     rt: &R,
     plan: &Plan,
     kit: SharedKit,
@@ -67,17 +67,27 @@ pub fn on_threads_with_rooms<R: Threads + Sync, G: Gate + Sync>(
 {
     let SharedKit {
         region,
+        indexes,
         team,
         passes,
     } = kit;
-    let mut team = replay(rt, &region, team, plan.phases.as_slice(), gate, out);
+    let mut team = replay(
+        rt,
+        &region,
+        indexes.as_slice(),
+        team,
+        plan.phases.as_slice(),
+        gate,
+        out,
+    );
     let passes = passes_of(&mut team, passes);
     (close(region, passes), Rooms { _team: team })
 }
 
 /// Replays the plan. In each phase the operations of each thread that has one are performed in a thread of the system, all at once, and those of the
 /// scavenger in another; a phase begins when the one before it is over. The records come phase by phase, and actor by actor in each. The gate is called
-/// round each operation. The result is the state of the region at the end, at which no actor holds a grain, has a right or owes anything.
+/// round each operation. A request for whole pages waits for the lock of its heap's index, and so does a thread that hands on the runs of large blocks which it
+/// ended; nothing else waits within a phase. The result is the state of the region at the end, at which no actor holds a grain, has a right or owes anything.
 ///
 /// Takes no memory. Beside the operations it costs a look at the epoch for each thread of a phase, the stop of each thread at the end, and
 /// for each phase a pass over its operations for each of its threads, and one over its records.

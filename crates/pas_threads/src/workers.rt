@@ -20,10 +20,13 @@ use pas_acts::gate::Gate;
 use pas_acts::names::{NameBook, Requests};
 use pas_acts::own::work;
 use pas_cache::ThreadCache;
+use pas_large::SharedDoor;
+use pas_large_index::LargeIndex;
 use pas_report::{Record, Records, Said};
 use pas_shared::{SharedPass, SharedRegion};
 use pas_steps::Desk;
 use pas_trace::Op;
+use std::sync::{Mutex, Wait};
 
 /// A thread of the replay: its pass while it doesn't sit at the region, its cache, its requests of the phase, and its records.
 #[derive(Drop)]
@@ -34,9 +37,12 @@ pub(crate) struct Worker {
     pub(crate) out: Records,
 }
 
-/// The thread sits down, performs its operations of a phase, and rises.
-pub(crate) fn perform<G: Gate>(
+/// The thread sits down, performs its operations of a phase, with the indexes that all threads share as its door, and rises. It waits for the lock of an index
+/// where it makes a request for whole pages, or hands on what it noted, and nowhere else.
+pub(crate) fn perform<R: Wait, G: Gate>(
+    rt: &R,
     region: &SharedRegion,
+    indexes: &[Mutex<LargeIndex>],
     book: &NameBook,
     worker: &mut Worker,
     ops: &[Op],
@@ -50,8 +56,10 @@ pub(crate) fn perform<G: Gate>(
         unreachable!();
     };
     let mut desk = region.desk(pass);
+    let mut door = SharedDoor::new(rt, indexes);
     work(
         &mut desk,
+        &mut door,
         book,
         &mut worker.cache,
         &mut worker.requests,

@@ -1,3 +1,4 @@
 mod Statuses
 mod Headline
 mod Summing
+mod Reading

@@ -10,16 +10,10 @@ use pas_profile::NoMemory;
 use pas_telling::{Outcome, summary_of, tell};
 use pas_words::Job;
 use std::alloc::Global;
-use std::thread::Threads;
 
 /// Generates the trace of the job, replays it in the order of its text, and writes the summary. The status is 0, or 4 where
 /// the sink failed, or 5 where the program was out of memory. Nothing is written before the replay has ended.
-pub(crate) fn generate<R: Threads + Sync, K: Sink>(
-    rt: &R,
-    alloc: Global,
-    job: Job,
-    sink: &mut K,
-) -> u8
+pub(crate) fn generate<K: Sink>(alloc: Global, job: Job, sink: &mut K) -> u8
     ensures told { Generates (K.held sink.old) (K.held sink.new) (K.faults sink.old) (K.faults sink.new) job.seed job.ops job.threads job.pages result }
     ensures memory { result ≡ 5 → sink.new ≡ sink.old }
 {
@@ -27,7 +21,7 @@ pub(crate) fn generate<R: Threads + Sync, K: Sink>(
         return 5;
     };
     generated_texts_are_read();
-    match outcome_in_order(rt, alloc, text) {
+    match outcome_in_order(alloc, text) {
         Ok(Outcome::Replayed(records, state)) => {
             let summary = summary_of(job.ops, records.as_slice(), &state);
             tell(sink, summary.as_str(), 0)

@@ -69,7 +69,7 @@ pub fn pas_main<R: Threads + Wait + Sync, S: Source, K: Sink>(
 {
     let manner = match call_of(alloc, words) {
         Ok(Call::Replay(manner)) => manner,
-        Ok(Call::Gen(job)) => return generate(rt, alloc, job, sink),
+        Ok(Call::Gen(job)) => return generate(alloc, job, sink),
         Err(Misread::Usage) => return tell(sink, USAGE, 2),
         Err(Misread::Memory) => return 5,
     };

@@ -6,8 +6,7 @@ ghost use Rattle.pas_threads.specs.Kits.{IsKitOf};
 
 use pas_profile::{NoMemory, Profile};
 use pas_threads::{Ahead, SharedKit};
-use pas_trace::{Plan, ReadFault, header_of_text, read_trace, read_trace_on};
-use pas_words::Manner;
+use pas_trace::{Plan, ReadFault, header_of_text, read_trace_on};
 use std::alloc::Global;
 use std::thread::{Threads, join};
 
@@ -34,22 +33,18 @@ fn read_and_prepare<R: Threads + Sync>(
     (plan, ahead)
 }
 
-/// What the text comes to, and in a replay on threads what it needs, where the header names more than one thread.
-pub(crate) fn read_for<R: Threads + Sync>(
+/// What the text comes to, and what a replay on threads needs, where the header names more than one thread.
+pub(crate) fn read_for_threads<R: Threads + Sync>(
     rt: &R,
     alloc: Global,
-    manner: Manner,
     text: &[u8],
 ) -> (Result<Plan, ReadFault>, Option<Ahead>)
     requires { length text.now ≤ 16777216 }
     ensures { IsReading text.now result.0 }
 {
-    match manner {
-        Manner::InOrder => (read_trace(alloc, text), None),
-        Manner::OnThreads => match header_of_text(text) {
-            Some(profile) if profile.threads > 1 => read_and_prepare(rt, alloc, profile, text),
-            _ => (read_trace_on(rt, alloc, text), None),
-        },
+    match header_of_text(text) {
+        Some(profile) if profile.threads > 1 => read_and_prepare(rt, alloc, profile, text),
+        _ => (read_trace_on(rt, alloc, text), None),
     }
 }
 

@@ -9,7 +9,7 @@ ghost use Rattle.pas_telling.specs.Outcomes.{IsWritable, outcome_text, outcome_s
 ghost use Rattle.pas_top.specs.Manners.{way_of};
 ghost use Rattle.pas_top.specs.Outcomes.{IsOutcome};
 
-use crate::opening::{kit_of, read_for};
+use crate::opening::{kit_of, read_for_threads};
 use pas_io::Sink;
 use pas_profile::NoMemory;
 use pas_replay::{PlainKit, by_one_thread, in_order, is_of_one_thread, records_for};
@@ -17,9 +17,10 @@ use pas_report::Records;
 use pas_steps::State;
 use pas_telling::Outcome;
 use pas_threads::{Ahead, OpenGate, Rooms, on_threads_with_rooms};
-use pas_trace::{Plan, ReadFault};
+use pas_trace::{Plan, ReadFault, read_trace};
 use pas_words::Manner;
 use std::alloc::Global;
+use std::sync::Wait;
 use std::thread::Threads;
 
 /// The plan of a replay that is over, and the rooms of its threads, where it was on threads. On threads they are let go while the lines are written.
@@ -29,9 +30,58 @@ pub(crate) struct Spent {
     _rooms: Option<Rooms>,
 }
 
-/// Reads the bytes, lets them go, and replays the trace that they are in this manner. On threads what the replay needs is made while the
-/// bytes are read. What the replay leaves comes beside its outcome. NoMemory comes before the replay begins, or not at all.
-pub(crate) fn outcome_of<R: Threads + Sync>(
+/// Reads the bytes, lets them go, and replays the trace that they are in the order of its text. It starts no thread and waits for nobody. What the replay
+/// leaves comes beside its outcome. NoMemory comes before the replay begins, or not at all.
+fn replayed_in_order(
+    alloc: Global,
+    bytes: Vec<u8>,
+) -> Result<(Outcome, Option<Spent>), NoMemory>
+    requires { length bytes.items ≤ 16777216 }
+    ensures { IfOk result (λ told. IsOutcome InOrder bytes.items told.0) }
+{
+    let read = read_trace(alloc, &bytes);
+    drop(bytes);
+    let plan = match read {
+        Ok(plan) => plan,
+        Err(ReadFault::Trace(fault)) => return Ok((Outcome::Faulty(fault), None)),
+        Err(ReadFault::NoMemory) => return Err(NoMemory),
+    };
+    let mut records = records_for(alloc, &plan)?;
+    let state = replay_in_order(alloc, &plan, &mut records)?;
+    let spent = Spent {
+        _plan: plan,
+        _rooms: None,
+    };
+    Ok((Outcome::Replayed(records, state), Some(spent)))
+}
+
+/// The same on threads. What the replay needs is made while the bytes are read.
+fn replayed_on_threads<R: Threads + Wait + Sync>(
+    rt: &R,
+    alloc: Global,
+    bytes: Vec<u8>,
+) -> Result<(Outcome, Option<Spent>), NoMemory>
+    requires { length bytes.items ≤ 16777216 }
+    ensures { IfOk result (λ told. IsOutcome OnThreads bytes.items told.0) }
+{
+    let (read, ahead) = read_for_threads(rt, alloc, &bytes);
+    drop(bytes);
+    let plan = match read {
+        Ok(plan) => plan,
+        Err(ReadFault::Trace(fault)) => return Ok((Outcome::Faulty(fault), None)),
+        Err(ReadFault::NoMemory) => return Err(NoMemory),
+    };
+    let mut records = records_for(alloc, &plan)?;
+    let (state, rooms) = replay_on_threads(rt, alloc, &plan, ahead, &mut records)?;
+    let spent = Spent {
+        _plan: plan,
+        _rooms: rooms,
+    };
+    Ok((Outcome::Replayed(records, state), Some(spent)))
+}
+
+/// Reads the bytes, and replays the trace that they are in this manner.
+pub(crate) fn outcome_of<R: Threads + Wait + Sync>(
     rt: &R,
     alloc: Global,
     manner: Manner,
@@ -40,32 +90,18 @@ pub(crate) fn outcome_of<R: Threads + Sync>(
     requires { length bytes.items ≤ 16777216 }
     ensures { IfOk result (λ told. IsOutcome (way_of manner) bytes.items told.0) }
 {
-    let (read, ahead) = read_for(rt, alloc, manner, &bytes);
-    drop(bytes);
-    let plan = match read {
-        Ok(plan) => plan,
-        Err(ReadFault::Trace(fault)) => return Ok((Outcome::Faulty(fault), None)),
-        Err(ReadFault::NoMemory) => return Err(NoMemory),
-    };
-    let mut records = records_for(alloc, &plan)?;
-    let (state, rooms) = replay(rt, alloc, manner, &plan, ahead, &mut records)?;
-    let spent = Spent {
-        _plan: plan,
-        _rooms: rooms,
-    };
-    Ok((Outcome::Replayed(records, state), Some(spent)))
+    match manner {
+        Manner::InOrder => replayed_in_order(alloc, bytes),
+        Manner::OnThreads => replayed_on_threads(rt, alloc, bytes),
+    }
 }
 
-/// What the bytes come to in the order of their text, as `outcome_of` says it. What the replay leaves beside it is let go.
-pub(crate) fn outcome_in_order<R: Threads + Sync>(
-    rt: &R,
-    alloc: Global,
-    bytes: Vec<u8>,
-) -> Result<Outcome, NoMemory>
+/// What the bytes come to in the order of their text. What the replay leaves beside it is let go.
+pub(crate) fn outcome_in_order(alloc: Global, bytes: Vec<u8>) -> Result<Outcome, NoMemory>
     requires { length bytes.items ≤ 16777216 }
     ensures { IfOk result (IsOutcome InOrder bytes.items) }
 {
-    match outcome_of(rt, alloc, Manner::InOrder, bytes) {
+    match replayed_in_order(alloc, bytes) {
         Ok((outcome, spent)) => {
             drop(spent);
             Ok(outcome)
@@ -89,9 +125,20 @@ pub(crate) fn tell_outcome<R: Threads + Sync, K: Sink>(
     pas_telling::tell_outcome(rt, alloc, manner, sink, outcome, spent)
 }
 
+/// Replays the plan in the order of its text, and answers the region's state afterwards. Memory is taken for the kit alone, before the replay begins.
+fn replay_in_order(alloc: Global, plan: &Plan, out: &mut Records) -> Result<State, NoMemory>
+    requires plan { (text : List ℕ) × (length text ≤ 16777216) × IsPlanOf text plan.now }
+    requires empty { records_in out.old ≡ [] }
+    requires room { plan.now.total + length (phases_of plan.now) + 1 ≤ room_of out.old }
+    ensures { IfOk result (Shows InOrder plan.now (records_in out.new)) }
+{
+    let kit = PlainKit::try_new(alloc, plan)?;
+    Ok(in_order(plan, kit, out))
+}
+
 /// Replays the plan on threads, with what was made ahead for it, if that was. A plan of one thread has nothing that could be at once, and is
 /// replayed over plain words.
-fn replay_on_threads<R: Threads + Sync>(
+fn replay_on_threads<R: Threads + Wait + Sync>(
     rt: &R,
     alloc: Global,
     plan: &Plan,
@@ -110,28 +157,4 @@ fn replay_on_threads<R: Threads + Sync>(
     let kit = kit_of(alloc, plan, ahead)?;
     let (state, rooms) = on_threads_with_rooms(rt, plan, kit, &OpenGate, out);
     Ok((state, Some(rooms)))
-}
-
-/// Replays the plan in this manner, and answers the region's state afterwards, with the rooms that were used. Memory is taken for the kit alone, before the
-/// replay begins.
-fn replay<R: Threads + Sync>(
-    rt: &R,
-    alloc: Global,
-    manner: Manner,
-    plan: &Plan,
-    ahead: Option<Ahead>,
-    out: &mut Records,
-) -> Result<(State, Option<Rooms>), NoMemory>
-    requires plan { (text : List ℕ) × (length text ≤ 16777216) × IsPlanOf text plan.now }
-    requires empty { records_in out.old ≡ [] }
-    requires room { plan.now.total + length (phases_of plan.now) + 1 ≤ room_of out.old }
-    ensures { IfOk result (λ ended. Shows (way_of manner) plan.now (records_in out.new) ended.0) }
-{
-    match manner {
-        Manner::InOrder => {
-            let kit = PlainKit::try_new(alloc, plan)?;
-            Ok((in_order(plan, kit, out), None))
-        }
-        Manner::OnThreads => replay_on_threads(rt, alloc, plan, ahead, out),
-    }
 }

@@ -14,4 +14,4 @@ pub answer_meant-came-requires-clause-can : goal.answer_meant-came-requires-clau
 answer_meant-came-requires-clause-can g c = may_answer (g.D.Desk.spare_of c.args.desk.now) (λ v l stood. g.met.D.Desk.spares c.args.desk.now v l stood) (may_do c.requires.stands.4 c.requires.stands.5)
 
 pub returns-clause-operates : goal.returns-clause-operates
-returns-clause-operates g c = λ f op later p is may. has_operated is may c.answer_meant-came.ensures.answers c.settle.ensures.cache
+returns-clause-operates g c = λ f op later p is may. has_operated g.O.Door.answers g.O.Door.settles c.args.door.now c.answer_meant-came.new.door c.settle.new.door is may c.answer_meant-came.ensures.answers c.settle.ensures.cache c.settle.ensures.settles

@@ -20,7 +20,7 @@ keep-requires g c = room_now (own_what c.args.op.what c.in-Own.task (sym c.work.
 pub returns-in-Own-clause-works : goal.returns-in-Own-clause-works
 returns-in-Own-clause-works g c = λ f next later p at.
     let is = own_what c.args.op.what c.in-Own.task (sym c.work.ensures ∙ c.in-Own.is) in
-    operated is at (c.operate-came.ensures.operates f c.args.op _ p is (may_operate is at (c.freed-meant.ensures ∙ freed_task (known_in c.args.book.now c.args.requests.now) c.in-Own.task))) (record { book = refl; requests = c.keep.ensures.kept ∙ ap (λ ns. requests_in c.args.requests.now ++ ns) (named_task c.in-Own.task c.operate-came.result); room = c.keep.ensures.room }) (subst (λ (g : Profile). MayStand g c.operate-came.result) at.sits.profile c.operate-came.ensures.stands)
+    operated is at (c.operate-came.ensures.operates f c.args.op _ p is (may_operate is at (c.freed-meant.ensures ∙ freed_task (known_in c.args.book.now c.args.requests.now) c.in-Own.task))).0 (record { book = refl; requests = c.keep.ensures.kept ∙ ap (λ ns. requests_in c.args.requests.now ++ ns) (named_task c.in-Own.task c.operate-came.result); room = c.keep.ensures.room }) (subst (λ (g : Profile). MayStand g c.operate-came.result) at.sits.profile c.operate-came.ensures.stands)
 
 pub returns-in_default-clause-works : goal.returns-in_default-clause-works
 returns-in_default-clause-works g c = λ f next later p at. absurd (no_chore f _ at.names.asked at.names.fit.1 (sym c.work.ensures ∙ c.in_default.is))

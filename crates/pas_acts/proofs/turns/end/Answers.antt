@@ -13,7 +13,7 @@ pub answer_meant-requires-clause-can : goal.answer_meant-requires-clause-can
 answer_meant-requires-clause-can g c = may_answer (g.D.Desk.spare_of c.args.desk.now) (λ v l stood. g.met.D.Desk.spares c.args.desk.now v l stood) (may_stop c.requires.rests.4)
 
 pub returns-clause-ends : goal.returns-clause-ends
-returns-clause-ends g c = λ f k later p at. (has_ended at c.answer_meant.ensures.answers).0
+returns-clause-ends g c = λ f k later p at. (has_ended at c.answer_meant.ensures.answers.0).0
 
 pub returns-clause-empty : goal.returns-clause-empty
-returns-clause-empty g c = (has_ended c.requires.rests.4 c.answer_meant.ensures.answers).1
+returns-clause-empty g c = (has_ended c.requires.rests.4 c.answer_meant.ensures.answers.0).1

@@ -52,7 +52,7 @@ module _ (c : After-active-awake) (r : Replay) (is : r.acts ≡ acts_of r.thread
             let more = w.if-number-gt-UNMARKED.true in
             let number : c.loop-phase.number + 1 ≡ i + 1 = omega (arith, count) in
             let pushed = w.push.ensures.added ∙ ap (λ (n : ℕ). records_in c.loop-phase.out ++ Record.Phase n ∷ []) number in
-            rw (w.out-is) (after_mark w.push.new.self (Record.Phase (i + 1)) (as_acts (other_phase r.threads i ops rest (omega (arith, count, more))) far) (λ p. refl) (λ j. refl) refl refl (λ limit asked fit. fit) pushed w.push.ensures.size)
+            rw (w.out-is) (after_mark w.push.new.self (Record.Phase (i + 1)) (as_acts (other_phase r.threads i ops rest (omega (arith, count, more))) far) (λ p. refl) (λ j. refl) refl refl (λ limit asked fit. fit) (λ indexes p. (refl, λ q is. tt)) pushed w.push.ensures.size)
         | else-number-gt-UNMARKED w ↦ let less = w.if-number-gt-UNMARKED.false in rw (w.out-is) (as_acts (first_phase r.threads i ops rest (omega (arith, count, less))) far)
       ])
 
@@ -95,7 +95,7 @@ module _ (c : After-push-2) (r : Replay) (is : r.acts ≡ acts_of r.threads (map
   closes : SoFarAt r (map Ends (numbers_from 1 r.threads) ++ []) (session c.loop-phase.desk c.loop-phase.actors c.loop-phase.names c.push-2.new.self)
   closes =
       let far = as_acts (last_phase r.threads c.args.phases.now c.loop-phase.phase-index c.loop-phase-test.false) (c.loop-phase.invariant.far r is so0) in
-      as_acts (sym (append-nil (map Ends (numbers_from 1 r.threads)))) (after_mark c.push-2.new.self Record.Close far (λ p. refl) (λ j. refl) refl refl (λ limit asked fit. fit) c.push-2.ensures.added c.push-2.ensures.size)
+      as_acts (sym (append-nil (map Ends (numbers_from 1 r.threads)))) (after_mark c.push-2.new.self Record.Close far (λ p. refl) (λ j. refl) refl refl (λ limit asked fit. fit) (λ indexes p. (refl, λ q is. tt)) c.push-2.ensures.added c.push-2.ensures.size)
 
 pub stop_all-requires-clause-so_far : goal.stop_all-requires-clause-so_far
 stop_all-requires-clause-so_far c = let so0 = c.requires.so_far in (c.loop-phase.names, (so0.0, [], closes (goal.at.stop_all-requires-clause-so_far c).After-push-2 so0.0 so0.1 so0.2))

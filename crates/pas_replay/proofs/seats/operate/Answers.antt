@@ -13,8 +13,8 @@ use Rattle.pas_replay.proofs.seats.operate.Goals as goal
 pub take_seat-requires : goal.take_seat-requires
 take_seat-requires c = let so = c.requires.so_far.3.2 in may_take c.args.desk.now c.args.actors.now c.args.actor c.requires.thread so.0 so.1.1
 
-pub operate-came-requires : goal.operate-came-requires
-operate-came-requires c =
+pub operate_by-came-requires : goal.operate_by-came-requires
+operate_by-came-requires c =
     let so0 = c.requires.so_far in
     let so = so0.3.2.1 in
     record { stands = (so0.3.0.profile, so0.0, _, so.0, so0.2, may_operate c.args.actor c.index_mut-cache.result.now so0.1 so0.2 c.requires.some c.requires.thread c.take_seat.ensures c.index_mut-cache.ensures.value (c.freed-meant.ensures ∙ freed_task (block_named c.args.names.now) c.args.task) so.1) }
@@ -26,11 +26,11 @@ keep-requires c =
     record { fit = (so0.3.0.profile, names.asked, subst (λ (w : What). IsFitWhat so0.3.0.profile (names_held c.args.names.now) names.asked w) so0.2 names.fit.1) }
 
 pub returns-clause-threads : goal.returns-clause-threads
-returns-clause-threads c = length-set c.args.actors.now.caches.items (c.args.actor - 1) c.operate-came.new.cache
+returns-clause-threads c = length-set c.args.actors.now.caches.items (c.args.actor - 1) c.operate_by-came.new.cache
 
 pub returns-clause-so_far : goal.returns-clause-so_far
 returns-clause-so_far c op mine asks r more (taken, (p, at)) =
     let may = may_operate c.args.actor c.index_mut-cache.result.now mine asks c.requires.some c.requires.thread c.take_seat.ensures c.index_mut-cache.ensures.value (c.freed-meant.ensures ∙ freed_task (block_named c.args.names.now) c.args.task) at in
-    let did = c.operate-came.ensures.operates r.profile op _ p asks may in
-    let came = subst (λ (f : Profile). MayStand f c.operate-came.result) may.rests.sits.profile c.operate-came.ensures.stands in
-    operate_turn c.args.actor c.operate-came.result c.index_mut-cache.result.now c.operate-came.new.cache mine asks c.requires.some c.requires.thread c.take_seat.ensures c.index_mut-cache.ensures.value at did c.keep.ensures.held (subst (λ ns. Tells c.keep.new.names (ns ++ p.names)) (named_task c.args.task c.operate-came.result) (c.keep.ensures.tells p.names at.names.tells)) (c.keep.ensures.stand r.profile at.names.stand came)
+    let did = c.operate_by-came.ensures.operates r.profile op _ p asks may in
+    let came = subst (λ (f : Profile). MayStand f c.operate_by-came.result) may.rests.sits.profile c.operate_by-came.ensures.stands in
+    operate_turn c.args.actor c.operate_by-came.result c.index_mut-cache.result.now c.operate_by-came.new.cache mine asks c.requires.some c.requires.thread c.take_seat.ensures c.index_mut-cache.ensures.value at did c.keep.ensures.held (subst (λ ns. Tells c.keep.new.names (ns ++ p.names)) (named_task c.args.task c.operate_by-came.result) (c.keep.ensures.tells p.names at.names.tells)) (c.keep.ensures.stand r.profile at.names.stand came)

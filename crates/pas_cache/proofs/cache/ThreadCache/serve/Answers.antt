@@ -75,14 +75,14 @@ returns-in-Class-clause-allocates g c =
     let class = c.in-Class.class in
     let route = routed f _ c.args.size c.args.align _ _ c.profile.ensures c.route.ensures c.in-Class.is in
     let home = home_is f c.new.result c.args.heap class c.kind_for-kind.result c.kind_for-kind.ensures (c.new.ensures ∙ ap (λ (x : Profile). x.shared) c.profile-in-Class.ensures) in
-    rw (← c.self.view_is) (goes (Route.Class class) None route refl (allocates c.args.size c.args.align c.args.heap class g.D.Desk.tells _ _ c.serve_class.result c.requires.admitted route refl
+    rw (← c.self.view_is) (goes (Route.Class class) None route (refl, refl) (allocates c.args.size c.args.align c.args.heap class g.D.Desk.tells _ _ c.serve_class.result c.requires.admitted route refl
     (subst (λ (d : Directory). ServesFrom (filling_in d class) g.D.Desk.tells c.self.inside.locals.items c.serve_class.new.locals.items (g.D.Desk.standing c.args.desk.now) (g.D.Desk.standing c.serve_class.new.desk) c.serve_class.result) home c.serve_class.ensures.serves)))
 
 pub returns-in-Bitfit-clause-allocates : goal.returns-in-Bitfit-clause-allocates
 returns-in-Bitfit-clause-allocates g c =
     let f = (g.D.Desk.standing c.args.desk.now).seat.profile in
     let route = routed f _ c.args.size c.args.align _ _ c.profile.ensures c.route.ensures c.in-Bitfit.is in
-    goes Route.Bitfit None route refl (bitfit_allocates c.args.size c.args.align c.args.heap g.D.Desk.tells _ c.alloc.result route
+    goes Route.Bitfit None route (refl, refl) (bitfit_allocates c.args.size c.args.align c.args.heap g.D.Desk.tells _ c.alloc.result route
     (subst (λ n. Allocates c.args.heap n c.args.align g.D.Desk.tells (g.D.Desk.standing c.args.desk.now) (g.D.Desk.standing c.alloc.new.desk) c.alloc.result) (sym (roomed f c.args.size c.args.align _ route c.bitfit_room.ensures)) c.alloc.ensures.allocates))
 
 pub returns-in-Large-clause-allocates : goal.returns-in-Large-clause-allocates

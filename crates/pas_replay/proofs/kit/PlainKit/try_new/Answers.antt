@@ -43,6 +43,7 @@ returns c =
           c.in_ok-region.ensures.passes c.in_ok-region.ensures.stand c.in_ok-places.ensures.places;
       unused = c.in_ok-caches.ensures.caches;
       places = same_Some _ _ (sym c.outcomes_from.ensures ∙ c.caches_for.ensures.outcomes ∙ c.rooms_of.ensures.outcomes ∙ c.in_ok-utility.ensures.outcomes);
+      indexes = c.in_ok-indexes.ensures;
       no_name = c.in_ok-names.ensures.empty;
       names = subst (λ n. AllBelow n (phases_of plan)) (sym c.in_ok-names.ensures.room) (plan_below c.requires.1);
       none_left = c.in_ok-places.ensures.none;

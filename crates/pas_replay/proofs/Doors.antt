@@ -1,0 +1,62 @@
+-- What a door to plain indexes tells, as the definition of a replay says it.
+use Rattle.std.proofs.Common.{◌≡◌, ℕ, List, [], ◌∷◌, Option, ap, sym, ◌∙◌, subst, refl}
+use Rattle.pas_profile.specs.Requests.{route_in}
+use Rattle.pas_profile.specs.declared.directory.Route.{Route}
+use Rattle.pas_profile.specs.declared.event.Range.{Range}
+use Rattle.pas_profile.specs.declared.profile.Profile.{Profile}
+use Rattle.pas_free_log.specs.declared.noting.EndedRun.{EndedRun}
+use Rattle.pas_large.specs.Doors.{Indexes, found_in, cut_in, added_in}
+use Rattle.pas_trace.specs.declared.plan.What.{What}
+use Rattle.pas_trace.specs.declared.plan.What.TheVariants.{Alloc}
+use Rattle.pas_cache.specs.Calls.{IsNamed, SettlesEach}
+use Rattle.pas_cache.specs.Serves.{wanted_for, pages_of}
+use Rattle.pas_trace.specs.Acts.{Operates, Settles}
+use Rattle.pas_trace.specs.declared.plan.Op.{Op}
+use Rattle.pas_answers.specs.Answers.{Progress}
+use Rattle.pas_answers.specs.Reaching.{Reaches}
+use Rattle.pas_answers.specs.Indexes.{IsNamedFor, IsNamedBy, AllAreNamedBy, after_request, after_operation, with_noted, indexes_after_all}
+use Rattle.pas_acts.specs.AtDesks.{GoesThrough}
+
+-- doors of which each is to one vector of indexes
+module _ {Door : Type 0} (Kept : Door → Door → Type 0) (held : Door → Indexes) where
+  abbrev pub Answers : Door → Door → ℕ → ℕ → Option ℕ → Type 0
+  Answers before after heap n found = Kept before after × (found ≡ found_in (held before) heap n) × (held after ≡ cut_in (held before) heap n)
+
+  abbrev pub HandsOn : Door → Door → ℕ → Range → Type 0
+  HandsOn before after heap range = Kept before after × (held after ≡ added_in (held before) heap range)
+
+  -- what it came to
+  record Asked (f : Profile) (what : What) (found : Option ℕ) (before after : Door) : Type 0 where
+    pub kept : Kept before after
+    pub named : IsNamedBy f (held before) what found
+    pub left : held after ≡ after_operation f what (held before)
+
+  module _ (still : (d : Door) → Kept d d) where
+    kept_same : (before after : Door) → after ≡ before → Kept before after
+    kept_same before after same = subst (Kept before) (sym same) (still before)
+
+    asked_on : (route : Route) (heap n : ℕ) (found : Option ℕ) (before after : Door) → IsNamed route (Answers before after heap n) (after ≡ before) found
+        → Kept before after × IsNamed route (λ o. o ≡ found_in (held before) heap n) (Unit {0}) found × (held after ≡ after_request route heap n (held before))
+    asked_on (Route.Class class) heap n found before after named = (kept_same before after named.1, (named.0, tt), ap held named.1)
+    asked_on Route.Bitfit heap n found before after named = (kept_same before after named.1, (named.0, tt), ap held named.1)
+    asked_on Route.Large heap n found before after named = (named.0, named.1, named.2)
+
+    asked_for : (f : Profile) (what : What) (found : Option ℕ) (before after : Door) → IsNamedFor f (Answers before after) (after ≡ before) what found → Asked f what found before after
+    asked_for f (Alloc name heap size align) found before after named =
+        let came = asked_on (route_in f size align) heap (pages_of (wanted_for f heap size align)) found before after named in
+        record { kept = came.0; named = came.1; left = came.2 }
+    asked_for f what found before after same = record { kept = kept_same before after same; named = tt; left = ap held same }
+
+    handed : (together : (a b c : Door) → Kept a b → Kept b c → Kept a c) (runs : List EndedRun) (before after : Door) → SettlesEach HandsOn runs before after → Kept before after × (held after ≡ with_noted (held before) runs)
+    handed together [] before after same = (kept_same before after same, ap held same)
+    handed together (run ∷ runs) before after (next, one, rest) =
+        let later = handed together runs next after rest in
+        (together before next after one.0 later.0, later.1 ∙ ap (λ ix. with_noted ix runs) one.1)
+
+    -- the acts of an operation by such a door are acts by what it holds
+    pub went_through : (together : (a b c : Door) → Kept a b → Kept b c → Kept a c) (f : Profile) (op : Op) (p q : Progress) (is : Reaches f (Operates op ∷ (Settles op.actor ∷ [])) p q) (before after : Door) → GoesThrough Answers HandsOn f op p q is before after
+        → AllAreNamedBy f (held before) (Operates op ∷ (Settles op.actor ∷ [])) p q is × Kept before after × (held after ≡ indexes_after_all f (Operates op ∷ (Settles op.actor ∷ [])) p q is (held before))
+    went_through together f op p q is before after (next, named, settled) =
+        let asked = asked_for f op.what is.1.0.found before next named in
+        let later = handed together (is.0.caches op.actor).noted next after settled in
+        ((asked.named, tt, tt), together before next after asked.kept later.0, later.1 ∙ ap (λ ix. with_noted ix (is.0.caches op.actor).noted) asked.left)
