@@ -13,8 +13,10 @@ pub enum Said {
     Outside { block: Name },
     /// The block's address is no multiple of 16.
     Unaligned { block: Name },
-    /// The free of a name whose request was refused.
+    /// The free of a name whose request was refused, or this name's request for the size of a block whose own was refused.
     Skipped { name: u32 },
+    /// The block, which suits another size, is kept, and this name stands for it as well.
+    Kept { block: Name, name: u32 },
     /// The epoch after a tick.
     Tick(u64),
     /// A pass, and the epoch that it read.
