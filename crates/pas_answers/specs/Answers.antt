@@ -156,6 +156,42 @@ IsFreedBy f k c c' name room None steps said = ⊥
 IsFreedBy f k c c' name room (Some None) steps said = (steps ≡ []) × (c' ≡ c) × (said ≡ Some (Said.Skipped name))
 IsFreedBy f k c c' name room (Some (Some block)) steps said = IsFreed f k c c' (entry_with block.name room) steps said
 
+-- ---- another size for a block
+-- the block has room for so many bytes, where none count as one, and stands at a multiple of the alignment
+abbrev pub Suits : Block → ℕ → ℕ → Type 0
+Suits old size align = (max size 1 ≤ old.room) × (address_of old.name % align ≡ 0)
+
+-- The block suits the request as it is: nothing is done, which is said, and the new name stands for it as well as the old one.
+pub record IsKept (r : Request) (old : Block) (before : Having) (after : Answer) : Type 0 where
+  pub suits : Suits old r.size r.align
+  pub no_steps : after.steps ≡ []
+  pub cache : after.cache ≡ before.cache
+  pub said_is : after.said ≡ Some (Said.Kept old.name r.name)
+  pub names_are : after.names ≡ named r.name (Some old) ∷ before.names
+
+-- It doesn't suit. The request for another block of its heap is answered as any request is. Where it is served the old name is logged then, without a room, and
+-- is the last that is; where it is refused nothing is logged, and the old name stands for its block as before.
+pub record IsReplaced (f : Profile) (k : ℕ) (r : Request) (old : Block) (before : Having) (after : Answer) : Type 0 where
+  pub unsuited : Suits old r.size r.align → ⊥
+  pub of_region : old.heap < f.heaps
+  pub placed : Answer
+  pub served : IsServed f k r before placed
+  pub freed : List Made
+  pub logged : MatchResult served.answer (λ block. TakesEntry f k placed.cache after.cache (entry_of old.name) freed) (λ room. (freed ≡ []) × (after.cache ≡ placed.cache))
+  pub steps_are : after.steps ≡ freed ++ placed.steps
+  pub said_is : after.said ≡ placed.said
+  pub found_is : after.found ≡ placed.found
+  pub names_are : after.names ≡ placed.names
+
+-- what a request for another size of a name's block comes to: the old name was never asked for (which no trace has), its own request was refused, so that the
+-- new name stands for nothing either, or it stands for a block
+abbrev pub IsRemadeBy : Profile → ℕ → ℕ → ℕ → ℕ → Option (Option Block) → Having → Answer → Type 0
+IsRemadeBy f k name size align None b a = ⊥
+IsRemadeBy f k name size align (Some None) b a = (a.steps ≡ []) × (a.cache ≡ b.cache) × (a.said ≡ Some (Said.Skipped name)) × (a.names ≡ named name None ∷ b.names)
+IsRemadeBy f k name size align (Some (Some old)) b a =
+    let r : Request = record { name = name; heap = old.heap; size = size; align = align } in
+    IsKept r old b a ⊎ IsReplaced f k r old b a
+
 -- ---- a flush and a stop
 pub record IsFlushed (k : ℕ) (c c' : Cached) (steps : List Made) : Type 0 where
   pub empties : EmptiesLog k c.log c.noted c'.noted steps

@@ -3,7 +3,9 @@
 
 mod answering;
 mod idle;
+mod remaking;
 pub mod names;
 
 pub use answering::answer_meant;
 pub use idle::is_idle_for;
+pub use remaking::Remake;

@@ -23,7 +23,8 @@ use Rattle.pas_cache.specs.Serves.{Wanted, wanted_for}
 use Rattle.pas_cache.specs.declared.moving.Moved.TheVariants.{Kept, New}
 use Rattle.pas_answers.specs.Calls.{Serves}
 use Rattle.pas_answers.proofs.Requests.{may_request}
-use Rattle.pas_realloc.specs.Moves.{Suits, flush_of_full, MayMove, Moves}
+use Rattle.pas_answers.specs.Answers.{Suits}
+use Rattle.pas_answers.specs.Moves.{flush_of_full, MayMove, Moves}
 
 -- ---- the request
 pub can_serve : {σ : Standing} (c : Cached) (heap size align spare : ℕ) → CanCall σ (MayMove σ.seat.profile c (cost_of_size size) spare) → CanCall σ (MayRequest σ.seat.profile (wanted_for σ.seat.profile heap size align) c spare)

@@ -7,7 +7,7 @@ ghost use Rattle.pas_steps.specs.Desks.{CanCall};
 ghost use Rattle.pas_cache.specs.Caches.{cached};
 ghost use Rattle.pas_cache.specs.Names.{IsInRegion};
 ghost use Rattle.pas_cache.specs.Serves.{wanted_for};
-ghost use Rattle.pas_realloc.specs.Moves.{MayMove, Moves};
+ghost use Rattle.pas_answers.specs.Moves.{MayMove, Moves};
 
 use pas_cache::{Moved, ThreadCache};
 use pas_large::Door;

@@ -1,6 +1,5 @@
 -- How a block gets another size.
 use Rattle.std.specs.Prelude.{ℕ, ◌+◌, ◌%◌, ◌≤◌, ◌≡◌, max, nat_le, if◌then◌else◌, List, [], ◌++◌, length, Option, Result, Ok, Err}
-use Rattle.pas_profile.specs.Blocks.{address_of}
 use Rattle.pas_profile.specs.declared.event.NoRoom.{NoRoom}
 use Rattle.pas_profile.specs.declared.name.Block.{Block}
 use Rattle.pas_profile.specs.declared.profile.Profile.{Profile}
@@ -16,13 +15,9 @@ use Rattle.pas_cache.specs.Kinds.{allocating}
 use Rattle.pas_cache.specs.Serves.{Wanted, ServesRequest, IsBlockFor}
 use Rattle.pas_cache.specs.declared.moving.Moved.{Moved}
 use Rattle.pas_cache.specs.declared.moving.Moved.TheVariants.{Kept, New}
-use Rattle.pas_answers.specs.Answers.{RefusalEnds}
+use Rattle.pas_answers.specs.Answers.{Suits, RefusalEnds}
 use Rattle.pas_steps.specs.Events.{events_by}
 use Rattle.pas_free_log.specs.declared.log.Entry.{Entry}
-
--- the block has room for so many bytes, where none count as one, and stands at a multiple of the alignment
-abbrev pub Suits : Block → ℕ → ℕ → Type 0
-Suits old size align = (max size 1 ≤ old.room) × (address_of old.name % align ≡ 0)
 
 -- how many events the flush of a full log makes
 abbrev pub flush_of_full : List Entry → ℕ
