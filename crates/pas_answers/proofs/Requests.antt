@@ -1,5 +1,5 @@
 -- What a request promises.
-use Rattle.std.proofs.Common.{◌≡◌, ◌≢◌, ℕ, ◌+◌, ◌-◌, ◌^◌, ◌<◌, ◌≤◌, ◌++◌, Bool, true, List, [], ◌∷◌, length, Option, Some, None, Result, Ok, Err, inl, inr, refl, ap, sym, ◌∙◌, subst, arith, lt-ltb}
+use Rattle.std.proofs.Common.{◌≡◌, ◌≢◌, ℕ, ◌+◌, ◌-◌, ◌<◌, ◌≤◌, ◌++◌, Bool, true, List, [], ◌∷◌, length, Option, Some, None, Result, Ok, Err, inl, inr, refl, ap, sym, ◌∙◌, subst, arith, lt-ltb}
 use Rattle.std.specs.Prelude.{◌*◌, ◌/◌, ◌%◌, max, nat_le, nat_lt, MatchResult}
 use Rattle.std.proofs.lemmas.Bool.{cases_lt, and_from, le-leb}
 use Rattle.std.proofs.Math.Nat.{mul-mod_left, mod-add-div', mul_assoc}

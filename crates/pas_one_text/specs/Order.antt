@@ -67,11 +67,11 @@ replayed f phases = each (acts_on f) (acts_of f.threads phases) (opened f)
 -- ---- the text
 -- the region of a trace: its header with its shared heaps
 abbrev pub region_of : Parsed → Profile
-region_of p = record p.header { shared = shared_in p.items }
+region_of p = record p.header.profile { shared = shared_in p.items }
 
 -- what its replay comes to
 abbrev pub replay_of : Parsed → World
-replay_of p = replayed (region_of p) (phases_in p.items)
+replay_of p = replayed (region_of p) (phases_in p.header.profile p.items)
 
 abbrev pub text_for : Result Parsed TraceFault → Option (List ℕ)
 text_for (Ok p) = Some (text_of (region_of p) (replay_of p))

@@ -51,9 +51,9 @@ after_mark {r} {more} {act} {T} {h} out' mark (taken, (p, at)) advances free non
           records_are = pushed ∙ ap (λ (rs : List Record). rs ++ mark ∷ []) at.records_are;
           spare = omega (arith, long, spare, room, one);
           answers = λ q rest.
-              let then = with_records p (mark ∷ []) in
-              let left = subst (λ (ix : Indexes). ReachesBy r.profile ix more then q) (sym (asks h.indexes p).0) rest in
-              at.answers q ((then, advances p, left.0), ((asks h.indexes p).1 then (advances p), left.1));
+              let next = with_records p (mark ∷ []) in
+              let left = subst (λ (ix : Indexes). ReachesBy r.profile ix more next q) (sym (asks h.indexes p).0) rest in
+              at.answers q ((next, advances p, left.0), ((asks h.indexes p).1 next (advances p), left.1));
         },
       ),
     )

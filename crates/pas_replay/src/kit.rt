@@ -57,7 +57,7 @@ fn indexes_for(alloc: Global, heaps: u8) -> Result<Vec<LargeIndex>, NoMemory>
     let Ok(mut indexes) = Vec::with_capacity(alloc, heaps as usize) else {
         return Err(NoMemory);
     };
-    for _heap in 0..heaps {
+    for heap in 0..heaps {
         indexes.push_reserved(LargeIndex::new());
     }
     Ok(indexes)
@@ -75,11 +75,12 @@ impl PlainKit {
         let places = places_for(alloc, &mut passes)?;
         let caches = caches_for(alloc, &mut utility, plan.profile.threads)?;
         let names = Names::try_new(alloc, plan.names_limit)?;
+        let indexes = indexes_for(alloc, plan.profile.heaps)?;
         let actors = Actors {
             passes: places,
             caches,
             outcomes: outcomes_from(&mut utility),
-            indexes: indexes_for(alloc, plan.profile.heaps)?,
+            indexes,
         };
         Ok(PlainKit {
             region,

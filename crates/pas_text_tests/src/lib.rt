@@ -16,3 +16,5 @@ mod rounds;
 mod sheets;
 #[cfg(test)]
 mod traces;
+#[cfg(test)]
+mod versions;

@@ -197,7 +197,7 @@ pub(crate) fn indexes_for(alloc: Global, heaps: u8) -> Result<Vec<Mutex<LargeInd
     let Ok(mut indexes) = Vec::with_capacity(alloc, heaps as usize) else {
         return Err(NoMemory);
     };
-    for _heap in 0..heaps {
+    for heap in 0..heaps {
         indexes.push_reserved(Mutex::new(LargeIndex::new()));
     }
     Ok(indexes)

@@ -74,7 +74,7 @@ pub fn on_threads_with_rooms<R: Threads + Wait + Sync, G: Gate + Sync>(
     let mut team = replay(
         rt,
         &region,
-        indexes.as_slice(),
+        &indexes,
         team,
         plan.phases.as_slice(),
         gate,

@@ -34,17 +34,17 @@ returns-in-Request-clause-performs g c =
 pub returns-in-Some-clause-performs : goal.returns-in-Some-clause-performs
 returns-in-Some-clause-performs g c =
     let did = performs_free c.args.task c.args.meant (cached c.args.cache.now) (cached c.free.new.cache) c.in-Free.name c.in-Free.room c.in-Some.block c.in-Free.is c.in-Some.is c.free.ensures.frees in
-    (did, subst (λ t. IsNamedFor (g.D.Desk.standing c.args.desk.now).seat.profile (g.O.Door.answers c.args.door.now c.args.door.now) (c.args.door.now ≡ c.args.door.now) (what_of t) did.found) (sym c.in-Free.is) (not_asked _ _ _ (Task.Free c.in-Free.name c.in-Free.room) did.found refl refl))
+    (did, subst (λ t. IsNamedFor (g.D.Desk.standing c.args.desk.now).seat.profile (g.O.Door.answers c.args.door.now c.args.door.now) (c.args.door.now ≡ c.args.door.now) (what_of t) did.found) (sym c.in-Free.is) (not_asked (g.D.Desk.standing c.args.desk.now).seat.profile (g.O.Door.answers c.args.door.now c.args.door.now) (c.args.door.now ≡ c.args.door.now) (Task.Free c.in-Free.name c.in-Free.room) did.found refl refl))
 
 pub returns-in-None-clause-performs : goal.returns-in-None-clause-performs
 returns-in-None-clause-performs g c =
     let did = performs_skip c.args.task c.args.meant (cached c.args.cache.now) c.in-Free.name c.in-Free.room c.in-Free.is c.in-None.is in
-    (did, subst (λ t. IsNamedFor (g.D.Desk.standing c.args.desk.now).seat.profile (g.O.Door.answers c.args.door.now c.args.door.now) (c.args.door.now ≡ c.args.door.now) (what_of t) did.found) (sym c.in-Free.is) (not_asked _ _ _ (Task.Free c.in-Free.name c.in-Free.room) did.found refl refl))
+    (did, subst (λ t. IsNamedFor (g.D.Desk.standing c.args.desk.now).seat.profile (g.O.Door.answers c.args.door.now c.args.door.now) (c.args.door.now ≡ c.args.door.now) (what_of t) did.found) (sym c.in-Free.is) (not_asked (g.D.Desk.standing c.args.desk.now).seat.profile (g.O.Door.answers c.args.door.now c.args.door.now) (c.args.door.now ≡ c.args.door.now) (Task.Free c.in-Free.name c.in-Free.room) did.found refl refl))
 
 pub returns-in-FreeRaw-clause-performs : goal.returns-in-FreeRaw-clause-performs
 returns-in-FreeRaw-clause-performs g c =
     let did = performs_raw c.args.task c.args.meant (cached c.args.cache.now) (cached c.free-in-FreeRaw.new.cache) c.in-FreeRaw.block c.in-FreeRaw.room c.in-FreeRaw.is c.free-in-FreeRaw.ensures.frees in
-    (did, subst (λ t. IsNamedFor (g.D.Desk.standing c.args.desk.now).seat.profile (g.O.Door.answers c.args.door.now c.args.door.now) (c.args.door.now ≡ c.args.door.now) (what_of t) did.found) (sym c.in-FreeRaw.is) (not_asked _ _ _ (Task.FreeRaw c.in-FreeRaw.block c.in-FreeRaw.room) did.found refl refl))
+    (did, subst (λ t. IsNamedFor (g.D.Desk.standing c.args.desk.now).seat.profile (g.O.Door.answers c.args.door.now c.args.door.now) (c.args.door.now ≡ c.args.door.now) (what_of t) did.found) (sym c.in-FreeRaw.is) (not_asked (g.D.Desk.standing c.args.desk.now).seat.profile (g.O.Door.answers c.args.door.now c.args.door.now) (c.args.door.now ≡ c.args.door.now) (Task.FreeRaw c.in-FreeRaw.block c.in-FreeRaw.room) did.found refl refl))
 
 pub returns-in-Flush-clause-performs : goal.returns-in-Flush-clause-performs
 returns-in-Flush-clause-performs g c =

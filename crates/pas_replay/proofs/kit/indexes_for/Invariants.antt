@@ -4,5 +4,5 @@ use Rattle.std.specs.Prelude.{vec_capacity}
 use Rattle.pas_large.specs.Doors.{no_ranges}
 use Rattle.pas_replay.proofs.kit.indexes_for.Given as goal
 
-abbrev pub invariant-loop-_heap : goal.invariant-loop-_heap
-invariant-loop-_heap l = record { made : l.indexes.items ≡ no_ranges l._heap; reserved : l.heaps ≤ vec_capacity l.indexes }
+abbrev pub invariant-loop-heap : goal.invariant-loop-heap
+invariant-loop-heap l = record { made : l.indexes.items ≡ no_ranges l.heap; reserved : l.heaps ≤ vec_capacity l.indexes }
