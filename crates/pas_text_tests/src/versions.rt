@@ -86,10 +86,7 @@ const SIZED_LINES: [(&[u8], Fault); 30] = [
         Some((3, Reason::BadNumber)),
     ),
     (b"fs 3 9 16385 8\n", Some((3, Reason::BadThread))),
-    (
-        b"rs 0 0x00001000 0 16385 8\n",
-        Some((3, Reason::BadThread)),
-    ),
+    (b"rs 0 0x00001000 0 16385 8\n", Some((3, Reason::BadThread))),
     (b"fs 1 9 16385 8\n", Some((3, Reason::BadSize))),
     (b"rs 1 0x00001000 0 16385 8\n", Some((3, Reason::BadSize))),
     (b"fs 1 9 24 8\n", Some((3, Reason::BadAlign))),
@@ -149,7 +146,8 @@ fn reallocations_have_faults(rt: HostRuntime) {
 }
 
 /// A block of heap 1 that is reallocated twice.
-const MOVED_TWICE: &[u8] = b"pas 4 pages 4 threads 1 heaps 2 age 2\na 1 7 1 24 16\nm 1 8 7 40 16\nm 1 9 8 5000 64\n";
+const MOVED_TWICE: &[u8] =
+    b"pas 4 pages 4 threads 1 heaps 2 age 2\na 1 7 1 24 16\nm 1 8 7 40 16\nm 1 9 8 5000 64\n";
 
 /// The second time.
 const AGAIN: What = What::Remake {
