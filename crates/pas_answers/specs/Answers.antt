@@ -23,7 +23,7 @@ use Rattle.pas_steps.specs.declared.step.Made.{Made}
 use Rattle.pas_steps.specs.declared.step.Step.TheVariants.{Look}
 use Rattle.pas_steps.specs.declared.step.Step.TheVariants as Step
 use Rattle.pas_trace.specs.declared.plan.What.{What}
-use Rattle.pas_trace.specs.declared.plan.What.TheVariants.{Alloc, Free, FreeSized, Raw, RawSized, Flush, Stop, Tick, Pass, Idle}
+use Rattle.pas_trace.specs.declared.plan.What.TheVariants.{Alloc, Free, FreeSized, Raw, RawSized, Remake, Flush, Stop, Tick, Pass, Idle}
 pub use Rattle.pas_answers.specs.Named.{Named, named, standing_for}
 use Rattle.pas_trace.specs.declared.item.Request.{Request}
 use Rattle.pas_report.specs.declared.record.Record.{Record}
@@ -216,6 +216,7 @@ IsAnswered f k (Free name) b a = IsFreedBy f k b.cache a.cache name None (standi
 IsAnswered f k (FreeSized name room) b a = IsFreedBy f k b.cache a.cache name (Some room) (standing_for b.names name) a.steps a.said × (a.names ≡ b.names)
 IsAnswered f k (Raw block) b a = IsFreed f k b.cache a.cache (entry_of block) a.steps a.said × (a.names ≡ b.names)
 IsAnswered f k (RawSized room block) b a = IsFreed f k b.cache a.cache (sized_entry block room) a.steps a.said × (a.names ≡ b.names)
+IsAnswered f k (Remake name old heap size align) b a = IsRemadeBy f k name size align (standing_for b.names old) b a
 IsAnswered f k Flush b a = IsFlushed k b.cache a.cache a.steps × (a.said ≡ None) × (a.names ≡ b.names)
 IsAnswered f k Stop b a = IsStopped k b.cache a.cache a.steps × (a.said ≡ None) × (a.names ≡ b.names)
 IsAnswered f k (Tick e) b a = ⊥

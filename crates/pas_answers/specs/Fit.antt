@@ -11,10 +11,9 @@ use Rattle.pas_trace.specs.declared.plan.Work.{Work}
 use Rattle.pas_trace.specs.declared.plan.Op.{Op}
 use Rattle.pas_trace.specs.Acts.{Act, Operates, Settles, Ticks, MakesPass, ReadsEpoch, StopsIdle, MarksPhase, Wakes, MarksClose, Ends, operation_in}
 
--- A thread's operation can be replayed after those that asked for these names. A request has a new name below the limit, a free has one of those that were
--- asked for, and a turn has a next one.
+-- A thread's operation can be replayed after those that asked for these names: it may follow them, and a name that it asks for is below the limit.
 abbrev pub IsFitTask : Profile → ℕ → List ℕ → Task → Type 0
-IsFitTask f limit asked task = MatchOption (request_of task) (IsSoundTask f asked task) (λ r. (r.name < limit) × IsAdmitted f r.size r.align r.heap × (is_asked asked r.name ≡ false))
+IsFitTask f limit asked task = MatchOption (request_of task) (Unit {0}) (λ r. r.name < limit) × IsSoundTask f asked task
 
 abbrev pub IsFitWork : Profile → ℕ → List ℕ → Work → Type 0
 IsFitWork f limit asked (Work.Own task) = IsFitTask f limit asked task

@@ -4,13 +4,21 @@ use Rattle.pas_profile.specs.declared.profile.Profile.{Profile}
 use Rattle.pas_steps.specs.Desks.{triples}
 use Rattle.pas_steps.specs.Lists.{Whole, part}
 use Rattle.pas_trace.specs.declared.plan.What.{What}
-use Rattle.pas_trace.specs.declared.plan.What.TheVariants.{Alloc, Free, FreeSized, Raw, RawSized, Flush, Stop, Tick, Pass, Idle}
+use Rattle.pas_trace.specs.declared.plan.What.TheVariants.{Alloc, Free, FreeSized, Raw, RawSized, Remake, Flush, Stop, Tick, Pass, Idle}
 use Rattle.pas_cache.specs.Refusals.{IsTrulyRefused}
 use Rattle.pas_cache.specs.Serves.{wanted_for}
 use Rattle.pas_trace.specs.Acts.{Act, Operates, Settles, Ticks, MakesPass, ReadsEpoch, StopsIdle, MarksPhase, Wakes, MarksClose, Ends}
-use Rattle.pas_answers.specs.Answers.{Having, having, Answer, IsAnswered, Progress}
+use Rattle.pas_answers.specs.Answers.{Having, having, Answer, standing_for, IsRemadeBy, IsAnswered, Progress}
 use Rattle.pas_answers.specs.Reaching.{Advances, Reaches}
 use Rattle.pas_answers.specs.Ways.{Way, InOrder, OnThreads}
+
+-- .. of a request for another size, where the block is replaced
+abbrev pub RefusesMoveTruly : (f : Profile) (k name size align : ℕ) (o : Option (Option Block)) (b : Having) (a : Answer) → IsRemadeBy f k name size align o b a → Whole → Type 0
+RefusesMoveTruly f k name size align None b a is l = Unit {0}
+RefusesMoveTruly f k name size align (Some None) b a is l = Unit {0}
+RefusesMoveTruly f k name size align (Some (Some old)) b a (inl kept) l = Unit {0}
+RefusesMoveTruly f k name size align (Some (Some old)) b a (inr moved) l =
+    MatchResult moved.served.answer (λ block. Unit {0}) (IsTrulyRefused f (wanted_for f old.heap size align) b.cache.locals l (triples k a.steps ++ l))
 
 -- Where the operation is a request that was refused, it was refused truly: nothing could serve it after the list l, nor can anything once its steps were
 -- made, and its reason is true then.
@@ -20,6 +28,7 @@ RefusesTruly f k (Free name) b a is l = Unit {0}
 RefusesTruly f k (FreeSized name room) b a is l = Unit {0}
 RefusesTruly f k (Raw block) b a is l = Unit {0}
 RefusesTruly f k (RawSized room block) b a is l = Unit {0}
+RefusesTruly f k (Remake name old heap size align) b a is l = RefusesMoveTruly f k name size align (standing_for b.names old) b a is l
 RefusesTruly f k Flush b a is l = Unit {0}
 RefusesTruly f k Stop b a is l = Unit {0}
 RefusesTruly f k (Tick e) b a is l = Unit {0}

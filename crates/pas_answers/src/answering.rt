@@ -106,6 +106,24 @@ fn free<D: Desk>(
     }
 }
 
+/// Gives the block another size, under a new name: what that name stands for from then on, and what is said where the block is kept or the request refused.
+fn remake<D: Desk, O: Door, M: Remake>(
+    desk: &mut D,
+    door: &mut O,
+    cache: &mut ThreadCache,
+    moving: &M,
+    name: u32,
+    old: Block,
+    size: u32,
+    align: u32,
+) -> (Option<Block>, Option<Said>) {
+    match moving.remake(cache, desk, door, old, size, align) {
+        Ok(Moved::Kept) => (Some(old), Some(Said::Kept { block: old.name, name })),
+        Ok(Moved::New(block)) => (Some(block), None),
+        Err(room) => (None, Some(refusal(name, room))),
+    }
+}
+
 /// Does the task, of which the freed name stands for `meant`: what the asked name stands for from then on, and what is said besides its events.
 #[inline(always)]
 fn perform<D: Desk, O: Door>(
