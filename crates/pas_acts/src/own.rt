@@ -12,14 +12,14 @@ use crate::at_desk;
 use crate::gate::Gate;
 use crate::names::{NameBook, Request, Requests};
 use pas_cache::ThreadCache;
-use pas_profile::Name;
+use pas_profile::Block;
 use pas_report::Records;
 use pas_steps::Desk;
 use pas_trace::{Op, Task, Work};
 
 /// What the name that the task frees stands for to the thread.
 #[inline(always)]
-fn freed(book: &NameBook, requests: &Requests, task: Task) -> Option<Name>
+fn freed(book: &NameBook, requests: &Requests, task: Task) -> Option<Block>
     requires { ArePlaced book.now 0 (names_of (requests_in requests.now)) }
     ensures { result ≡ freed_by (known_in book.now requests.now) (what_of task) }
 {
@@ -31,7 +31,7 @@ fn freed(book: &NameBook, requests: &Requests, task: Task) -> Option<Name>
 
 /// Keeps what the name that the task asked for came to.
 #[inline(always)]
-fn keep(requests: &mut Requests, task: Task, came: Option<Name>)
+fn keep(requests: &mut Requests, task: Task, came: Option<Block>)
     requires { length (requests_in requests.old) + length (name_asked (what_of task)) ≤ room_for requests.old }
     ensures kept { requests_in requests.new ≡ requests_in requests.old ++ named_by (what_of task) came }
     ensures room { room_for requests.new ≡ room_for requests.old }

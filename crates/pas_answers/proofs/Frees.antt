@@ -1,6 +1,7 @@
 -- What frees, flushes and stops promise.
 use Rattle.std.proofs.Common.{◌≡◌, ℕ, ◌+◌, ◌≤◌, ◌++◌, List, [], ◌∷◌, length, Option, Some, None, Result, Ok, Err, inl, inr, refl, ap, sym, ◌∙◌, subst, arith, length-append, nat_le}
 use Rattle.std.specs.Prelude.{MatchResult}
+use Rattle.pas_profile.specs.declared.name.Block.{Block}
 use Rattle.pas_profile.specs.declared.name.Name.{Name}
 use Rattle.pas_profile.specs.declared.profile.Profile.{Profile}
 use Rattle.pas_profile.specs.declared.event.Event.{Event}
@@ -63,13 +64,13 @@ frees_refused {σ} {σ'} {answer} name c c' fault frees is =
 
 -- ---- a free by a name of the trace
 -- a name that was asked for stands for what is meant
-behind : (o : Option (Option Name)) (b : Option Name) → o ≡ Some b → block_behind o ≡ b
+behind : (o : Option (Option Block)) (b : Option Block) → o ≡ Some b → block_behind o ≡ b
 behind o b is = ap block_behind is
 
-stands_for : (names : List Named) (name : ℕ) (block : Option Name) → IsMeant names (Free name) block → IsKnown names (Free name) → standing_for names name ≡ Some block
+stands_for : (names : List Named) (name : ℕ) (block : Option Block) → IsMeant names (Free name) block → IsKnown names (Free name) → standing_for names name ≡ Some block
 stands_for names name block means known = known.1 ∙ ap (λ b. Some b) (sym (behind (standing_for names name) known.0 known.1) ∙ means)
 
-pub performs_free : {σ σ' : Standing} {said : Option Said} (task : Task) (meant : Option Name) (c c' : Cached) (name : ℕ) (block : Name) → task ≡ Task.Free name → meant ≡ Some block → FreesOne block c c' σ σ' said → PerformsMeant (what_of task) meant None c c' σ σ' said
+pub performs_free : {σ σ' : Standing} {said : Option Said} (task : Task) (meant : Option Block) (c c' : Cached) (name : ℕ) (block : Block) → task ≡ Task.Free name → meant ≡ Some block → FreesOne block.name c c' σ σ' said → PerformsMeant (what_of task) meant None c c' σ σ' said
 performs_free {σ} {σ'} {said} task meant c c' name block is named frees = subst (λ t. PerformsMeant (what_of t) meant None c c' σ σ' said) (sym is) record {
   steps = frees.steps;
   calls = frees.calls;
@@ -79,7 +80,7 @@ performs_free {σ} {σ'} {said} task meant c c' name block is named frees = subs
 }
 
 -- its request was refused
-pub performs_skip : {σ : Standing} (task : Task) (meant : Option Name) (c : Cached) (name : ℕ) → task ≡ Task.Free name → meant ≡ None → PerformsMeant (what_of task) meant None c c σ σ (Some (Said.Skipped name))
+pub performs_skip : {σ : Standing} (task : Task) (meant : Option Block) (c : Cached) (name : ℕ) → task ≡ Task.Free name → meant ≡ None → PerformsMeant (what_of task) meant None c c σ σ (Some (Said.Skipped name))
 performs_skip {σ} task meant c name is named = subst (λ t. PerformsMeant (what_of t) meant None c c σ σ (Some (Said.Skipped name))) (sym is) record {
   steps = [];
   calls = call_none (λ v rest. rest);
@@ -89,7 +90,7 @@ performs_skip {σ} task meant c name is named = subst (λ t. PerformsMeant (what
 }
 
 -- a free by address and turn
-pub performs_raw : {σ σ' : Standing} {said : Option Said} (task : Task) (meant : Option Name) (c c' : Cached) (block : Name) → task ≡ Task.FreeRaw block → FreesOne block c c' σ σ' said → PerformsMeant (what_of task) meant None c c' σ σ' said
+pub performs_raw : {σ σ' : Standing} {said : Option Said} (task : Task) (meant : Option Block) (c c' : Cached) (block : Name) → task ≡ Task.FreeRaw block → FreesOne block c c' σ σ' said → PerformsMeant (what_of task) meant None c c' σ σ' said
 performs_raw {σ} {σ'} {said} task meant c c' block is frees = subst (λ t. PerformsMeant (what_of t) meant None c c' σ σ' said) (sym is) record {
   steps = frees.steps;
   calls = frees.calls;
@@ -99,7 +100,7 @@ performs_raw {σ} {σ'} {said} task meant c c' block is frees = subst (λ t. Per
 }
 
 -- ---- a flush and a stop
-pub performs_flush : {σ σ' : Standing} (task : Task) (meant : Option Name) (c c' : Cached) → task ≡ Task.Flush → FlushesLog c c' σ σ' → PerformsMeant (what_of task) meant None c c' σ σ' None
+pub performs_flush : {σ σ' : Standing} (task : Task) (meant : Option Block) (c c' : Cached) → task ≡ Task.Flush → FlushesLog c c' σ σ' → PerformsMeant (what_of task) meant None c c' σ σ' None
 performs_flush {σ} {σ'} task meant c c' is flushes = subst (λ t. PerformsMeant (what_of t) meant None c c' σ σ' None) (sym is) record {
   steps = flushes.steps;
   calls = flushes.calls;
@@ -112,7 +113,7 @@ performs_flush {σ} {σ'} task meant c c' is flushes = subst (λ t. PerformsMean
   others = λ none. refl;
 }
 
-pub performs_stop : {σ σ' : Standing} (task : Task) (meant : Option Name) (c c' : Cached) → task ≡ Task.Stop → StopsCache c c' σ σ' → PerformsMeant (what_of task) meant None c c' σ σ' None
+pub performs_stop : {σ σ' : Standing} (task : Task) (meant : Option Block) (c c' : Cached) → task ≡ Task.Stop → StopsCache c c' σ σ' → PerformsMeant (what_of task) meant None c c' σ σ' None
 performs_stop {σ} {σ'} task meant c c' is stops = subst (λ t. PerformsMeant (what_of t) meant None c c' σ σ' None) (sym is) record {
   steps = stops.stopped ++ stops.flushed;
   calls = call_as (λ v w. AtRest σ.seat.profile c' w) stops.calls (λ v rest. rest) (λ v w rest stopped. stopped.0);

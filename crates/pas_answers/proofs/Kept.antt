@@ -1,13 +1,14 @@
 -- An operation by what it asks for, and what the name that it frees stands for.
 use Rattle.std.proofs.Common.{◌≡◌, ℕ, List, Option, Some, None, ap, sym}
-use Rattle.pas_profile.specs.declared.name.Name.{Name}
+use Rattle.pas_profile.specs.declared.name.Block.{Block}
+use Rattle.pas_profile.specs.declared.profile.Profile.{Profile}
 use Rattle.pas_trace.specs.declared.plan.What.{What}
 use Rattle.pas_trace.specs.Asked.{work_of}
 use Rattle.pas_trace.specs.declared.plan.What.TheVariants.{Alloc, Free, Raw, Flush, Stop}
 use Rattle.pas_trace.specs.declared.plan.Task.{Task}
 use Rattle.pas_trace.specs.declared.plan.Work.{Work}
 use Rattle.pas_answers.specs.Answers.{Named, standing_for}
-use Rattle.pas_answers.specs.Calls.{what_of, HasTurn, block_behind, IsMeant, freed_by}
+use Rattle.pas_answers.specs.Calls.{what_of, MayStand, block_behind, IsMeant, freed_by}
 
 -- it is the one that asks its thread for this
 same_own : {a b : Task} → Work.Own a ≡ Work.Own b → a ≡ b
@@ -22,14 +23,14 @@ own_what Stop task is = ap what_of (same_own is)
 own_what what task is = cc
 
 -- what is said of each name is said of the freed one
-pub meant_by : (block : ℕ → Option Name) (names : List Named) (what : What) → ((n : ℕ) → block n ≡ block_behind (standing_for names n)) → IsMeant names what (freed_by block what)
+pub meant_by : (block : ℕ → Option Block) (names : List Named) (what : What) → ((n : ℕ) → block n ≡ block_behind (standing_for names n)) → IsMeant names what (freed_by block what)
 meant_by block names (Free name) tells = sym (tells name)
 meant_by block names what tells = tt
 
--- .. and its turn has a next one
-pub no_turn : HasTurn None
-no_turn = λ b same. absurd (let bad : None ≡ Some b = same in cc)
+-- .. and it is one of the region
+pub none_stands : (f : Profile) → MayStand f None
+none_stands f = λ b same. absurd (let bad : None ≡ Some b = same in cc)
 
-pub turn_meant : (block : ℕ → Option Name) (what : What) → ((n : ℕ) → HasTurn (block n)) → HasTurn (freed_by block what)
-turn_meant block (Free name) turns = turns name
-turn_meant block what turns = no_turn
+pub meant_stands : (f : Profile) (block : ℕ → Option Block) (what : What) → ((n : ℕ) → MayStand f (block n)) → MayStand f (freed_by block what)
+meant_stands f block (Free name) stand = stand name
+meant_stands f block what stand = none_stands f

@@ -5,6 +5,7 @@ use Rattle.std.proofs.lemmas.Bool.{true≢false, eqb-false, eq-eqb, ne_eqb, fals
 use Rattle.pas_profile.specs.Lives.{live_word}
 use Rattle.pas_profile.specs.Directories.{directory_read, deed_word_of}
 use Rattle.pas_profile.specs.declared.profile.Profile.{Profile}
+use Rattle.pas_profile.specs.declared.name.Block.{Block}
 use Rattle.pas_profile.specs.declared.name.Name.{Name}
 use Rattle.pas_profile.specs.declared.word.Word.{Word}
 use Rattle.pas_bits.specs.Runs.{meets_page}
@@ -288,10 +289,10 @@ free_tidy : (f : Profile) (k : ℕ) (c c' : Cached) (name : Name) (steps : List 
 free_tidy f k c c' name steps said v of (inl h) tidy = full_tidy f k (nat_le 64 (length c.log)) c.log h.0.logs.kept c.noted c'.noted steps v of h.0.logs.emptied tidy
 free_tidy f k c c' name steps said v of (inr h) tidy = tidy_none steps v h.1.no_steps tidy
 
-freed_tidy : (f : Profile) (k : ℕ) (c c' : Cached) (name : ℕ) (is : Option (Option Name)) (steps : List Made) (said : Option Said) (v : View) → AreOfRegion f steps → IsFreedBy f k c c' name is steps said → Tidy v → Tidy (steps ++ v)
+freed_tidy : (f : Profile) (k : ℕ) (c c' : Cached) (name : ℕ) (is : Option (Option Block)) (steps : List Made) (said : Option Said) (v : View) → AreOfRegion f steps → IsFreedBy f k c c' name is steps said → Tidy v → Tidy (steps ++ v)
 freed_tidy f k c c' name None steps said v of h tidy = absurd h
 freed_tidy f k c c' name (Some None) steps said v of h tidy = tidy_none steps v h.0 tidy
-freed_tidy f k c c' name (Some (Some block)) steps said v of h tidy = free_tidy f k c c' block steps said v of h tidy
+freed_tidy f k c c' name (Some (Some block)) steps said v of h tidy = free_tidy f k c c' block.name steps said v of h tidy
 
 pub answer_tidy : (f : Profile) (k : ℕ) (what : What) (b : Having) (a : Answer) → IsAnswered f k what b a → AreOfRegion f a.steps → Tidy b.view → Tidy (a.steps ++ b.view)
 answer_tidy f k (What.Alloc name heap size align) b a h of tidy = tidy_over allocating refl a.steps b.view h.kinds tidy

@@ -24,7 +24,7 @@ use Rattle.pas_steps.specs.declared.step.Step.TheVariants.{Look}
 use Rattle.pas_steps.specs.declared.step.Step.TheVariants as Step
 use Rattle.pas_trace.specs.declared.plan.What.{What}
 use Rattle.pas_trace.specs.declared.plan.What.TheVariants.{Alloc, Free, Raw, Flush, Stop, Tick, Pass, Idle}
-pub use Rattle.pas_trace.specs.Named.{Named, named, standing_for}
+pub use Rattle.pas_answers.specs.Named.{Named, named, standing_for}
 use Rattle.pas_trace.specs.declared.item.Request.{Request}
 use Rattle.pas_report.specs.declared.record.Record.{Record}
 use Rattle.pas_report.specs.declared.record.Said.{Said}
@@ -86,9 +86,9 @@ said_of_request name (Ok block) = None
 said_of_request name (Err room) = Some (said_of_room name room)
 
 -- the block that its name stands for from then on
-abbrev pub name_of : Result Block NoRoom → Option Name
-name_of (Ok block) = Some block.name
-name_of (Err room) = None
+abbrev pub block_of : Result Block NoRoom → Option Block
+block_of (Ok block) = Some block
+block_of (Err room) = None
 
 -- what it comes to for the caches
 abbrev pub wanted_by : Profile → Request → Wanted
@@ -124,7 +124,7 @@ pub record IsServed (f : Profile) (k : ℕ) (r : Request) (before : Having) (aft
   pub kinds : Only allocating after.steps
   pub ends : RequestEnds k (wanted_by f r) before.view after.steps answer
   pub said_is : after.said ≡ said_of_request r.name answer
-  pub names_are : after.names ≡ named r.name (name_of answer) ∷ before.names
+  pub names_are : after.names ≡ named r.name (block_of answer) ∷ before.names
 
 -- ---- a free
 abbrev pub said_of_fault : Name → FreeFault → Said
@@ -139,10 +139,10 @@ IsFreed f k c c' name steps said =
 
 -- what a free by a name of the trace comes to: the name was never asked for (which no trace has), its request was refused, or it stands for a
 -- block
-abbrev pub IsFreedBy : Profile → ℕ → Cached → Cached → ℕ → Option (Option Name) → List Made → Option Said → Type 0
+abbrev pub IsFreedBy : Profile → ℕ → Cached → Cached → ℕ → Option (Option Block) → List Made → Option Said → Type 0
 IsFreedBy f k c c' name None steps said = ⊥
 IsFreedBy f k c c' name (Some None) steps said = (steps ≡ []) × (c' ≡ c) × (said ≡ Some (Said.Skipped name))
-IsFreedBy f k c c' name (Some (Some block)) steps said = IsFreed f k c c' block steps said
+IsFreedBy f k c c' name (Some (Some block)) steps said = IsFreed f k c c' block.name steps said
 
 -- ---- a flush and a stop
 pub record IsFlushed (k : ℕ) (c c' : Cached) (steps : List Made) : Type 0 where

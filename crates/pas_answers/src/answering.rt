@@ -7,12 +7,12 @@ ghost use Rattle.pas_cache.specs.Caches.{cached};
 ghost use Rattle.pas_answers.specs.Answers.{said_of_room};
 ghost use Rattle.pas_answers.specs.Fit.{IsFitWhat};
 ghost use Rattle.pas_profile.specs.Profiles.{IsAdmitted};
-ghost use Rattle.pas_profile.specs.declared.name.Name.{Name as TheName};
-ghost use Rattle.pas_answers.specs.Calls.{what_of, HasTurn, MayPerform, PerformsMeant, FreesOne, MayAnswer, AnswersMeant};
+ghost use Rattle.pas_profile.specs.declared.name.Block.{Block as TheBlock};
+ghost use Rattle.pas_answers.specs.Calls.{what_of, MayStand, MayPerform, PerformsMeant, FreesOne, MayAnswer, AnswersMeant};
 
 use pas_cache::ThreadCache;
 use pas_large::NoIndex;
-use pas_profile::{Event, FreeFault, Name, NoRoom};
+use pas_profile::{Block, Event, FreeFault, Name, NoRoom};
 use pas_report::{Record, Records, Said};
 use pas_steps::Desk;
 use pas_trace::Task;
@@ -49,15 +49,15 @@ fn allocate<D: Desk>(
     heap: u8,
     size: u32,
     align: u32,
-) -> (Option<Name>, Option<Said>)
+) -> (Option<Block>, Option<Said>)
     requires admitted { IsAdmitted (D.standing desk.old).seat.profile size align heap }
     requires can { CanCall (D.standing desk.old) (MayPerform (D.standing desk.old).seat.profile (cached cache.old) (TheWhat.Alloc name heap size align) (D.spare_of desk.old)) }
-    ensures performs { (meant : Option TheName) → PerformsMeant (TheWhat.Alloc name heap size align) meant result.0 (cached cache.old) (cached cache.new) (D.standing desk.old) (D.standing desk.new) result.1 }
-    ensures turn { HasTurn result.0 }
+    ensures performs { (meant : Option TheBlock) → PerformsMeant (TheWhat.Alloc name heap size align) meant result.0 (cached cache.old) (cached cache.new) (D.standing desk.old) (D.standing desk.new) result.1 }
+    ensures stands { MayStand (D.standing desk.old).seat.profile result.0 }
     ensures home { D.home desk.new ≡ D.home desk.old }
 {
     match cache.serve(desk, &mut NoIndex, heap, size, align) {
-        Ok(block) => (Some(block.name), None),
+        Ok(block) => (Some(block), None),
         Err(room) => (None, Some(refusal(name, room))),
     }
 }
@@ -82,13 +82,13 @@ fn perform<D: Desk>(
     desk: &mut D,
     cache: &mut ThreadCache,
     task: Task,
-    meant: Option<Name>,
-) -> (Option<Name>, Option<Said>)
+    meant: Option<Block>,
+) -> (Option<Block>, Option<Said>)
     requires fit { (limit : ℕ) × (asked : List ℕ) × IsFitWhat (D.standing desk.old).seat.profile limit asked (what_of task) }
-    requires turn { HasTurn meant }
+    requires stands { MayStand (D.standing desk.old).seat.profile meant }
     requires can { CanCall (D.standing desk.old) (MayPerform (D.standing desk.old).seat.profile (cached cache.old) (what_of task) (D.spare_of desk.old)) }
     ensures performs { PerformsMeant (what_of task) meant result.0 (cached cache.old) (cached cache.new) (D.standing desk.old) (D.standing desk.new) result.1 }
-    ensures turn { HasTurn result.0 }
+    ensures stands { MayStand (D.standing desk.old).seat.profile result.0 }
     ensures home { D.home desk.new ≡ D.home desk.old }
 {
     match task {
@@ -99,7 +99,7 @@ fn perform<D: Desk>(
             align,
         } => allocate(desk, cache, name, heap, size, align),
         Task::Free { name } => match meant {
-            Some(block) => (None, free(desk, cache, block)),
+            Some(block) => (None, free(desk, cache, block.name)),
             None => (None, Some(Said::Skipped { name })),
         },
         Task::FreeRaw { block } => (None, free(desk, cache, block)),
@@ -121,14 +121,14 @@ pub fn answer_meant<D: Desk>(
     desk: &mut D,
     cache: &mut ThreadCache,
     task: Task,
-    meant: Option<Name>,
+    meant: Option<Block>,
     out: &mut Records,
-) -> Option<Name>
+) -> Option<Block>
     requires fit { (limit : ℕ) × (asked : List ℕ) × IsFitWhat (D.standing desk.old).seat.profile limit asked (what_of task) }
-    requires turn { HasTurn meant }
+    requires stands { MayStand (D.standing desk.old).seat.profile meant }
     requires can { CanCall (D.standing desk.old) (MayAnswer (D.standing desk.old).seat.profile (cached cache.old) (what_of task) (D.spare_of desk.old) out.old) }
     ensures answers { AnswersMeant (what_of task) meant result (cached cache.old) (cached cache.new) out.old out.new (D.standing desk.old) (D.standing desk.new) }
-    ensures turn { HasTurn result }
+    ensures stands { MayStand (D.standing desk.old).seat.profile result }
     ensures home { D.home desk.new ≡ D.home desk.old }
 {
     let before = desk.shown().len();

@@ -62,8 +62,8 @@ frees f k name w = if nat_le 4096 (address_of name) && nat_lt (address_of name) 
     else says (Record.Said k (said_of_fault name FreeFault.Outside)) w
 
 -- a free by a name of the trace, which stands for a block, or for nothing where its request was refused. A trace has no name that was never asked for
-abbrev pub frees_what : Profile → ℕ → ℕ → Option (Option Name) → World → World
-frees_what f k name (Some (Some block)) w = frees f k block w
+abbrev pub frees_what : Profile → ℕ → ℕ → Option (Option Block) → World → World
+frees_what f k name (Some (Some block)) w = frees f k block.name w
 frees_what f k name (Some None) w = says (Record.Said k (Said.Skipped name)) w
 frees_what f k name None w = w
 

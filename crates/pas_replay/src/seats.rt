@@ -8,7 +8,7 @@ ghost use Rattle.pas_cache.specs.declared.cache.ThreadCache.{ThreadCache as TheC
 ghost use Rattle.pas_report.specs.Rooms.{Records as TheRecords};
 ghost use Rattle.pas_trace.specs.Acts.{Act, Operates, Settles, Ticks, MakesPass, ReadsEpoch, StopsIdle, Wakes, Ends};
 ghost use Rattle.pas_answers.specs.Answers.{Named};
-ghost use Rattle.pas_answers.specs.Calls.{what_of, Tells, HasTurn, HasTurns, freed_by, named_by};
+ghost use Rattle.pas_answers.specs.Calls.{what_of, Tells, MayStand, AllMayStand, freed_by, named_by};
 ghost use Rattle.pas_trace.specs.declared.plan.Op.{Op as TheOp};
 ghost use Rattle.pas_answers.specs.Fit.{IsFitWhat};
 ghost use Rattle.pas_answers.specs.Names.{block_named, names_held};
@@ -20,7 +20,7 @@ use pas_acts::{at_desk, turns};
 use pas_answers::names::Names;
 use pas_cache::ThreadCache;
 use pas_plain::{PlainDesk, PlainPass, PlainRegion};
-use pas_profile::Name;
+use pas_profile::Block;
 use pas_report::{Record, Records, Said};
 use pas_steps::Desk;
 use pas_trace::Task;
@@ -91,7 +91,7 @@ fn change_seats(desk: &mut PlainDesk, passes: &mut Vec<Option<PlainPass>>, actor
 
 /// What the name that the task frees stands for.
 #[inline(always)]
-fn freed(names: &Names, task: Task) -> Option<Name>
+fn freed(names: &Names, task: Task) -> Option<Block>
     ensures { result ≡ freed_by (block_named names.now) (what_of task) }
 {
     match task {
@@ -102,10 +102,10 @@ fn freed(names: &Names, task: Task) -> Option<Name>
 
 /// Keeps what the name that the task asked for came to.
 #[inline(always)]
-fn keep(names: &mut Names, task: Task, came: Option<Name>)
+fn keep(names: &mut Names, task: Task, came: Option<Block>)
     requires fit { (f : TheProfile) × (asked : List ℕ) × IsFitWhat f (names_held names.old) asked (what_of task) }
     ensures tells { (known : List Named) → Tells names.old known → Tells names.new (named_by (what_of task) came ++ known) }
-    ensures turns { HasTurns names.old → HasTurn came → HasTurns names.new }
+    ensures stand { (f : TheProfile) → AllMayStand f names.old → MayStand f came → AllMayStand f names.new }
     ensures held { names_held names.new ≡ names_held names.old }
 {
     match task {

@@ -1,4 +1,6 @@
-use Rattle.std.proofs.Common.{refl, sym, ◌∙◌}
+use Rattle.std.proofs.Common.{refl, sym, ◌∙◌, subst}
+use Rattle.pas_profile.specs.declared.profile.Profile.{Profile}
+use Rattle.pas_answers.specs.Calls.{MayStand}
 use Rattle.pas_answers.proofs.Kept.{own_what}
 use Rattle.pas_acts.proofs.Working.{no_chore, may_operate, its_own, room_now, operated}
 use Rattle.pas_acts.proofs.own.operate.Goals as goal
@@ -17,7 +19,7 @@ keep-requires g c = room_now (own_what c.args.op.what c.in-Own.task (sym c.work.
 pub returns-in-Own-clause-works : goal.returns-in-Own-clause-works
 returns-in-Own-clause-works g c = λ f next later p at.
     let is = own_what c.args.op.what c.in-Own.task (sym c.work.ensures ∙ c.in-Own.is) in
-    operated is at (c.operate-came.ensures.operates f c.args.op _ p is (may_operate is at c.freed-meant.ensures)) (record { book = refl; requests = c.keep.ensures.kept; room = c.keep.ensures.room }) c.operate-came.ensures.turn
+    operated is at (c.operate-came.ensures.operates f c.args.op _ p is (may_operate is at c.freed-meant.ensures)) (record { book = refl; requests = c.keep.ensures.kept; room = c.keep.ensures.room }) (subst (λ (g : Profile). MayStand g c.operate-came.result) at.sits.profile c.operate-came.ensures.stands)
 
 pub returns-in_default-clause-works : goal.returns-in_default-clause-works
 returns-in_default-clause-works g c = λ f next later p at. absurd (no_chore f _ at.names.asked at.names.fit.1 (sym c.work.ensures ∙ c.in_default.is))

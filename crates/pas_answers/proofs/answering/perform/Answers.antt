@@ -2,6 +2,9 @@ use Rattle.pas_cache.specs.Caches.{cached}
 use Rattle.pas_answers.proofs.Frees.{performs_free, performs_skip, performs_raw, performs_flush, performs_stop}
 use Rattle.pas_answers.proofs.answering.perform.Goals as goal
 
+pub free-requires-clause-turn : goal.free-requires-clause-turn
+free-requires-clause-turn g c = (c.requires.stands c.in-Some.block c.in-Some.is).turn
+
 pub returns-in-Some-clause-performs : goal.returns-in-Some-clause-performs
 returns-in-Some-clause-performs g c = performs_free c.args.task c.args.meant (cached c.args.cache.now) (cached c.free.new.cache) c.in-Free.name c.in-Some.block c.in-Free.is c.in-Some.is c.free.ensures.frees
 

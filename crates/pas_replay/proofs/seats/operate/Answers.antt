@@ -1,6 +1,8 @@
 use Rattle.std.proofs.Common.{◌-◌, subst}
 use Rattle.std.proofs.lemmas.List.{length-set}
 use Rattle.pas_trace.specs.declared.plan.What.{What}
+use Rattle.pas_profile.specs.declared.profile.Profile.{Profile}
+use Rattle.pas_answers.specs.Calls.{MayStand}
 use Rattle.pas_answers.specs.Fit.{IsFitWhat}
 use Rattle.pas_answers.specs.Names.{names_held}
 use Rattle.pas_replay.proofs.Turning.{may_take}
@@ -27,5 +29,7 @@ returns-clause-threads c = length-set c.args.actors.now.caches.items (c.args.act
 
 pub returns-clause-so_far : goal.returns-clause-so_far
 returns-clause-so_far c op mine asks r more (taken, (p, at)) =
-    let did = c.operate-came.ensures.operates r.profile op _ p asks (may_operate c.args.actor c.index_mut-cache.result.now mine asks c.requires.some c.requires.thread c.take_seat.ensures c.index_mut-cache.ensures.value c.freed-meant.ensures at) in
-    operate_turn c.args.actor c.operate-came.result c.index_mut-cache.result.now c.operate-came.new.cache mine asks c.requires.some c.requires.thread c.take_seat.ensures c.index_mut-cache.ensures.value at did c.keep.ensures.held (c.keep.ensures.tells p.names at.names.tells) (c.keep.ensures.turns at.names.turns c.operate-came.ensures.turn)
+    let may = may_operate c.args.actor c.index_mut-cache.result.now mine asks c.requires.some c.requires.thread c.take_seat.ensures c.index_mut-cache.ensures.value c.freed-meant.ensures at in
+    let did = c.operate-came.ensures.operates r.profile op _ p asks may in
+    let came = subst (λ (f : Profile). MayStand f c.operate-came.result) may.rests.sits.profile c.operate-came.ensures.stands in
+    operate_turn c.args.actor c.operate-came.result c.index_mut-cache.result.now c.operate-came.new.cache mine asks c.requires.some c.requires.thread c.take_seat.ensures c.index_mut-cache.ensures.value at did c.keep.ensures.held (c.keep.ensures.tells p.names at.names.tells) (c.keep.ensures.stand r.profile at.names.stand came)
