@@ -2,7 +2,7 @@
 -- sit elsewhere. What a name stands for is no table here: an operation is told what the freed name means, and tells what the asked one came to.
 use Rattle.std.specs.Prelude.{ℕ, ◌+◌, ◌≤◌, ◌≡◌, ◌≢◌, Bool, true, false, List, [], ◌∷◌, ◌++◌, length, Option}
 use Rattle.pas_profile.specs.declared.profile.Profile.{Profile}
-use Rattle.pas_profile.specs.declared.name.Name.{Name}
+use Rattle.pas_profile.specs.declared.name.Block.{Block}
 use Rattle.pas_steps.specs.Clear.{HasNothing}
 use Rattle.pas_steps.specs.Desks.{Standing}
 use Rattle.pas_steps.specs.Lists.{part}
@@ -16,7 +16,7 @@ use Rattle.pas_trace.specs.declared.plan.Op.{Op}
 use Rattle.pas_trace.specs.Acts.{Act, Operates, Settles}
 use Rattle.pas_answers.specs.Indexes.{IsNamedFor}
 use Rattle.pas_answers.specs.Answers.{Named, Progress, stopped}
-use Rattle.pas_answers.specs.Calls.{HasTurn, IsKnown, IsMeant, owed_events}
+use Rattle.pas_answers.specs.Calls.{MayStand, IsKnown, IsMeant, owed_events}
 use Rattle.pas_answers.specs.Fit.{IsFitWhat, cost_of_what, cost_of_act, own_costs_of, unbacks_of_act}
 use Rattle.pas_answers.specs.Reaching.{Reaches}
 use Rattle.pas_answers.specs.Ways.{EachOf}
@@ -37,16 +37,16 @@ here desk c out = record { desk = desk; cache = c; out = out }
 abbrev pub and_for : ℕ → Later → Later
 and_for cost later = record { events = cost + later.events; records = cost + later.records }
 
--- The thread rests, with room for the operation. The operation fits, a name that it frees was asked for and stands for `meant`, and a next turn follows
--- that of the block.
-pub record MayOperate (f : Profile) (k : ℕ) (what : What) (meant : Option Name) (old : Here) (later : Later) (p : Progress) : Type 0 where
+-- The thread rests, with room for the operation. The operation fits, a name that it frees was asked for and stands for `meant`, which is nothing or a
+-- block of the region.
+pub record MayOperate (f : Profile) (k : ℕ) (what : What) (meant : Option Block) (old : Here) (later : Later) (p : Progress) : Type 0 where
   pub rests : RestsAt f k old.desk old.cache old.out (and_for (cost_of_what what) later) p
   pub limit : ℕ
   pub asked : List ℕ
   pub fit : IsFitWhat f limit asked what
   pub known : IsKnown p.names what
   pub means : IsMeant p.names what meant
-  pub turn : HasTurn meant
+  pub stands : MayStand f meant
 
 -- Thread k did these acts, and rests again. The records of its steps came to its own; `told` is said besides, by whoever had it do so. These names came to
 -- stand for something. Nothing of another actor changed. What it owed before, and the cost of the acts, pays for what it said with what it owes then.

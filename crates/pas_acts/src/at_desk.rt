@@ -6,7 +6,7 @@ ghost use Rattle.pas_report.specs.Rooms.{Records as TheRecords};
 ghost use Rattle.pas_utility.specs.Outcomes.{places_of};
 ghost use Rattle.pas_trace.specs.Acts.{Operates, Settles, StopsIdle, Ticks, MakesPass, ReadsEpoch};
 ghost use Rattle.pas_answers.specs.Answers.{Progress};
-ghost use Rattle.pas_answers.specs.Calls.{what_of, HasTurn, named_by};
+ghost use Rattle.pas_answers.specs.Calls.{what_of, MayStand, named_by};
 ghost use Rattle.pas_trace.specs.declared.plan.Op.{Op as TheOp};
 ghost use Rattle.pas_acts.specs.Works.{Later};
 ghost use Rattle.pas_acts.specs.Turns.{RestsAt};
@@ -15,7 +15,7 @@ ghost use Rattle.pas_acts.specs.AtDesks.{here, told_if, MayOperate, GoesThrough,
 use pas_answers::{answer_meant, is_idle_for};
 use pas_cache::ThreadCache;
 use pas_large::{Door, NoIndex};
-use pas_profile::{Name, Word};
+use pas_profile::{Block, Word};
 use pas_report::Records;
 use pas_steps::Desk;
 use pas_trace::Task;
@@ -33,14 +33,14 @@ pub fn operate<D: Desk, O: Door>(
     door: &mut O,
     cache: &mut ThreadCache,
     task: Task,
-    meant: Option<Name>,
+    meant: Option<Block>,
     out: &mut Records,
-) -> Option<Name>
+) -> Option<Block>
     requires stands { (f : TheProfile) × (op : TheOp) × (later : Later) × (p : Progress) × (op.what ≡ what_of task) × MayOperate f op.actor op.what meant (here (D.standing desk.old) (cached cache.old) out.old) later p }
     ensures operates { (f : TheProfile) (op : TheOp) (later : Later) (p : Progress) → op.what ≡ what_of task → MayOperate f op.actor op.what meant (here (D.standing desk.old) (cached cache.old) out.old) later p
         → (did : ThreadActs f op.actor (Operates op ∷ (Settles op.actor ∷ [])) (named_by op.what result) [] (here (D.standing desk.old) (cached cache.old) out.old) (here (D.standing desk.new) (cached cache.new) out.new) later p)
         × GoesThrough O.answers O.settles f op p did.reached did.reaches door.old door.new }
-    ensures turn { HasTurn result }
+    ensures stands { MayStand (D.standing desk.old).seat.profile result }
     ensures home { D.home desk.new ≡ D.home desk.old }
 {
     let came = answer_meant(desk, door, cache, task, meant, out);

@@ -1,10 +1,11 @@
 //! The operations of one thread in a phase, at any desk.
-ghost use Rattle.std.specs.Prelude.{◌≡◌, ◌+◌, ◌<◌, ◌≤◌, ◌^◌, ◌++◌, List, [], ◌∷◌, length};
+ghost use Rattle.std.specs.Prelude.{◌≡◌, ◌+◌, ◌<◌, ◌≤◌, ◌^◌, ◌++◌, List, [], ◌∷◌, length, option_and_then};
 ghost use Rattle.pas_profile.specs.declared.profile.Profile.{Profile as TheProfile};
 ghost use Rattle.pas_cache.specs.Caches.{cached};
+ghost use Rattle.pas_trace.specs.Asked.{request_of, freed_of};
 ghost use Rattle.pas_trace.specs.Acts.{Act, Operates, Settles, own_acts};
 ghost use Rattle.pas_answers.specs.Answers.{Progress};
-ghost use Rattle.pas_answers.specs.Calls.{what_of, named_by, freed_by};
+ghost use Rattle.pas_answers.specs.Calls.{what_of, named_with};
 ghost use Rattle.pas_acts.specs.NameBooks.{requests_in, room_for, names_of, name_asked, ArePlaced, known_in, table};
 ghost use Rattle.pas_acts.specs.Works.{keeps, Later, ThreadAt, Works};
 
@@ -13,28 +14,28 @@ use crate::gate::Gate;
 use crate::names::{NameBook, Request, Requests};
 use pas_cache::ThreadCache;
 use pas_large::Door;
-use pas_profile::Name;
+use pas_profile::Block;
 use pas_report::Records;
 use pas_steps::Desk;
 use pas_trace::{Op, Task, Work};
 
 /// What the name that the task frees stands for to the thread.
 #[inline(always)]
-fn freed(book: &NameBook, requests: &Requests, task: Task) -> Option<Name>
+fn freed(book: &NameBook, requests: &Requests, task: Task) -> Option<Block>
     requires { ArePlaced book.now 0 (names_of (requests_in requests.now)) }
-    ensures { result ≡ freed_by (known_in book.now requests.now) (what_of task) }
+    ensures { result ≡ option_and_then (known_in book.now requests.now) (freed_of task) }
 {
     match task {
-        Task::Free { name } => book.meaning(requests, name),
+        Task::Free { name, .. } => book.meaning(requests, name),
         _ => None,
     }
 }
 
 /// Keeps what the name that the task asked for came to.
 #[inline(always)]
-fn keep(requests: &mut Requests, task: Task, came: Option<Name>)
+fn keep(requests: &mut Requests, task: Task, came: Option<Block>)
     requires { length (requests_in requests.old) + length (name_asked (what_of task)) ≤ room_for requests.old }
-    ensures kept { requests_in requests.new ≡ requests_in requests.old ++ named_by (what_of task) came }
+    ensures kept { requests_in requests.new ≡ requests_in requests.old ++ named_with (request_of task) came }
     ensures room { room_for requests.new ≡ room_for requests.old }
 {
     match task {

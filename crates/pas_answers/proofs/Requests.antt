@@ -1,18 +1,24 @@
 -- What a request promises.
-use Rattle.std.proofs.Common.{◌≡◌, ◌≢◌, ℕ, ◌+◌, ◌-◌, ◌^◌, ◌<◌, ◌≤◌, ◌++◌, Bool, List, [], ◌∷◌, length, Option, Some, None, Result, Ok, Err, inl, inr, refl, ap, sym, ◌∙◌, subst, arith}
-use Rattle.std.specs.Prelude.{◌/◌, MatchResult}
-use Rattle.std.proofs.lemmas.Bool.{cases_lt}
+use Rattle.std.proofs.Common.{◌≡◌, ◌≢◌, ℕ, ◌+◌, ◌-◌, ◌<◌, ◌≤◌, ◌++◌, Bool, true, List, [], ◌∷◌, length, Option, Some, None, Result, Ok, Err, inl, inr, refl, ap, sym, ◌∙◌, subst, arith, lt-ltb}
+use Rattle.std.specs.Prelude.{◌*◌, ◌/◌, ◌%◌, max, nat_le, nat_lt, MatchResult}
+use Rattle.std.proofs.lemmas.Bool.{cases_lt, and_from, le-leb}
+use Rattle.std.proofs.Math.Nat.{mul-mod_left, mod-add-div', mul_assoc}
 use Rattle.std.specs.List.{AllByRecursion}
 use Rattle.std.proofs.lemmas.Option.{same_Some}
 use Rattle.pas_profile.specs.Directories.{IsDirectory, deed_word_of}
-use Rattle.pas_profile.specs.Profiles.{IsValid, IsDirectoryOf}
+use Rattle.pas_profile.specs.Blocks.{address_of, grain_of, length_of}
+use Rattle.pas_profile.specs.Classes.{IsAlignment}
+use Rattle.pas_profile.specs.Profiles.{IsValid, IsAdmitted, IsPage, IsDirectoryOf}
+use Rattle.pas_profile.specs.Routes.{room_by, IsRouteOf}
+use Rattle.pas_profile.proofs.ClassFacts.{route_is, class_known, class_size_whole}
+use Rattle.pas_bits.specs.Runs.{in_run}
+use Rattle.pas_bitfit.proofs.Aligned.{sixteens}
 use Rattle.pas_profile.specs.Requests.{route_in, room_in}
 use Rattle.pas_profile.specs.declared.profile.Profile.{Profile}
 use Rattle.pas_profile.specs.declared.directory.Directory.{Directory}
 use Rattle.pas_profile.specs.declared.event.Event.{Event}
 use Rattle.pas_profile.specs.declared.event.NoRoom.{NoRoom}
 use Rattle.pas_profile.specs.declared.name.Block.{Block}
-use Rattle.pas_profile.specs.declared.name.Name.{Name}
 use Rattle.pas_profile.specs.declared.word.Word.TheVariants as Word
 use Rattle.pas_profile.proofs.Codecs.{same_from_deed_word, directory_from_profile, deed_word_of-positive}
 use Rattle.pas_machine.specs.State.{deed_in}
@@ -34,9 +40,9 @@ use Rattle.pas_cache.specs.Calls.{Allocates, AllocatesPages, most_events, IsName
 use Rattle.pas_cache.proofs.Budget.{log_kept}
 use Rattle.pas_cache.specs.Serves.{IsSmallRoute, Wanted, wanted_for, pages_of, IsBlockFor, IsDeedOf, IsSilent, MakesFew, MakesAtMost, MakesDeedsOf}
 use Rattle.pas_steps.specs.Unknown.{unknown_pages}
-use Rattle.pas_answers.specs.Answers.{named as the_name, name_of, said_by, said_of_request, RefusalEnds, RequestEnds}
+use Rattle.pas_answers.specs.Answers.{named as the_name, block_of, said_by, said_of_request, RefusalEnds, RequestEnds}
 use Rattle.pas_answers.specs.Indexes.{IsNamedFor}
-use Rattle.pas_answers.specs.Calls.{HasTurn, owed_events, MayPerform, Serves, events_for, PerformsMeant}
+use Rattle.pas_answers.specs.Calls.{IsBlockOf, MayStand, owed_events, MayPerform, Serves, events_for, PerformsMeant}
 use Rattle.pas_steps.proofs.Adding.{adds_none, can_call}
 use Rattle.pas_steps.proofs.Unknown.{unknown_stays, has_room}
 use Rattle.pas_cache.proofs.Routes.{is_small, is_large, small_may, small_did, none_named, pages_asked}
@@ -154,13 +160,38 @@ known_directory f l k page d valid legal of knows =
     directory_is (deed_in (visible l) page) d (directory_from_profile f d valid of) (λ x found. directory_from_profile f x valid (directory_is_of f l legal page x found))
     (sym (deed_of f l legal page) ∙ sym (known_is (known_deed (part k l) page) (word_after l (Word.Deed page)) (deeds_known f l legal k page) some) ∙ knows)
 
--- ---- the turn of its block
--- the turn of a block that was given is far below the last one
-pub turn_given : {σ σ' : Standing} {found : Option ℕ} (c c' : Cached) (name heap size align spare : ℕ) (block : Block)
-    → CanCall σ (MayPerform σ.seat.profile c (Alloc name heap size align) spare) → Serves (cost_of_size size) (wanted_for σ.seat.profile heap size align) found c c' σ σ' (Ok block) → HasTurn (Some block.name)
-turn_given {σ} c c' name heap size align spare block can call =
-    let small = call.outcome.turn.from can.view can.met.rest (call.calls.adds.agreed can.view can.whole can.stood can.met.rest) in
-    λ b same. subst (λ d. d.turn < 2 ^ 40 - 1) (same_Some _ _ same) (omega (arith, small))
+-- ---- its block
+some_grains : (classes size align : ℕ) (route : Route) → IsRouteOf classes size align route → 0 < room_by route (max size 1) / 16
+some_grains classes size align (Route.Class class) is = let enough = is.suits.room in let whole = class_size_whole class (class_known classes size align class is) in omega (arith, enough, whole)
+some_grains classes size align Route.Bitfit is = omega arith
+some_grains classes size align Route.Large is = omega arith
+
+first_in : (g n : ℕ) → 0 < n → in_run g n g ≡ true
+first_in g n some = and_from (nat_le g g) (nat_lt g (g + n)) (le-leb g g (omega arith)) (lt-ltb g (g + n) (omega (arith, some)))
+
+-- a multiple of an alignment is one of 16
+sixteenth : (a align : ℕ) → IsAlignment align → a % align ≡ 0 → a % 16 ≡ 0
+sixteenth a align is at =
+    let whole : align / 16 * 16 ≡ align = let m = sixteens align is in omega (arith, m) in
+    let bytes : a ≡ a / align * align = let m = mod-add-div' a align in omega (arith, m, at) in
+    ap (λ n. n % 16) (bytes ∙ ap (λ n. a / align * n) (sym whole) ∙ sym (mul_assoc (a / align) (align / 16) 16)) ∙ mul-mod_left (a / align * (align / 16)) 16
+
+-- a block that was given may be freed or replaced
+pub given_stands : {σ σ' : Standing} {found : Option ℕ} (c c' : Cached) (name heap size align spare : ℕ) (block : Block) → IsAdmitted σ.seat.profile size align heap
+    → CanCall σ (MayPerform σ.seat.profile c (Alloc name heap size align) spare) → Serves (cost_of_size size) (wanted_for σ.seat.profile heap size align) found c c' σ σ' (Ok block) → MayStand σ.seat.profile (Some block)
+given_stands {σ} c c' name heap size align spare block admitted can call =
+    let f = σ.seat.profile in
+    let of = call.outcome in
+    let small = of.turn.from can.view can.met.rest (call.calls.adds.agreed can.view can.whole can.stood can.met.rest) in
+    let some = some_grains f.classes size align (route_in f size align) (route_is f.classes size align) in
+    let room = ap (λ n. n / 16) of.room in
+    let page = of.of_region (grain_of block.name) (first_in (grain_of block.name) (length_of block) (omega (arith, some, room))) in
+    let same : grain_of block.name / 256 ≡ address_of block.name / 4096 = omega arith in
+    λ b is. subst (IsBlockOf f) (same_Some _ _ is) record {
+      region = record { page = subst (IsPage f) same page; aligned = sixteenth (address_of block.name) align admitted.aligned of.aligned };
+      heap = let heap_is = of.of_heap in let few = admitted.of_profile in omega (arith, heap_is, few);
+      turn = omega (arith, small);
+    }
 
 -- ---- a request
 module _ (σ σ' : Standing) (c c' : Cached) (name heap size align : ℕ) (found : Option ℕ) where
@@ -187,8 +218,8 @@ module _ (σ σ' : Standing) (c c' : Cached) (name heap size align : ℕ) (found
   }
   ends (Err room) call v l stood rest = call.outcome σ.seat.actor v
 
-  pub performs_request : (answer : Result Block NoRoom) (meant : Option Name) (Answers : ℕ → ℕ → Option ℕ → Type 0) (Same : Type 0) → Served answer → IsNamed (route_in σ.seat.profile size align) (Answers heap ((size + 4096 - 1) / 4096)) Same found
-      → (did : PerformsMeant (Alloc name heap size align) meant (name_of answer) c c' σ σ' (said_of_request name answer)) × IsNamedFor σ.seat.profile Answers Same (Alloc name heap size align) did.found
+  pub performs_request : (answer : Result Block NoRoom) (meant : Option Block) (Answers : ℕ → ℕ → Option ℕ → Type 0) (Same : Type 0) → Served answer → IsNamed (route_in σ.seat.profile size align) (Answers heap ((size + 4096 - 1) / 4096)) Same found
+      → (did : PerformsMeant (Alloc name heap size align) meant (block_of answer) c c' σ σ' (said_of_request name answer)) × IsNamedFor σ.seat.profile Answers Same (Alloc name heap size align) did.found
   performs_request answer meant Answers Same call named = (
     record {
       steps = call.steps;
@@ -196,7 +227,7 @@ module _ (σ σ' : Standing) (c c' : Cached) (name heap size align : ℕ) (found
       calls = call.calls;
       few = paid answer call;
       answered = λ v l stood rest names means known. record { rest = rest; answer = answer; serves = call.change; kinds = call.kinds; ends = ends answer call v l stood rest; said_is = refl; names_are = refl };
-      others = λ none. absurd (let bad : the_name name (name_of answer) ∷ [] ≡ [] = none in cc);
+      others = λ none. absurd (let bad : the_name name (block_of answer) ∷ [] ≡ [] = none in cc);
     },
     named_for σ.seat.profile name heap size align Answers Same found named,
   )

@@ -23,8 +23,8 @@ use Rattle.pas_steps.specs.declared.step.Made.{Made}
 use Rattle.pas_steps.specs.declared.step.Step.TheVariants.{Look}
 use Rattle.pas_steps.specs.declared.step.Step.TheVariants as Step
 use Rattle.pas_trace.specs.declared.plan.What.{What}
-use Rattle.pas_trace.specs.declared.plan.What.TheVariants.{Alloc, Free, Raw, Flush, Stop, Tick, Pass, Idle}
-pub use Rattle.pas_trace.specs.Named.{Named, named, standing_for}
+use Rattle.pas_trace.specs.declared.plan.What.TheVariants.{Alloc, Free, FreeSized, Raw, RawSized, Flush, Stop, Tick, Pass, Idle}
+pub use Rattle.pas_answers.specs.Named.{Named, named, standing_for}
 use Rattle.pas_trace.specs.declared.item.Request.{Request}
 use Rattle.pas_report.specs.declared.record.Record.{Record}
 use Rattle.pas_report.specs.declared.record.Said.{Said}
@@ -33,7 +33,8 @@ use Rattle.pas_cache.specs.Changes.{EmptiesLog, StopsEach}
 use Rattle.pas_steps.specs.Kinds.{Only}
 use Rattle.pas_cache.specs.Kinds.{allocating, releasing}
 use Rattle.pas_cache.specs.Serves.{Wanted, wanted_for, ServesRequest, IsPreparing, IsPlaced, IsDeedOf}
-use Rattle.pas_free_log.specs.Logs.{entry_of}
+use Rattle.pas_free_log.specs.declared.log.Entry.{Entry}
+use Rattle.pas_free_log.specs.Logs.{entry_of, sized_entry}
 use Rattle.pas_cache.specs.Calls.{TakesEntry, RefusesName}
 use Rattle.pas_passes.specs.Records.{records_of_pass}
 
@@ -88,9 +89,9 @@ said_of_request name (Ok block) = None
 said_of_request name (Err room) = Some (said_of_room name room)
 
 -- the block that its name stands for from then on
-abbrev pub name_of : Result Block NoRoom → Option Name
-name_of (Ok block) = Some block.name
-name_of (Err room) = None
+abbrev pub block_of : Result Block NoRoom → Option Block
+block_of (Ok block) = Some block
+block_of (Err room) = None
 
 -- what it comes to for the caches
 abbrev pub wanted_by : Profile → Request → Wanted
@@ -126,25 +127,34 @@ pub record IsServed (f : Profile) (k : ℕ) (r : Request) (before : Having) (aft
   pub kinds : Only allocating after.steps
   pub ends : RequestEnds k (wanted_by f r) before.view after.steps answer
   pub said_is : after.said ≡ said_of_request r.name answer
-  pub names_are : after.names ≡ named r.name (name_of answer) ∷ before.names
+  pub names_are : after.names ≡ named r.name (block_of answer) ∷ before.names
 
 -- ---- a free
 abbrev pub said_of_fault : Name → FreeFault → Said
 said_of_fault name Outside = Said.Outside name
 said_of_fault name Unaligned = Said.Unaligned name
 
--- the name is logged, after a full log was emptied; or it can't be any block's, which is said
-abbrev pub IsFreed : Profile → ℕ → Cached → Cached → Name → List Made → Option Said → Type 0
-IsFreed f k c c' name steps said =
-    (TakesEntry f k c c' (entry_of name) steps × (said ≡ None))
-    ⊎ ((fault : FreeFault) × RefusesName f c c' name steps fault × (said ≡ Some (said_of_fault name fault)))
+-- the room that an entry notes of a free that names this one, or none
+abbrev pub room_noted : Option ℕ → ℕ
+room_noted None = 0
+room_noted (Some room) = room
 
--- what a free by a name of the trace comes to: the name was never asked for (which no trace has), its request was refused, or it stands for a
--- block
-abbrev pub IsFreedBy : Profile → ℕ → Cached → Cached → ℕ → Option (Option Name) → List Made → Option Said → Type 0
-IsFreedBy f k c c' name None steps said = ⊥
-IsFreedBy f k c c' name (Some None) steps said = (steps ≡ []) × (c' ≡ c) × (said ≡ Some (Said.Skipped name))
-IsFreedBy f k c c' name (Some (Some block)) steps said = IsFreed f k c c' block steps said
+-- the entry of a name, with the room that its free names, if any
+abbrev pub entry_with : Name → Option ℕ → Entry
+entry_with name room = sized_entry name (room_noted room)
+
+-- the entry is logged, after a full log was emptied; or its name can't be any block's, which is said
+abbrev pub IsFreed : Profile → ℕ → Cached → Cached → Entry → List Made → Option Said → Type 0
+IsFreed f k c c' entry steps said =
+    (TakesEntry f k c c' entry steps × (said ≡ None))
+    ⊎ ((fault : FreeFault) × RefusesName f c c' entry.name steps fault × (said ≡ Some (said_of_fault entry.name fault)))
+
+-- what a free by a name of the trace comes to, which may name a room: the name was never asked for (which no trace has), its request was refused, or it
+-- stands for a block
+abbrev pub IsFreedBy : Profile → ℕ → Cached → Cached → ℕ → Option ℕ → Option (Option Block) → List Made → Option Said → Type 0
+IsFreedBy f k c c' name room None steps said = ⊥
+IsFreedBy f k c c' name room (Some None) steps said = (steps ≡ []) × (c' ≡ c) × (said ≡ Some (Said.Skipped name))
+IsFreedBy f k c c' name room (Some (Some block)) steps said = IsFreed f k c c' (entry_with block.name room) steps said
 
 -- ---- a flush and a stop
 pub record IsFlushed (k : ℕ) (c c' : Cached) (steps : List Made) : Type 0 where
@@ -166,8 +176,10 @@ pub record IsStopped (k : ℕ) (c c' : Cached) (steps : List Made) : Type 0 wher
 -- An operation of thread k is answered so. Those of the scavenger are acts of their own.
 abbrev pub IsAnswered : Profile → ℕ → What → Having → Answer → Type 0
 IsAnswered f k (Alloc name heap size align) b a = IsServed f k (record { name = name; heap = heap; size = size; align = align }) b a
-IsAnswered f k (Free name) b a = IsFreedBy f k b.cache a.cache name (standing_for b.names name) a.steps a.said × (a.names ≡ b.names)
-IsAnswered f k (Raw block) b a = IsFreed f k b.cache a.cache block a.steps a.said × (a.names ≡ b.names)
+IsAnswered f k (Free name) b a = IsFreedBy f k b.cache a.cache name None (standing_for b.names name) a.steps a.said × (a.names ≡ b.names)
+IsAnswered f k (FreeSized name room) b a = IsFreedBy f k b.cache a.cache name (Some room) (standing_for b.names name) a.steps a.said × (a.names ≡ b.names)
+IsAnswered f k (Raw block) b a = IsFreed f k b.cache a.cache (entry_of block) a.steps a.said × (a.names ≡ b.names)
+IsAnswered f k (RawSized room block) b a = IsFreed f k b.cache a.cache (sized_entry block room) a.steps a.said × (a.names ≡ b.names)
 IsAnswered f k Flush b a = IsFlushed k b.cache a.cache a.steps × (a.said ≡ None) × (a.names ≡ b.names)
 IsAnswered f k Stop b a = IsStopped k b.cache a.cache a.steps × (a.said ≡ None) × (a.names ≡ b.names)
 IsAnswered f k (Tick e) b a = ⊥

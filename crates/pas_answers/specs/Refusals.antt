@@ -4,7 +4,7 @@ use Rattle.pas_profile.specs.declared.profile.Profile.{Profile}
 use Rattle.pas_steps.specs.Desks.{triples}
 use Rattle.pas_steps.specs.Lists.{Whole, part}
 use Rattle.pas_trace.specs.declared.plan.What.{What}
-use Rattle.pas_trace.specs.declared.plan.What.TheVariants.{Alloc, Free, Raw, Flush, Stop, Tick, Pass, Idle}
+use Rattle.pas_trace.specs.declared.plan.What.TheVariants.{Alloc, Free, FreeSized, Raw, RawSized, Flush, Stop, Tick, Pass, Idle}
 use Rattle.pas_cache.specs.Refusals.{IsTrulyRefused}
 use Rattle.pas_cache.specs.Serves.{wanted_for}
 use Rattle.pas_trace.specs.Acts.{Act, Operates, Settles, Ticks, MakesPass, ReadsEpoch, StopsIdle, MarksPhase, Wakes, MarksClose, Ends}
@@ -17,7 +17,9 @@ use Rattle.pas_answers.specs.Ways.{Way, InOrder, OnThreads}
 abbrev pub RefusesTruly : (f : Profile) (k : ℕ) (what : What) (b : Having) (a : Answer) → IsAnswered f k what b a → Whole → Type 0
 RefusesTruly f k (Alloc name heap size align) b a is l = MatchResult is.answer (λ block. Unit {0}) (IsTrulyRefused f (wanted_for f heap size align) b.cache.locals l (triples k a.steps ++ l))
 RefusesTruly f k (Free name) b a is l = Unit {0}
+RefusesTruly f k (FreeSized name room) b a is l = Unit {0}
 RefusesTruly f k (Raw block) b a is l = Unit {0}
+RefusesTruly f k (RawSized room block) b a is l = Unit {0}
 RefusesTruly f k Flush b a is l = Unit {0}
 RefusesTruly f k Stop b a is l = Unit {0}
 RefusesTruly f k (Tick e) b a is l = Unit {0}

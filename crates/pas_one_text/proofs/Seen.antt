@@ -144,6 +144,9 @@ ended_of k address turn = Record.Event (Event.Reject k (name address turn) Why.E
 abbrev pub no_block_of : ℕ → ℕ → ℕ → TheRecord
 no_block_of k address turn = Record.Event (Event.Reject k (name address turn) Why.NoBlock)
 
+abbrev pub size_differs_of : ℕ → ℕ → ℕ → ℕ → TheRecord
+size_differs_of k address turn asked = Record.Event (Event.Reject k (name address turn) (Why.SizeDiffers asked))
+
 abbrev pub outside_of : ℕ → ℕ → ℕ → TheRecord
 outside_of k address turn = Record.Said k (Said.Outside (name address turn))
 

@@ -3,7 +3,7 @@ use Rattle.std.specs.Prelude.{ℕ, ◌/◌, List, [], map, Option, None, Some, R
 use Rattle.pas_profile.specs.Requests.{route_in, room_in}
 use Rattle.pas_profile.specs.declared.directory.Route.{Route}
 use Rattle.pas_profile.specs.declared.profile.Profile.{Profile}
-use Rattle.pas_free_log.specs.Logs.{entry_of}
+use Rattle.pas_free_log.specs.Logs.{entry_of, sized_entry}
 use Rattle.pas_trace.specs.declared.fault.TraceFault.{TraceFault}
 use Rattle.pas_trace.specs.declared.plan.Op.{Op}
 use Rattle.pas_trace.specs.declared.plan.What.{What}
@@ -28,8 +28,10 @@ serves f k name heap Route.Large room align w = serves_pages f k name heap (room
 -- AN OPERATION
 abbrev pub operates : Profile → ℕ → What → World → World
 operates f k (What.Alloc name heap size align) w = serves f k name heap (route_in f size align) (room_in f size align) align w
-operates f k (What.Free name) w = frees_named f k name w
+operates f k (What.Free name) w = frees_named f k name 0 w
+operates f k (What.FreeSized name room) w = frees_named f k name room w
 operates f k (What.Raw block) w = frees f k (entry_of block) w
+operates f k (What.RawSized room block) w = frees f k (sized_entry block room) w
 operates f k What.Flush w = flushes f k w
 operates f k What.Stop w = stops f k w
 operates f k (What.Tick e) w = w
@@ -66,11 +68,11 @@ replayed f phases = each (acts_on f) (acts_of f.threads phases) (opened f)
 -- ---- the text
 -- the region of a trace: its header with its shared heaps
 abbrev pub region_of : Parsed → Profile
-region_of p = record p.header { shared = shared_in p.items }
+region_of p = record p.header.profile { shared = shared_in p.items }
 
 -- what its replay comes to
 abbrev pub replay_of : Parsed → World
-replay_of p = replayed (region_of p) (phases_in p.items)
+replay_of p = replayed (region_of p) (phases_in p.header.profile p.items)
 
 abbrev pub text_for : Result Parsed TraceFault → Option (List ℕ)
 text_for (Ok p) = Some (text_of (region_of p) (replay_of p))

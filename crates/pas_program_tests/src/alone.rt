@@ -1,7 +1,7 @@
 //! Traces of one thread, with nothing for the scavenger, and their transcripts.
 
 /// Traces of one thread alone.
-pub const TRACES: [&str; 16] = [
+pub const TRACES: [&str; 18] = [
     // Nothing is asked.
     "pas 1 pages 4 threads 1 heaps 1 age 2",
     // The free waits in the log until the thread is stopped at the close.
@@ -39,10 +39,14 @@ pub const TRACES: [&str; 16] = [
     // Large blocks of two heaps, and no three pages in a row.
     "pas 1 pages 4 threads 1 heaps 2 age 2\na 1 1 0 8192 16\na 1 2 0 2049 16\nf 1 1\nflush 1\na 1 3 0 4096 4096\n\
      a 1 4 1 4000 16\na 1 5 1 12288 16\n",
+    // Frees that name a room: another one than the block has, its own, and its own again.
+    "pas 2 pages 1 threads 1 heaps 1 age 2\na 1 1 0 24 16\nfs 1 1 40 16\nfs 1 1 32 16\nfs 1 1 32 16\n",
+    // The four classes above 512 bytes, and one byte more than the largest.
+    "pas 3 pages 3 threads 1 heaps 1 age 2\na 1 1 0 513 16\na 1 2 0 1024 1024\na 1 3 0 1025 16\n",
 ];
 
 /// What the traces are replayed to in the order of their texts, each at its place.
-pub const TEXTS: [&str; 16] = [
+pub const TEXTS: [&str; 18] = [
     "close\nreport\ntotal deeds 0 backed 0 live 0 given 0 ended 0\n",
     "1 deed page 1 heap 0 class 32\n1 back page 1\n1 give 0x00001000 turn 0 room 32 heap 0\nclose\n\
      1 freed 0x00001000 turn 0 epoch 0\nreport\n\
@@ -134,4 +138,16 @@ pub const TEXTS: [&str; 16] = [
      page 3 heap 0 large live 1 free 0 stamp 0 marks backed+parked\n\
      page 4 heap 1 large live 1 free 0 stamp 0 marks backed+parked\n\
      total deeds 4 backed 4 live 3 given 4 ended 1\n",
+    "1 deed page 1 heap 0 class 32\n1 back page 1\n1 give 0x00001000 turn 0 room 32 heap 0\nclose\n\
+     1 size-differs 0x00001000 turn 0 asked 48\n1 freed 0x00001000 turn 0 epoch 0\n\
+     1 ended 0x00001000 turn 0\nreport\n\
+     page 1 heap 0 class 32 live 0 free 256 stamp 0 marks backed+offered+hinted\n\
+     total deeds 1 backed 1 live 0 given 1 ended 1\n",
+    "1 deed page 1 heap 0 class 640\n1 back page 1\n1 give 0x00001000 turn 0 room 640 heap 0\n\
+     1 deed page 2 heap 0 class 1024\n1 back page 2\n1 give 0x00002000 turn 0 room 1024 heap 0\n\
+     1 deed page 3 heap 0 bitfit\n1 back page 3\n1 give 0x00003000 turn 0 room 1040 heap 0\nclose\nreport\n\
+     page 1 heap 0 class 640 live 1 free 216 stamp 0 marks backed+offered\n\
+     page 2 heap 0 class 1024 live 1 free 192 stamp 0 marks backed+offered\n\
+     page 3 heap 0 bitfit live 1 free 191 stamp 0 marks backed+offered\n\
+     total deeds 3 backed 3 live 3 given 3 ended 0\n",
 ];

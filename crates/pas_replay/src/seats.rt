@@ -1,17 +1,18 @@
 //! The actors' places at the region. One sits at the desk at a time.
-ghost use Rattle.std.specs.Prelude.{◌≡◌, ◌≢◌, ◌<◌, ◌-◌, ◌≤◌, ◌++◌, ℕ, List, [], ◌∷◌, length, slice_set};
+ghost use Rattle.std.specs.Prelude.{◌≡◌, ◌≢◌, ◌<◌, ◌-◌, ◌≤◌, ◌++◌, ℕ, List, [], ◌∷◌, length, option_and_then, slice_set};
 ghost use Rattle.pas_profile.specs.declared.profile.Profile.{Profile as TheProfile};
 ghost use Rattle.pas_plain.specs.Plain.{actor_of};
 ghost use Rattle.pas_plain.specs.Seats.{pass_of, standing_of};
 ghost use Rattle.pas_cache.specs.Caches.{cached};
 ghost use Rattle.pas_cache.specs.declared.cache.ThreadCache.{ThreadCache as TheCache};
 ghost use Rattle.pas_report.specs.Rooms.{Records as TheRecords};
+ghost use Rattle.pas_trace.specs.Asked.{request_of, freed_of};
 ghost use Rattle.pas_trace.specs.Acts.{Act, Operates, Settles, Ticks, MakesPass, ReadsEpoch, StopsIdle, Wakes, Ends};
 ghost use Rattle.pas_answers.specs.Answers.{Named, Progress};
 ghost use Rattle.pas_acts.specs.Works.{Later};
 ghost use Rattle.pas_acts.specs.AtDesks.{here, MayOperate};
 ghost use Rattle.pas_replay.specs.Operating.{ActsByIndexes};
-ghost use Rattle.pas_answers.specs.Calls.{what_of, Tells, HasTurn, HasTurns, freed_by, named_by};
+ghost use Rattle.pas_answers.specs.Calls.{what_of, Tells, MayStand, AllMayStand, named_with, named_by};
 ghost use Rattle.pas_trace.specs.declared.plan.Op.{Op as TheOp};
 ghost use Rattle.pas_answers.specs.Fit.{IsFitWhat};
 ghost use Rattle.pas_answers.specs.Names.{block_named, names_held};
@@ -25,7 +26,7 @@ use pas_cache::ThreadCache;
 use pas_large::PlainDoor;
 use pas_large_index::LargeIndex;
 use pas_plain::{PlainDesk, PlainPass, PlainRegion};
-use pas_profile::Name;
+use pas_profile::Block;
 use pas_report::{Record, Records, Said};
 use pas_steps::Desk;
 use pas_trace::Task;
@@ -98,21 +99,21 @@ fn change_seats(desk: &mut PlainDesk, passes: &mut Vec<Option<PlainPass>>, actor
 
 /// What the name that the task frees stands for.
 #[inline(always)]
-fn freed(names: &Names, task: Task) -> Option<Name>
-    ensures { result ≡ freed_by (block_named names.now) (what_of task) }
+fn freed(names: &Names, task: Task) -> Option<Block>
+    ensures { result ≡ option_and_then (block_named names.now) (freed_of task) }
 {
     match task {
-        Task::Free { name } => names.get(name),
+        Task::Free { name, .. } => names.get(name),
         _ => None,
     }
 }
 
 /// Keeps what the name that the task asked for came to.
 #[inline(always)]
-fn keep(names: &mut Names, task: Task, came: Option<Name>)
+fn keep(names: &mut Names, task: Task, came: Option<Block>)
     requires fit { (f : TheProfile) × (asked : List ℕ) × IsFitWhat f (names_held names.old) asked (what_of task) }
-    ensures tells { (known : List Named) → Tells names.old known → Tells names.new (named_by (what_of task) came ++ known) }
-    ensures turns { HasTurns names.old → HasTurn came → HasTurns names.new }
+    ensures tells { (known : List Named) → Tells names.old known → Tells names.new (named_with (request_of task) came ++ known) }
+    ensures stand { (f : TheProfile) → AllMayStand f names.old → MayStand f came → AllMayStand f names.new }
     ensures held { names_held names.new ≡ names_held names.old }
 {
     match task {
@@ -140,13 +141,13 @@ fn operate_by(
     indexes: &mut [LargeIndex],
     cache: &mut ThreadCache,
     task: Task,
-    meant: Option<Name>,
+    meant: Option<Block>,
     out: &mut Records,
-) -> Option<Name>
+) -> Option<Block>
     requires stands { (f : TheProfile) × (op : TheOp) × (later : Later) × (p : Progress) × (op.what ≡ what_of task) × MayOperate f op.actor op.what meant (here (standing_of desk.old) (cached cache.old) out.old) later p }
     ensures operates { (f : TheProfile) (op : TheOp) (later : Later) (p : Progress) → op.what ≡ what_of task → MayOperate f op.actor op.what meant (here (standing_of desk.old) (cached cache.old) out.old) later p
         → ActsByIndexes f op.actor op indexes.old indexes.new (named_by op.what result) (here (standing_of desk.old) (cached cache.old) out.old) (here (standing_of desk.new) (cached cache.new) out.new) later p }
-    ensures turn { HasTurn result }
+    ensures stands { MayStand (standing_of desk.old).seat.profile result }
 {
     let mut door = PlainDoor::new(indexes);
     at_desk::operate(desk, &mut door, cache, task, meant, out)

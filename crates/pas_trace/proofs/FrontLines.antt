@@ -144,10 +144,10 @@ line-more text n after words rest b l =
 lines-until : (line rest : List ℕ) → Lacks 10 line → lines_of (line ++ 10 ∷ rest) ≡ line ∷ lines_of rest
 lines-until line rest whole = ap without_empty_end (pieces-until 10 line rest whole) ∙ end-after line 10 rest
 
-line-says : (b : ℕ) (text : List ℕ) (words : List (List ℕ)) (rest : List ℕ) (item : Item) → 35 < b → IsLine text words rest
-    → ((started : Bool) → item_of_words started ((b ∷ []) ∷ words) ≡ Ok item) → FirstSays (b ∷ 32 ∷ text) item rest
+line-says : (version b : ℕ) (text : List ℕ) (words : List (List ℕ)) (rest : List ℕ) (item : Item) → 35 < b → IsLine text words rest
+    → ((started : Bool) → item_of_words version started ((b ∷ []) ∷ words) ≡ Ok item) → FirstSays version (b ∷ 32 ∷ text) item rest
 unfolding word-more
-line-says b text words rest item big l says =
+line-says version b text words rest item big l says =
     let whole = word-more (b ∷ 32 ∷ text) (b ∷ []) text words rest refl (λ e. omega (arith, e, big), tt) (λ e. omega (arith, e, big), tt) (omega arith) l in
     let line : List ℕ = b ∷ 32 ∷ l.line in
     let other : (b == 35) ≡ false = ne_eqb b 35 (λ e. omega (arith, e, big)) in
@@ -155,7 +155,7 @@ line-says b text words rest item big l says =
       line = line;
       cut = ap lines_of whole.text_is ∙ lines-until line rest whole.whole;
       shorter = let long : length (b ∷ 32 ∷ text) ≡ length (line ++ 10 ∷ rest) = ap length whole.text_is in omega (arith, long, length-append line (10 ∷ rest));
-      says = λ started. rw other (ap (item_of_words started) whole.words_are ∙ says started);
+      says = λ started. rw other (ap (item_of_words version started) whole.words_are ∙ says started);
     }
 
 name-fits : (w : List ℕ) (n : ℕ) → number_of w ≡ Some n → 1 ≤ n → n ≤ 1000000 → trace_name w ≡ Some n
@@ -164,15 +164,15 @@ name-fits w n e lo hi =
     let least : nat_le 1 n ≡ true = le-leb 1 n lo in
     ap (λ o. from_one (below 1000001 o)) e ∙ ap (λ (t : Bool). from_one (if t then Some n else None)) most ∙ ap (λ (t : Bool). if t then Some n else None) least
 
-pub allocation-first : (text t1 t2 t3 t4 rest : List ℕ) (t n h s a : ℕ) → BeginsWith text t 32 t1 → BeginsWith t1 n 32 t2 → BeginsWith t2 h 32 t3 → BeginsWith t3 s 32 t4 → BeginsWith t4 a 10 rest → 1 ≤ n → n ≤ 1000000
-    → FirstSays (97 ∷ 32 ∷ text) (Operates t (Asks n h s a)) rest
-allocation-first text t1 t2 t3 t4 rest t n h s a b1 b2 b3 b4 b5 lo hi =
+pub allocation-first : (version : ℕ) (text t1 t2 t3 t4 rest : List ℕ) (t n h s a : ℕ) → BeginsWith text t 32 t1 → BeginsWith t1 n 32 t2 → BeginsWith t2 h 32 t3 → BeginsWith t3 s 32 t4 → BeginsWith t4 a 10 rest → 1 ≤ n → n ≤ 1000000
+    → FirstSays version (97 ∷ 32 ∷ text) (Operates t (Asks n h s a)) rest
+allocation-first version text t1 t2 t3 t4 rest t n h s a b1 b2 b3 b4 b5 lo hi =
     let named = name-fits b2.word n b2.number lo hi in
-    line-says 97 text (b1.word ∷ b2.word ∷ b3.word ∷ b4.word ∷ b5.word ∷ []) rest _ (omega arith)
+    line-says version 97 text (b1.word ∷ b2.word ∷ b3.word ∷ b4.word ∷ b5.word ∷ []) rest _ (omega arith)
     (line-more text t t1 _ rest b1 (line-more t1 n t2 _ rest b2 (line-more t2 h t3 _ rest b3 (line-more t3 s t4 _ rest b4 (line-end t4 a rest b5)))))
     (λ started i. item5 (λ t n h s a. Operates t (Asks n h s a)) (b1.number i) (named i) (b3.number i) (b4.number i) (b5.number i))
 
-pub free-first : (text t1 rest : List ℕ) (t n : ℕ) → BeginsWith text t 32 t1 → BeginsWith t1 n 10 rest → 1 ≤ n → n ≤ 1000000 → FirstSays (102 ∷ 32 ∷ text) (Operates t (Frees n)) rest
-free-first text t1 rest t n b1 b2 lo hi =
+pub free-first : (version : ℕ) (text t1 rest : List ℕ) (t n : ℕ) → BeginsWith text t 32 t1 → BeginsWith t1 n 10 rest → 1 ≤ n → n ≤ 1000000 → FirstSays version (102 ∷ 32 ∷ text) (Operates t (Frees n)) rest
+free-first version text t1 rest t n b1 b2 lo hi =
     let named = name-fits b2.word n b2.number lo hi in
-    line-says 102 text (b1.word ∷ b2.word ∷ []) rest _ (omega arith) (line-more text t t1 _ rest b1 (line-end t1 n rest b2)) (λ started i. item2 (λ t n. Operates t (Frees n)) (b1.number i) (named i))
+    line-says version 102 text (b1.word ∷ b2.word ∷ []) rest _ (omega arith) (line-more text t t1 _ rest b1 (line-end t1 n rest b2)) (λ started i. item2 (λ t n. Operates t (Frees n)) (b1.number i) (named i))

@@ -13,6 +13,7 @@ mod Cutting
 mod LexedLines
 mod LineCounts
 mod ItemRanges
+mod Rooms
 mod ParsedItems
 pub mod OperationsOfItems
 pub mod EveryPlan

@@ -4,6 +4,7 @@ use Rattle.std.proofs.Math.ListN.{length-set}
 use Rattle.std.proofs.lemmas.Bool.{eq-eqb, ne_eqb, cases_eq}
 use Rattle.pas_profile.specs.Profiles.{IsValid}
 use Rattle.pas_profile.specs.declared.profile.Profile.{Profile}
+use Rattle.pas_trace.specs.declared.header.Header.{Header}
 use Rattle.pas_trace.specs.Wishes.{name_made, is_name}
 use Rattle.pas_trace.specs.Reasons.{cost_of, costs_of, cost_of_wish, records_of_chore, record_bound, reason_of, operations_in, is_operation, is_phase, actor_of, makes, is_named, is_named_now, thread_of, started}
 use Rattle.pas_trace.specs.Plans.{shared_by, shared_in, phases_after, phases_in, line_of_newest, own_costs, bound_of, bounds_upto, operation, what_wished, what_of_chore, add_last}
@@ -35,14 +36,14 @@ own_costs-le f k (i ∷ items) =
 
 pub cost-within : (r : Reader) (items : List Item) (k : ℕ) → Tells r items → k < 17 → get_or r.counts.costs k 0 ≤ r.counts.bound
 cost-within r items k t lt =
-    let own : get_or r.counts.costs k 0 ≡ own_costs r.header k items = t.costs k lt in
-    let all : r.counts.bound ≡ record_bound r.header items = t.bound in
-    omega (arith, own, all, own_costs-le r.header k items)
+    let own : get_or r.counts.costs k 0 ≡ own_costs r.header.profile k items = t.costs k lt in
+    let all : r.counts.bound ≡ record_bound r.header.profile items = t.bound in
+    omega (arith, own, all, own_costs-le r.header.profile k items)
 
-pub ready : (r : Reader) (items : List Item) (i : Item) (actor cost : ℕ) → Tells r items → FineCounts r.header items i → actor ≤ 16 → cost ≡ cost_of r.header i → IsReady r.counts actor cost
+pub ready : (r : Reader) (items : List Item) (i : Item) (actor cost : ℕ) → Tells r items → FineCounts r.header.profile items i → actor ≤ 16 → cost ≡ cost_of r.header.profile i → IsReady r.counts actor cost
 ready r items i actor cost t fine le e =
     let few : operations_in items < 1000000 = fine.few in
-    let small : record_bound r.header (i ∷ items) ≤ 2000000 = fine.small in
+    let small : record_bound r.header.profile (i ∷ items) ≤ 2000000 = fine.small in
     let all = bound-after r items i t in
     let ops : r.counts.operations ≡ operations_in items = t.operations in
     record {
@@ -84,7 +85,7 @@ pub record IsOperation (f : Profile) (i : Item) (actor : ℕ) (what : What) (cos
   pub marks : (m : ℕ) → shared_by i m ≡ m
   pub thread : actor_of i ≡ actor
   pub costs : cost_of f i ≡ cost
-  pub phases : (line : ℕ) (ps : List (List Op)) → phases_after i line ps ≡ add_last (Some (operation line actor what)) ps
+  pub phases : (line : ℕ) (ps : List (List Op)) → phases_after f i line ps ≡ add_last (Some (operation line actor what)) ps
 
 cost-added : (f : Profile) (i : Item) (items : List Item) (costs : List ℕ) (actor cost k : ℕ) → actor < length costs → actor_of i ≡ actor → cost_of f i ≡ cost
     → get_or costs k 0 ≡ own_costs f k items → get_or (set costs actor (get_or costs actor 0 + cost)) k 0 ≡ own_costs f k (i ∷ items)
@@ -102,7 +103,7 @@ cost-added f i items costs actor cost k lt is_actor is_cost told = elim (cases_e
       ∙ told ∙ sym (ap (λ b. if b then own_costs f k items + cost_of f i else own_costs f k items) own)
 ]
 
-pub operated : (old new : Reader) (names : Names) (items : List Item) (i : Item) (actor : ℕ) (what : What) (cost : ℕ) → Tells old items → IsOperation old.header i actor what cost
+pub operated : (old new : Reader) (names : Names) (items : List Item) (i : Item) (actor : ℕ) (what : What) (cost : ℕ) → Tells old items → IsOperation old.header.profile i actor what cost
     → IsReady old.counts actor cost → ((n : ℕ) → NameTold (owner_in names n) old.phase (i ∷ items) n)
     → IsCounted (record old { line = old.line + 1; names = names }) new actor what cost → Tells new (i ∷ items)
 operated old new names items i actor what cost t op can told h =
@@ -114,55 +115,55 @@ operated old new names items i actor what cost t op can told h =
     let line : new.line ≡ old.line + 1 = h.line in
     let le : old.phase ≤ old.line = t.phase in
     record {
-      header = subst (λ (f : Profile). IsValid f) (sym h.header) t.header;
+      header = subst (λ (g : Header). IsValid g.profile) (sym h.header) t.header;
       shared = h.shared ∙ t.shared ∙ sym (op.marks (shared_in items));
       started = h.started ∙ sym (ap (λ b. b || is_phase i || started items) op.operates);
       line = line ∙ ap (λ n. n + 1) t.line;
       phase = omega (arith, phase, line, le);
       names = λ n. subst (λ (o : Owner). NameTold o new.phase (i ∷ items) n) (sym (h.names n)) (subst (λ (p : ℕ). NameTold (owner_in names n) p (i ∷ items) n) (sym phase) (told n));
       operations = h.operations ∙ ap (λ n. n + 1) t.operations ∙ sym (ap (λ b. if b then operations_in items + 1 else operations_in items) op.operates);
-      bound = bound ∙ ap (λ n. old.counts.bound + n) (sym op.costs) ∙ bound-after old items i t ∙ ap (λ (f : Profile). record_bound f (i ∷ items)) (sym h.header);
+      bound = bound ∙ ap (λ n. old.counts.bound + n) (sym op.costs) ∙ bound-after old items i t ∙ ap (λ (g : Header). record_bound g.profile (i ∷ items)) (sym h.header);
       small = omega (arith, bound, small);
       width = ap length h.costs ∙ length-set old.counts.costs actor (get_or old.counts.costs actor 0 + cost) ∙ size;
-      costs = λ k lt. ap (λ xs. get_or xs k 0) h.costs ∙ cost-added old.header i items old.counts.costs actor cost k actor-lt op.thread op.costs (t.costs k lt) ∙ ap (λ (f : Profile). own_costs f k (i ∷ items)) (sym h.header);
-      phases = h.phases ∙ ap (λ ps. add_last (Some (operation (old.line + 1) actor what)) ps) t.phases ∙ ap (λ n. add_last (Some (operation (n + 1) actor what)) (phases_in items)) t.line
-          ∙ sym (op.phases (line_of_newest (i ∷ items)) (phases_in items));
+      costs = λ k lt. ap (λ xs. get_or xs k 0) h.costs ∙ cost-added old.header.profile i items old.counts.costs actor cost k actor-lt op.thread op.costs (t.costs k lt) ∙ ap (λ (g : Header). own_costs g.profile k (i ∷ items)) (sym h.header);
+      phases = h.phases ∙ ap (λ ps. add_last (Some (operation (old.line + 1) actor what)) ps) t.phases ∙ ap (λ n. add_last (Some (operation (n + 1) actor what)) (phases_in old.header.profile items)) t.line
+          ∙ sym (op.phases (line_of_newest (i ∷ items)) (phases_in old.header.profile items)) ∙ ap (λ (g : Header). phases_in g.profile (i ∷ items)) (sym h.header);
     }
 
 -- what the names hold after an item
 abbrev pub NamesAfter : Reader → Names → Item → Type 0
-NamesAfter old names i = (items : List Item) → Tells old items → reason_of old.header items i ≡ None → (n : ℕ) → NameTold (owner_in names n) old.phase (i ∷ items) n
+NamesAfter old names i = (items : List Item) → Tells old items → reason_of old.header.profile items i ≡ None → (n : ℕ) → NameTold (owner_in names n) old.phase (i ∷ items) n
 
 names-taken : (old : Reader) (names : Names) (t : ℕ) (w : Wish) → ((n : ℕ) → owner_in names n ≡ (if is_name (name_made w) n then record { thread = t; phase = old.phase } else owner_in old.names n)) → NamesAfter old names (Operates t w)
 names-taken old names t w given items told e n =
-    taken-by (is_name (name_made w) n) t old.phase w items (owner_in old.names n) (owner_in names n) n refl (own_passed old.header items t w e).thread.0 (given n) (told.names n)
+    taken-by (is_name (name_made w) n) t old.phase w items (owner_in old.names n) (owner_in names n) n refl (own_passed old.header.profile items t w e).thread.0 (given n) (told.names n)
 
 names-kept : (old : Reader) (c : Chore) → NamesAfter old old.names (Scavenges c)
 names-kept old c items told e n = kept-name (Scavenges c) items (owner_in old.names n) old.phase n refl refl (told.names n)
 
-pub added : (old new : Reader) (names : Names) (i : Item) (actor : ℕ) (what : What) (cost : ℕ) → IsOperation old.header i actor what cost → NamesAfter old names i
+pub added : (old new : Reader) (names : Names) (i : Item) (actor : ℕ) (what : What) (cost : ℕ) → IsOperation old.header.profile i actor what cost → NamesAfter old names i
     → IsCounted (record old { line = old.line + 1; names = names }) new actor what cost → IsAdded old new i
 added old new names i actor what cost op after h = record {
   header = h.header;
   line = h.line;
   tells = λ items t e.
-      let most = actor_within old.header items i e in
+      let most = actor_within old.header.profile items i e in
       let header = t.header in
-      let threads : old.header.threads ≤ 16 = header.threads in
+      let threads : old.header.profile.threads ≤ 16 = header.threads in
       let is : actor_of i ≡ actor = op.thread in
-      let can = ready old items i actor cost t (counts_within old.header items i op.operates e) (omega (arith, most, threads, is)) (sym op.costs) in
+      let can = ready old items i actor cost t (counts_within old.header.profile items i op.operates e) (omega (arith, most, threads, is)) (sym op.costs) in
       operated old new names items i actor what cost t op can (after items t e) h;
 }
 
 pub added_wish : (old new : Reader) (t : ℕ) (w : Wish) → IsOperated (record old { line = old.line + 1 }) new t w (cost_of_wish w) → IsAdded old new (Operates t w)
 added_wish old new t w h =
-    let op : IsOperation old.header (Operates t w) t (what_wished w) (cost_of_wish w) = record { operates = refl; same_phase = refl; marks = λ m. refl; thread = refl; costs = refl; phases = λ line ps. refl } in
-    added old new h.names (Operates t w) t (what_wished w) (cost_of_wish w) op (names-taken old h.names t w h.given) h.counted
+    let op : IsOperation old.header.profile (Operates t w) t (what_wished old.header.profile w) (cost_of_wish w) = record { operates = refl; same_phase = refl; marks = λ m. refl; thread = refl; costs = refl; phases = λ line ps. refl } in
+    added old new h.names (Operates t w) t (what_wished old.header.profile w) (cost_of_wish w) op (names-taken old h.names t w h.given) h.counted
 
-pub added_chore : (old new : Reader) (c : Chore) → IsCounted (record old { line = old.line + 1 }) new 0 (what_of_chore c) (records_of_chore old.header c) → IsAdded old new (Scavenges c)
+pub added_chore : (old new : Reader) (c : Chore) → IsCounted (record old { line = old.line + 1 }) new 0 (what_of_chore c) (records_of_chore old.header.profile c) → IsAdded old new (Scavenges c)
 added_chore old new c h =
-    let cost = records_of_chore old.header c in
-    let op : IsOperation old.header (Scavenges c) 0 (what_of_chore c) cost = record { operates = refl; same_phase = refl; marks = λ m. refl; thread = refl; costs = refl; phases = λ line ps. refl } in
+    let cost = records_of_chore old.header.profile c in
+    let op : IsOperation old.header.profile (Scavenges c) 0 (what_of_chore c) cost = record { operates = refl; same_phase = refl; marks = λ m. refl; thread = refl; costs = refl; phases = λ line ps. refl } in
     added old new old.names (Scavenges c) 0 (what_of_chore c) cost op (names-kept old c) h
 
 -- ---- bounds

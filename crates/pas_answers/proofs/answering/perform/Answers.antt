@@ -1,9 +1,28 @@
 use Rattle.std.proofs.Common.{refl, sym, subst, ◌≡◌}
+use Rattle.pas_trace.specs.declared.plan.Task.TheVariants as Task
 use Rattle.pas_cache.specs.Caches.{cached}
 use Rattle.pas_answers.specs.Calls.{what_of, PerformsMeant}
 use Rattle.pas_answers.specs.Indexes.{IsNamedFor}
-use Rattle.pas_answers.proofs.Frees.{performs_free, performs_skip, performs_raw, performs_flush, performs_stop}
+use Rattle.pas_answers.proofs.Frees.{can_log, fits_task, not_asked, performs_free, performs_skip, performs_raw, performs_flush, performs_stop}
 use Rattle.pas_answers.proofs.answering.perform.Goals as goal
+
+pub free-requires-clause-turn : goal.free-requires-clause-turn
+free-requires-clause-turn g c = (c.requires.stands c.in-Some.block c.in-Some.is).turn
+
+pub free-requires-clause-room : goal.free-requires-clause-room
+free-requires-clause-room g c = (fits_task (g.D.Desk.standing c.args.desk.now).seat.profile c.requires.fit.0 c.requires.fit.1 (Task.Free c.in-Free.name c.in-Free.room) c.in-Free.is c.requires.fit.2).1
+
+pub free-requires-clause-can : goal.free-requires-clause-can
+free-requires-clause-can g c = can_log (cached c.args.cache.now) (Task.Free c.in-Free.name c.in-Free.room) c.in-Some.block.name (g.D.Desk.spare_of c.args.desk.now) c.in-Free.is refl c.requires.can
+
+pub free-requires-in-FreeRaw-clause-turn : goal.free-requires-in-FreeRaw-clause-turn
+free-requires-in-FreeRaw-clause-turn g c = (fits_task (g.D.Desk.standing c.args.desk.now).seat.profile c.requires.fit.0 c.requires.fit.1 (Task.FreeRaw c.in-FreeRaw.block c.in-FreeRaw.room) c.in-FreeRaw.is c.requires.fit.2).0
+
+pub free-requires-in-FreeRaw-clause-room : goal.free-requires-in-FreeRaw-clause-room
+free-requires-in-FreeRaw-clause-room g c = (fits_task (g.D.Desk.standing c.args.desk.now).seat.profile c.requires.fit.0 c.requires.fit.1 (Task.FreeRaw c.in-FreeRaw.block c.in-FreeRaw.room) c.in-FreeRaw.is c.requires.fit.2).1
+
+pub free-requires-in-FreeRaw-clause-can : goal.free-requires-in-FreeRaw-clause-can
+free-requires-in-FreeRaw-clause-can g c = can_log (cached c.args.cache.now) (Task.FreeRaw c.in-FreeRaw.block c.in-FreeRaw.room) c.in-FreeRaw.block (g.D.Desk.spare_of c.args.desk.now) c.in-FreeRaw.is refl c.requires.can
 
 pub returns-in-Request-clause-performs : goal.returns-in-Request-clause-performs
 returns-in-Request-clause-performs g c =
@@ -14,18 +33,18 @@ returns-in-Request-clause-performs g c =
 -- no other task asks the door
 pub returns-in-Some-clause-performs : goal.returns-in-Some-clause-performs
 returns-in-Some-clause-performs g c =
-    let did = performs_free c.args.task c.args.meant (cached c.args.cache.now) (cached c.free.new.cache) c.in-Free.name c.in-Some.block c.in-Free.is c.in-Some.is c.free.ensures.frees in
-    (did, subst (λ t. IsNamedFor (g.D.Desk.standing c.args.desk.now).seat.profile (g.O.Door.answers c.args.door.now c.args.door.now) (c.args.door.now ≡ c.args.door.now) (what_of t) did.found) (sym c.in-Free.is) refl)
+    let did = performs_free c.args.task c.args.meant (cached c.args.cache.now) (cached c.free.new.cache) c.in-Free.name c.in-Free.room c.in-Some.block c.in-Free.is c.in-Some.is c.free.ensures.frees in
+    (did, subst (λ t. IsNamedFor (g.D.Desk.standing c.args.desk.now).seat.profile (g.O.Door.answers c.args.door.now c.args.door.now) (c.args.door.now ≡ c.args.door.now) (what_of t) did.found) (sym c.in-Free.is) (not_asked (g.D.Desk.standing c.args.desk.now).seat.profile (g.O.Door.answers c.args.door.now c.args.door.now) (c.args.door.now ≡ c.args.door.now) (Task.Free c.in-Free.name c.in-Free.room) did.found refl refl))
 
 pub returns-in-None-clause-performs : goal.returns-in-None-clause-performs
 returns-in-None-clause-performs g c =
-    let did = performs_skip c.args.task c.args.meant (cached c.args.cache.now) c.in-Free.name c.in-Free.is c.in-None.is in
-    (did, subst (λ t. IsNamedFor (g.D.Desk.standing c.args.desk.now).seat.profile (g.O.Door.answers c.args.door.now c.args.door.now) (c.args.door.now ≡ c.args.door.now) (what_of t) did.found) (sym c.in-Free.is) refl)
+    let did = performs_skip c.args.task c.args.meant (cached c.args.cache.now) c.in-Free.name c.in-Free.room c.in-Free.is c.in-None.is in
+    (did, subst (λ t. IsNamedFor (g.D.Desk.standing c.args.desk.now).seat.profile (g.O.Door.answers c.args.door.now c.args.door.now) (c.args.door.now ≡ c.args.door.now) (what_of t) did.found) (sym c.in-Free.is) (not_asked (g.D.Desk.standing c.args.desk.now).seat.profile (g.O.Door.answers c.args.door.now c.args.door.now) (c.args.door.now ≡ c.args.door.now) (Task.Free c.in-Free.name c.in-Free.room) did.found refl refl))
 
 pub returns-in-FreeRaw-clause-performs : goal.returns-in-FreeRaw-clause-performs
 returns-in-FreeRaw-clause-performs g c =
-    let did = performs_raw c.args.task c.args.meant (cached c.args.cache.now) (cached c.free-in-FreeRaw.new.cache) c.in-FreeRaw.block c.in-FreeRaw.is c.free-in-FreeRaw.ensures.frees in
-    (did, subst (λ t. IsNamedFor (g.D.Desk.standing c.args.desk.now).seat.profile (g.O.Door.answers c.args.door.now c.args.door.now) (c.args.door.now ≡ c.args.door.now) (what_of t) did.found) (sym c.in-FreeRaw.is) refl)
+    let did = performs_raw c.args.task c.args.meant (cached c.args.cache.now) (cached c.free-in-FreeRaw.new.cache) c.in-FreeRaw.block c.in-FreeRaw.room c.in-FreeRaw.is c.free-in-FreeRaw.ensures.frees in
+    (did, subst (λ t. IsNamedFor (g.D.Desk.standing c.args.desk.now).seat.profile (g.O.Door.answers c.args.door.now c.args.door.now) (c.args.door.now ≡ c.args.door.now) (what_of t) did.found) (sym c.in-FreeRaw.is) (not_asked (g.D.Desk.standing c.args.desk.now).seat.profile (g.O.Door.answers c.args.door.now c.args.door.now) (c.args.door.now ≡ c.args.door.now) (Task.FreeRaw c.in-FreeRaw.block c.in-FreeRaw.room) did.found refl refl))
 
 pub returns-in-Flush-clause-performs : goal.returns-in-Flush-clause-performs
 returns-in-Flush-clause-performs g c =

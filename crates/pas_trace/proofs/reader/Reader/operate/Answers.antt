@@ -1,4 +1,4 @@
-use Rattle.std.proofs.Common.{refl, sym, subst}
+use Rattle.std.proofs.Common.{refl, sym, ap, subst}
 use Rattle.std.proofs.lemmas.Result.{on_ok_weaker}
 use Rattle.pas_trace.specs.Plans.{name_at}
 use Rattle.pas_trace.specs.Told.{IsOperated}
@@ -23,6 +23,14 @@ returns-in-Frees c =
     on_ok_weaker c.count-in-Frees.result (λ h. subst (λ (w : Wish). IsOperated old new c.args.thread w c.args.cost) (sym a.is)
     (unnamed old old new c.args.thread (Wish.Frees a.name) (What.Free a.name) c.args.cost refl refl refl h)) c.count-in-Frees.ensures
 
+pub returns-in-FreesSized : goal.returns-in-FreesSized
+returns-in-FreesSized c =
+    let old = c.args.self.now in
+    let new = c.count-in-FreesSized.new.self in
+    let a = c.in-FreesSized in
+    on_ok_weaker c.count-in-FreesSized.result (λ h. subst (λ (w : Wish). IsOperated old new c.args.thread w c.args.cost) (sym a.is)
+    (unnamed old old new c.args.thread (Wish.FreesSized a.name a.size a.align) (What.FreeSized a.name c.room_for-room.result) c.args.cost refl (ap (What.FreeSized a.name) c.room_for-room.ensures) refl h)) c.count-in-FreesSized.ensures
+
 pub returns-in-FreesRaw : goal.returns-in-FreesRaw
 returns-in-FreesRaw c =
     let old = c.args.self.now in
@@ -30,6 +38,14 @@ returns-in-FreesRaw c =
     let a = c.in-FreesRaw in
     on_ok_weaker c.count-in-FreesRaw.result (λ h. subst (λ (w : Wish). IsOperated old new c.args.thread w c.args.cost) (sym a.is)
     (unnamed old old new c.args.thread (Wish.FreesRaw a.address a.turn) (What.Raw (name_at a.address a.turn)) c.args.cost refl refl refl h)) c.count-in-FreesRaw.ensures
+
+pub returns-in-FreesRawSized : goal.returns-in-FreesRawSized
+returns-in-FreesRawSized c =
+    let old = c.args.self.now in
+    let new = c.count-in-FreesRawSized.new.self in
+    let a = c.in-FreesRawSized in
+    on_ok_weaker c.count-in-FreesRawSized.result (λ h. subst (λ (w : Wish). IsOperated old new c.args.thread w c.args.cost) (sym a.is)
+    (unnamed old old new c.args.thread (Wish.FreesRawSized a.address a.turn a.size a.align) (What.RawSized c.room_for-room-in-FreesRawSized.result (name_at a.address a.turn)) c.args.cost refl (ap (λ room. What.RawSized room (name_at a.address a.turn)) c.room_for-room-in-FreesRawSized.ensures) refl h)) c.count-in-FreesRawSized.ensures
 
 pub returns-in-Flushes : goal.returns-in-Flushes
 returns-in-Flushes c =
