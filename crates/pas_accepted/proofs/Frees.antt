@@ -6,6 +6,7 @@ use Rattle.pas_profile.specs.Blocks.{address_of}
 use Rattle.pas_profile.specs.Profiles.{IsPage, IsValid}
 use Rattle.pas_profile.specs.declared.event.FreeFault.{FreeFault}
 use Rattle.pas_profile.specs.declared.event.FreeFault.TheVariants.{Outside, Unaligned}
+use Rattle.pas_profile.specs.declared.name.Block.{Block}
 use Rattle.pas_profile.specs.declared.name.Name.{Name}
 use Rattle.pas_profile.specs.declared.profile.Profile.{Profile}
 use Rattle.pas_profile.specs.declared.word.Word.TheVariants as Word
@@ -30,6 +31,7 @@ use Rattle.pas_check.proofs.Ticks.{epoch_kept}
 use Rattle.pas_accepted.proofs.FlushKinds.{flush_only}
 use Rattle.pas_accepted.proofs.Flushing.{flush_leads}
 use Rattle.pas_accepted.proofs.Going.{LeadsOn, on_as, on_both, on_line}
+use Rattle.pas_accepted.proofs.NamesOfBlocks.{known, known_by}
 use Rattle.pas_accepted.proofs.Pieces.{lines_by, table_same}
 use Rattle.pas_accepted.proofs.Stopping.{emptied, logs_with}
 use Rattle.pas_accepted.proofs.Telling.{Comes, Tells, told_after}
@@ -55,7 +57,7 @@ module _ (f : Profile) (valid : IsValid f) (p : Progress) (s : Stand) (ts : List
       record {
         end = t;
         leads = on_as f s t t _ _ (ap (λ ms. lines_by (records_of (events_by k (part k p.list) ms) ++ said_by k a.said)) none ∙ ap (λ o. lines_by (said_by k o)) is) refl (on_both f s u t [] (line ∷ []) begun (on_line f u t line (inr (refl, refl))));
-        tells = told_after p s t k a.steps a.cache a.names _ tells (tells.events ∙ ap (λ ms. visible (triples k ms ++ p.list)) (sym none)) (tells.names ∙ sym names)
+        tells = told_after p s t k a.steps a.cache a.names _ tells (tells.events ∙ ap (λ ms. visible (triples k ms ++ p.list)) (sym none)) (tells.names ∙ ap known (sym names))
             (λ j. table_same (λ (d : Cached). d.log) p.caches k a.cache (ap (λ (d : Cached). d.log) cache) j ∙ tells.logs j) (ap (λ (d : Cached). d.idle_since) cache) refl refl (ap (λ ms. word_after (triples k ms ++ p.list) Word.Epoch) none) tidy;
         due = refl;
         left = refl;
@@ -71,7 +73,7 @@ module _ (f : Profile) (valid : IsValid f) (p : Progress) (s : Stand) (ts : List
       record {
         end = t;
         leads = on_as f s t t _ _ (silent_lines k a.said rs silent) refl (on_both f s u t [] (lines_by rs) begun (flush_leads f valid p s tells k (p.caches k).noted a.cache.noted a.steps h.0 legal (name ∷ []) [] ts));
-        tells = told_after p s t k a.steps a.cache a.names _ tells refl (tells.names ∙ sym names) (logs_with p s k a.cache (name ∷ []) tells (log ∙ ap (λ es. es ++ entry_of name ∷ []) h.1)) idle refl refl
+        tells = told_after p s t k a.steps a.cache a.names _ tells refl (tells.names ∙ ap known (sym names)) (logs_with p s k a.cache (name ∷ []) tells (log ∙ ap (λ es. es ++ entry_of name ∷ []) h.1)) idle refl refl
             (epoch_kept freeing_kinds refl k a.steps p.list (flush_only k (p.caches k).log (p.caches k).noted a.cache.noted a.steps h.0)) tidy;
         due = refl;
         left = refl;
@@ -83,7 +85,7 @@ module _ (f : Profile) (valid : IsValid f) (p : Progress) (s : Stand) (ts : List
       record {
         end = t;
         leads = on_as f s t t _ _ (silent_lines k a.said rs silent ∙ ap (λ ms. lines_by (records_of (events_by k (part k p.list) ms))) h.0) refl begun;
-        tells = told_after p s t k a.steps a.cache a.names _ tells (tells.events ∙ ap (λ ms. visible (triples k ms ++ p.list)) (sym h.0)) (tells.names ∙ sym names)
+        tells = told_after p s t k a.steps a.cache a.names _ tells (tells.events ∙ ap (λ ms. visible (triples k ms ++ p.list)) (sym h.0)) (tells.names ∙ ap known (sym names))
             (logs_with p s k a.cache more tells (log ∙ ap (λ es. es ++ entry_of name ∷ []) (h.1 ∙ tells.logs k) ∙ sym (map-append entry_of (s.logs k) (name ∷ [])))) idle refl refl (ap (λ ms. word_after (triples k ms ++ p.list) Word.Epoch) h.0) tidy;
         due = due;
         left = refl;
@@ -113,8 +115,8 @@ module _ (f : Profile) (valid : IsValid f) (p : Progress) (s : Stand) (ts : List
   free_comes name (inr h) begun = fault_comes name h.0 h.1 h.2 begun
 
   -- ---- a free of what a name of the trace stands for
-  pub freed_comes : (name : ℕ) (block : Option (Option Name)) → IsFreedBy f k (p.caches k) a.cache name block a.steps a.said → LeadsOn f s [] (record (freeing_named f s k name block) { left = ts })
+  pub freed_comes : (name : ℕ) (block : Option (Option Block)) → IsFreedBy f k (p.caches k) a.cache name block a.steps a.said → LeadsOn f s [] (record (freeing_named f s k name (known_by block)) { left = ts })
       → Comes f s (records_of (events_by k (part k p.list) a.steps) ++ said_by k a.said) (after_answer p k a) ts
   freed_comes name None h begun = absurd h
   freed_comes name (Some None) h begun = said_comes (Said.Skipped name) h.0 h.1 h.2 begun
-  freed_comes name (Some (Some block)) h begun = free_comes block h begun
+  freed_comes name (Some (Some block)) h begun = free_comes block.name h begun

@@ -1,5 +1,6 @@
 mod Going
 mod Pieces
+mod NamesOfBlocks
 mod Telling
 mod FlushKinds
 mod Flushing

@@ -16,11 +16,12 @@ use Rattle.pas_cache.specs.Kinds.{allocating}
 use Rattle.pas_cache.specs.Serves.{ServesBy, Wanted, wanted_for}
 use Rattle.pas_cache.proofs.Budget.{log_kept}
 use Rattle.pas_report.specs.declared.record.Record.{Record}
-use Rattle.pas_trace.specs.Named.{named, standing_for}
+use Rattle.pas_trace.specs.Named.{named, standing_for as stands_for}
 use Rattle.pas_trace.specs.declared.item.Request.{Request}
 use Rattle.pas_trace.specs.declared.plan.What.{What}
 use Rattle.pas_trace.specs.declared.plan.What.TheVariants.{Alloc, Free, Raw, Flush, Stop, Tick, Pass, Idle}
-use Rattle.pas_answers.specs.Answers.{Answer, IsAnswered, Progress, after_answer, having, name_of, records_of, said_by}
+use Rattle.pas_answers.specs.Answers.{Answer, IsAnswered, Progress, after_answer, block_of, having, records_of, said_by}
+use Rattle.pas_answers.specs.Named.{standing_for}
 use Rattle.pas_answers.specs.Refusals.{RefusesTruly}
 use Rattle.pas_answers.proofs.Tidy.{Tidy, answer_tidy}
 use Rattle.pas_check.specs.Begins.{begun_what, freeing_named}
@@ -31,6 +32,7 @@ use Rattle.pas_accepted.proofs.FlushKinds.{flush_only}
 use Rattle.pas_accepted.proofs.Flushing.{flush_leads}
 use Rattle.pas_accepted.proofs.Frees.{free_comes, freed_comes, silent_lines}
 use Rattle.pas_accepted.proofs.Going.{LeadsOn, on_as, on_both}
+use Rattle.pas_accepted.proofs.NamesOfBlocks.{known, known_stands, name_in}
 use Rattle.pas_accepted.proofs.Pieces.{lines_by, table_same}
 use Rattle.pas_accepted.proofs.Requests.{request_leads, served}
 use Rattle.pas_accepted.proofs.Stopping.{emptied, logs_with, stop_leads, stop_tells}
@@ -60,7 +62,7 @@ module _ (f : Profile) (valid : IsValid f) (p : Progress) (s : Stand) (ts : List
         end = end;
         leads = on_as f s end end _ _ (ap (λ o. lines_by (rs ++ said_by k o)) is.said_is) refl
             (on_both f s u end [] _ begun (request_leads f valid w k r p.list a.steps tells.events legal (p.caches k).locals is.answer is.ends truly));
-        tells = told_after p s end k a.steps a.cache a.names _ tells refl (ap (λ ns. named name (name_of is.answer) ∷ ns) tells.names ∙ sym is.names_are)
+        tells = told_after p s end k a.steps a.cache a.names _ tells refl (ap (λ ns. named name (name_in (block_of is.answer)) ∷ ns) tells.names ∙ ap known (sym is.names_are))
             (λ j. table_same (λ (d : Cached). d.log) p.caches k a.cache (log_kept f wanted a.found (p.caches k) a.cache a.steps is.answer (route_in f size align) is.serves) j ∙ tells.logs j)
             (idle_kept f wanted a.found (p.caches k) a.cache a.steps is.answer (route_in f size align) is.serves) refl refl (epoch_kept allocating refl k a.steps p.list is.kinds) (tidy_of (Alloc name heap size align) is);
         due = refl;
@@ -68,7 +70,7 @@ module _ (f : Profile) (valid : IsValid f) (p : Progress) (s : Stand) (ts : List
       }
   what_comes (Free name) is truly begun =
       freed_comes f valid p s ts tells due k a is.1 (tidy_of (Free name) is) legal name (standing_for p.names name) is.0
-      (on_as f s _ _ [] [] refl (ap (λ ns. record (freeing_named f s k name (standing_for ns name)) { left = ts }) (sym tells.names)) begun)
+      (on_as f s _ _ [] [] refl (ap (λ x. record (freeing_named f s k name x) { left = ts }) (sym (ap (λ ns. stands_for ns name) tells.names ∙ known_stands p.names name))) begun)
   what_comes (Raw block) is truly begun = free_comes f valid p s ts tells due k a is.1 (tidy_of (Raw block) is) legal block is.0 begun
   what_comes Flush is truly begun =
       let u : Stand = emptying s k [] [] ts in
@@ -78,7 +80,7 @@ module _ (f : Profile) (valid : IsValid f) (p : Progress) (s : Stand) (ts : List
       record {
         end = end;
         leads = on_as f s end end _ _ (silent_lines k a.said rs is.1) refl (on_both f s u end [] (lines_by rs) begun (flush_leads f valid p s tells k (p.caches k).noted a.cache.noted a.steps h legal [] [] ts));
-        tells = told_after p s end k a.steps a.cache a.names _ tells refl (tells.names ∙ sym is.2) (logs_with p s k a.cache [] tells (ap (λ (d : Cached). d.log) is.0.cache)) (ap (λ (d : Cached). d.idle_since) is.0.cache) refl refl
+        tells = told_after p s end k a.steps a.cache a.names _ tells refl (tells.names ∙ ap known (sym is.2)) (logs_with p s k a.cache [] tells (ap (λ (d : Cached). d.log) is.0.cache)) (ap (λ (d : Cached). d.idle_since) is.0.cache) refl refl
             (epoch_kept freeing refl k a.steps p.list (flush_only k (p.caches k).log (p.caches k).noted a.cache.noted a.steps h)) (tidy_of Flush is);
         due = refl;
         left = refl;
@@ -90,7 +92,7 @@ module _ (f : Profile) (valid : IsValid f) (p : Progress) (s : Stand) (ts : List
       record {
         end = end;
         leads = on_as f s end end _ _ (silent_lines k a.said rs is.1) refl (on_both f s u end [] (lines_by rs) begun (stop_leads f valid p s tells k a.cache a.steps is.0 legal [] ts));
-        tells = stop_tells f valid p s tells k a.cache a.steps is.0 legal a.names _ end refl (tells.names ∙ sym is.2) refl refl refl;
+        tells = stop_tells f valid p s tells k a.cache a.steps is.0 legal a.names _ end refl (tells.names ∙ ap known (sym is.2)) refl refl refl;
         due = refl;
         left = refl;
       }

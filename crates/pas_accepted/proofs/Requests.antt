@@ -40,10 +40,11 @@ use Rattle.pas_report.specs.declared.record.Record.{Record}
 use Rattle.pas_report.specs.declared.record.Said.{Said}
 use Rattle.pas_trace.specs.Named.{named}
 use Rattle.pas_trace.specs.declared.item.Request.{Request}
-use Rattle.pas_answers.specs.Answers.{IsGiven, RefusalEnds, RequestEnds, name_of, records_of, said_by, said_of_request, said_of_room, wanted_by}
+use Rattle.pas_answers.specs.Answers.{IsGiven, RefusalEnds, RequestEnds, block_of, records_of, said_by, said_of_request, said_of_room, wanted_by}
 use Rattle.pas_check.specs.States.{Serves, Stand}
 use Rattle.pas_check.specs.Takes.{IsPreparing, IsRefusal, directory_of}
 use Rattle.pas_accepted.proofs.Going.{LeadsOn, on_as, on_both, on_line, on_same}
+use Rattle.pas_accepted.proofs.NamesOfBlocks.{name_in}
 use Rattle.pas_accepted.proofs.Pieces.{lines_both, lines_by, lines_more, visible_piece}
 
 -- ---- the directory of a request
@@ -110,7 +111,7 @@ reason_by Route.Large f w locals entry exit room h = h.2
 
 -- after the request
 abbrev pub served : Stand → Request → Result Block NoRoom → List Event → Stand
-served w r answer es = record w { events = es; names = named r.name (name_of answer) ∷ w.names; due = [] }
+served w r answer es = record w { events = es; names = named r.name (name_in (block_of answer)) ∷ w.names; due = [] }
 
 module _ (f : Profile) (valid : IsValid f) (w : Stand) (k : ℕ) (r : Request) (l : Whole) (steps : List Made) (events : w.events ≡ visible l) (legal : Legal f (triples k steps ++ l)) where
   run : Run f (visible (triples k steps ++ l))
