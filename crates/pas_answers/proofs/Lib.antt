@@ -1,6 +1,7 @@
 mod OwedEvents
 mod Frees
 pub mod Requests
+mod Remaking
 pub mod Kept
 mod Records
 pub mod OwnRecords
