@@ -239,9 +239,11 @@ fn gives_all_pages<R: AllocGlobal + Threads + Wait + Sync>(
     word: &str,
 ) -> Result<bool, AllocError> {
     let outcome = outcome_of(rt, &[word], LARGEST, &[], &[], LARGEST_ROOM)?;
-    Ok(outcome.status == 0
-        && contains(&outcome.taken, LARGEST_GIVEN.as_bytes())
-        && outcome.taken.ends_with(LARGEST_TOTALS.as_bytes()))
+    Ok(
+        outcome.status == 0
+            && contains(&outcome.taken, LARGEST_GIVEN.as_bytes())
+            && outcome.taken.ends_with(LARGEST_TOTALS.as_bytes()),
+    )
 }
 
 #[test]
