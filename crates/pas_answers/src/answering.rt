@@ -170,7 +170,10 @@ fn perform<D: Desk, O: Door, M: Remake>(
         },
         Task::FreeRaw { block, room } => (None, free(desk, cache, block, room)),
         Task::Remake {
-            name, size, align, ..
+            name,
+            size,
+            align,
+            ..
         } => match meant {
             Some(block) => resize(desk, door, cache, remaker, name, block, size, align),
             None => (None, Some(Said::Skipped { name })),
