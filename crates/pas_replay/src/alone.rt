@@ -26,12 +26,7 @@ pub fn is_of_one_thread(plan: &Plan) -> bool
 
 /// Replays a plan of one thread in the order of the text. All that is said of a replay on threads holds of it: where one actor works there is
 /// one order of the steps, and one of the records. Takes no memory, starts no thread, and makes no atomic exchange.
-pub fn by_one_thread<M: Remake>(
-    plan: &Plan,
-    kit: PlainKit,
-    remake: &M,
-    out: &mut Records,
-) -> State
+pub fn by_one_thread<M: Remake>(plan: &Plan, kit: PlainKit, remake: &M, out: &mut Records) -> State
     requires plan { (text : List ℕ) × (length text ≤ 16777216) × IsPlanOf text plan.now }
     requires alone { IsOfOneThread plan.now }
     requires kit { IsKitOf plan.now kit }

@@ -179,15 +179,7 @@ pub(crate) fn operate<M: Remake>(
     take_seat(desk, &mut actors.passes, actor);
     let cache = &mut actors.caches[actor as usize - 1];
     let meant = freed(names, task);
-    let came = operate_by(
-        desk,
-        &mut actors.indexes,
-        cache,
-        remaker,
-        task,
-        meant,
-        out,
-    );
+    let came = operate_by(desk, &mut actors.indexes, cache, remaker, task, meant, out);
     keep(names, task, came);
 }
 

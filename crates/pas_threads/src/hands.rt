@@ -47,9 +47,7 @@ fn act<R: Wait, G: Gate, M: Remake>(
     ensures did { DidAct region.now book.now ops.now hand.old hand.new }
 {
     match hand {
-        Hand::Thread(worker) => {
-            perform(rt, region, indexes, book, worker, ops, gate, remaker)
-        }
+        Hand::Thread(worker) => { perform(rt, region, indexes, book, worker, ops, gate, remaker) }
         Hand::Scavenger(scavenger) => keep_up(region, scavenger, ops, gate),
     }
 }
