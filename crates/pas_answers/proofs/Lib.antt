@@ -1,7 +1,7 @@
 mod OwedEvents
 mod Frees
 pub mod Requests
-mod Remaking
+mod Reallocations
 pub mod Kept
 mod Records
 pub mod OwnRecords

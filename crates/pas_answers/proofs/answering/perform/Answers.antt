@@ -4,6 +4,7 @@ use Rattle.pas_cache.specs.Caches.{cached}
 use Rattle.pas_answers.specs.Calls.{what_of, PerformsMeant}
 use Rattle.pas_answers.specs.Indexes.{IsNamedFor, request_made}
 use Rattle.pas_answers.proofs.Frees.{can_log, fits_task, not_asked, performs_free, performs_skip, performs_raw, performs_flush, performs_stop}
+use Rattle.pas_answers.proofs.Reallocations.{can_resize, admitted_there, performs_move, performs_no_move}
 use Rattle.pas_answers.proofs.answering.perform.Goals as goal
 
 pub free-requires-clause-turn : goal.free-requires-clause-turn
@@ -55,3 +56,22 @@ pub returns-in-Stop-clause-performs : goal.returns-in-Stop-clause-performs
 returns-in-Stop-clause-performs g c =
     let did = performs_stop c.args.task c.args.meant (cached c.args.cache.now) (cached c.stop.new.self) c.in-Stop.is c.stop.ensures.stops in
     (did, subst (λ t. IsNamedFor (g.D.Desk.standing c.args.desk.now).seat.profile (g.O.Door.answers c.args.door.now c.args.door.now) (c.args.door.now ≡ c.args.door.now) (request_made (what_of t) c.args.meant) did.found) (sym c.in-Stop.is) refl)
+
+-- a reallocation of a block, and of nothing
+pub resize-requires-clause-admitted : goal.resize-requires-clause-admitted
+resize-requires-clause-admitted g c =
+    admitted_there (g.D.Desk.standing c.args.desk.now).seat.profile c.requires.fit.0 c.requires.fit.1 c.in-Some-in-Remake.block c.in-Remake.is c.requires.fit.2 (c.requires.stands c.in-Some-in-Remake.block c.in-Some-in-Remake.is)
+
+pub resize-requires-clause-stands : goal.resize-requires-clause-stands
+resize-requires-clause-stands g c = c.requires.stands c.in-Some-in-Remake.block c.in-Some-in-Remake.is
+
+pub resize-requires-clause-can : goal.resize-requires-clause-can
+resize-requires-clause-can g c = can_resize (cached c.args.cache.now) (g.D.Desk.spare_of c.args.desk.now) c.in-Remake.is c.requires.can
+
+pub returns-in-Remake-Some-clause-performs : goal.returns-in-Remake-Some-clause-performs
+returns-in-Remake-Some-clause-performs g c =
+    performs_move (cached c.args.cache.now) (cached c.resize.new.cache) (g.O.Door.answers c.args.door.now c.resize.new.door) (c.resize.new.door ≡ c.args.door.now) c.in-Remake.is c.in-Some-in-Remake.is (c.resize.ensures.performs _ _)
+
+pub returns-in-Remake-None-clause-performs : goal.returns-in-Remake-None-clause-performs
+returns-in-Remake-None-clause-performs g c =
+    performs_no_move (cached c.args.cache.now) (g.O.Door.answers c.args.door.now c.args.door.now) (c.args.door.now ≡ c.args.door.now) c.in-Remake.is c.in-None-in-Remake.is refl

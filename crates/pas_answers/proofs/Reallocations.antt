@@ -31,7 +31,7 @@ use Rattle.pas_cache.specs.declared.moving.Moved.{Moved}
 use Rattle.pas_cache.specs.declared.moving.Moved.TheVariants.{Kept, New}
 use Rattle.pas_answers.specs.Answers.{Named, named as the_name, standing_for, having, Answer, answer_of, suits, request_for, block_of, said_by, said_of_room, IsServed, IsRemadeBy, IsAnswered}
 use Rattle.pas_answers.specs.Calls.{what_of, IsBlockOf, MayStand, block_behind, IsMeant, IsKnown, owed_events, MayPerform, PerformsMeant}
-use Rattle.pas_answers.specs.Fit.{IsFitWhat}
+use Rattle.pas_answers.specs.Fit.{IsFitWhat, cost_of_what}
 use Rattle.pas_answers.specs.Indexes.{unless_suited, IsNamedFor, request_made}
 use Rattle.pas_answers.specs.Moves.{flush_of_full, MayMove, Moves}
 use Rattle.pas_answers.proofs.Frees.{fits_task, stands_for, taken_few}
@@ -49,9 +49,18 @@ can_move {σ} c name n heap size align spare can =
     let room = can.met.room in
     record { view = can.view; whole = can.whole; stood = can.stood; met = record { rest = can.met.rest; room = omega (arith, room, flush) } }
 
+-- whatever the old name and its heap are
+pub can_resize : {σ : Standing} {task : Task} {name n heap size align : ℕ} (c : Cached) (spare : ℕ) → task ≡ Task.Remake name n heap size align → CanCall σ (MayPerform σ.seat.profile c (what_of task) spare) → (m h : ℕ) → CanCall σ (MayPerform σ.seat.profile c (Remake name m h size align) spare)
+can_resize {σ} {task} {name} {n} {heap} {size} {align} c spare is can m h =
+    let cost : cost_of_what (what_of task) ≡ cost_of_size size + 1 = ap (λ (t : Task). cost_of_what (what_of t)) is in
+    let room = can.met.room in
+    record { view = can.view; whole = can.whole; stood = can.stood; met = record { rest = can.met.rest; room = omega (arith, room, cost) } }
+
 -- the request is admitted in each heap of the region
-pub admitted_there : (f : Profile) (limit : ℕ) (asked : List ℕ) {task : Task} (name n heap size align : ℕ) (block : Block) → task ≡ Task.Remake name n heap size align → IsFitWhat f limit asked (what_of task) → IsBlockOf f block → IsAdmitted f size align block.heap
-admitted_there f limit asked name n heap size align block is fit of = let admitted = (fits_task f limit asked (Task.Remake name n heap size align) is fit).1.0 in record { within = admitted.within; aligned = admitted.aligned; of_profile = of.heap }
+pub admitted_there : {task : Task} {name n heap size align : ℕ} (f : Profile) (limit : ℕ) (asked : List ℕ) (block : Block) → task ≡ Task.Remake name n heap size align → IsFitWhat f limit asked (what_of task) → IsBlockOf f block → IsAdmitted f size align block.heap
+admitted_there {task} {name} {n} {heap} {size} {align} f limit asked block is fit of =
+    let admitted = (fits_task f limit asked (Task.Remake name n heap size align) is fit).1.0 in
+    record { within = admitted.within; aligned = admitted.aligned; of_profile = of.heap }
 
 -- ---- what it comes to
 module _ {σ σ' : Standing} (c c' : Cached) (name n heap size align : ℕ) (old : Block) (Answers : ℕ → ℕ → Option ℕ → Type 0) (Same : Type 0) where
@@ -84,8 +93,9 @@ module _ {σ σ' : Standing} (c c' : Cached) (name n heap size align : ℕ) (old
   made_by t found is named = subst (λ (s : Bool). IsNamedFor f Answers Same (unless_suited s r) found) (sym is) named
 
   -- it is kept
-  pub kept : CameTo (Ok Kept) → Did (Some old) (Some (Said.Kept old.name name))
-  kept m =
+  pub kept : {answer : Result Moved NoRoom} → answer ≡ Ok Kept → CameTo answer → Did (Some old) (Some (Said.Kept old.name name))
+  kept came m0 =
+      let m : CameTo (Ok Kept) = subst CameTo came m0 in
       let is = m.moved in (
         record {
           steps = m.steps;
@@ -103,8 +113,9 @@ module _ {σ σ' : Standing} (c c' : Cached) (name n heap size align : ℕ) (old
       )
 
   -- another block was given, and the old name was logged
-  pub replaced : (block : Block) → old.heap < σ.seat.profile.heaps → CameTo (Ok (New block)) → Did (Some block) None
-  replaced block of_region m =
+  pub replaced : {answer : Result Moved NoRoom} (block : Block) → answer ≡ Ok (New block) → old.heap < σ.seat.profile.heaps → CameTo answer → Did (Some block) None
+  replaced block came of_region m0 =
+      let m : CameTo (Ok (New block)) = subst CameTo came m0 in
       let is = m.moved in
       let w = wanted_for f old.heap size align in (
         record {
@@ -171,18 +182,28 @@ module _ {σ σ' : Standing} (c c' : Cached) (name n heap size align : ℕ) (old
       )
 
   -- the new block may be freed or reallocated
-  pub new_stands : (spare : ℕ) (block : Block) → IsAdmitted σ.seat.profile size align old.heap → CanCall σ (MayPerform σ.seat.profile c (Remake name n heap size align) spare) → CameTo (Ok (New block)) → MayStand σ.seat.profile (Some block)
-  new_stands spare block admitted can m =
+  pub new_stands : (spare : ℕ) (block : Block) → IsAdmitted σ.seat.profile size align old.heap → CanCall σ (MayPerform σ.seat.profile c (Remake name n heap size align) spare) → {answer : Result Moved NoRoom} → answer ≡ Ok (New block) → CameTo answer → MayStand σ.seat.profile (Some block)
+  new_stands spare block admitted can came m0 =
+      let m : CameTo (Ok (New block)) = subst CameTo came m0 in
       let is = m.moved in
       let agreed = subst (Agreed f can.view) is.steps_are (m.calls.adds.agreed can.view can.whole can.stood can.met.rest) in
       block_stands f c old.heap size align is.placed block can.view admitted can.met.rest (agreed_later f can.view is.freed is.placed agreed) is.block_for
 
--- ---- its own request was refused
-pub performs_no_move : {σ : Standing} (task : Task) (meant : Option Block) (c : Cached) (name n heap size align : ℕ) (Answers : ℕ → ℕ → Option ℕ → Type 0) (Same : Type 0) → task ≡ Task.Remake name n heap size align → meant ≡ None → Same
-    → (did : PerformsMeant (what_of task) meant None c c σ σ (Some (Said.Skipped name))) × IsNamedFor σ.seat.profile Answers Same (request_made (what_of task) meant) did.found
-performs_no_move {σ} task meant c name n heap size align Answers Same is named same =
-    subst (λ (t : Task). (did : PerformsMeant (what_of t) meant None c c σ σ (Some (Said.Skipped name))) × IsNamedFor σ.seat.profile Answers Same (request_made (what_of t) meant) did.found) (sym is)
-    (subst (λ (o : Option Block). (did : PerformsMeant (Remake name n heap size align) o None c c σ σ (Some (Said.Skipped name))) × IsNamedFor σ.seat.profile Answers Same (request_made (Remake name n heap size align) o) did.found) (sym named) (
+-- ---- by the task
+-- what is promised of it
+abbrev pub DoesTask : (σ σ' : Standing) → Task → Option Block → Option Block → Cached → Cached → Option Said → (ℕ → ℕ → Option ℕ → Type 0) → Type 0 → Type 0
+DoesTask σ σ' task meant came c c' said Answers Same = (did : PerformsMeant (what_of task) meant came c c' σ σ' said) × IsNamedFor σ.seat.profile Answers Same (request_made (what_of task) meant) did.found
+
+pub performs_move : {σ σ' : Standing} {task : Task} {name n heap size align : ℕ} {meant came : Option Block} {old : Block} {said : Option Said} (c c' : Cached) (Answers : ℕ → ℕ → Option ℕ → Type 0) (Same : Type 0) → task ≡ Task.Remake name n heap size align → meant ≡ Some old
+    → DoesTask σ σ' (Task.Remake name n heap size align) (Some old) came c c' said Answers Same → DoesTask σ σ' task meant came c c' said Answers Same
+performs_move {σ} {σ'} {task} {name} {n} {heap} {size} {align} {meant} {came} {old} {said} c c' Answers Same is named did =
+    subst (λ (t : Task). DoesTask σ σ' t meant came c c' said Answers Same) (sym is) (subst (λ (o : Option Block). DoesTask σ σ' (Task.Remake name n heap size align) o came c c' said Answers Same) (sym named) did)
+
+-- its own request was refused
+pub performs_no_move : {σ : Standing} {task : Task} {name n heap size align : ℕ} {meant : Option Block} (c : Cached) (Answers : ℕ → ℕ → Option ℕ → Type 0) (Same : Type 0) → task ≡ Task.Remake name n heap size align → meant ≡ None → Same
+    → DoesTask σ σ task meant None c c (Some (Said.Skipped name)) Answers Same
+performs_no_move {σ} {task} {name} {n} {heap} {size} {align} {meant} c Answers Same is named same =
+    subst (λ (t : Task). DoesTask σ σ t meant None c c (Some (Said.Skipped name)) Answers Same) (sym is) (subst (λ (o : Option Block). DoesTask σ σ (Task.Remake name n heap size align) o None c c (Some (Said.Skipped name)) Answers Same) (sym named) (
       record {
         steps = [];
         found = None;
