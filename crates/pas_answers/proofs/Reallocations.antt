@@ -63,7 +63,7 @@ admitted_there {task} {name} {n} {heap} {size} {align} f limit asked block is fi
     record { within = admitted.within; aligned = admitted.aligned; of_profile = of.heap }
 
 -- ---- what it comes to
-module _ {σ σ' : Standing} (c c' : Cached) (name n heap size align : ℕ) (old : Block) (Answers : ℕ → ℕ → Option ℕ → Type 0) (Same : Type 0) where
+module _ (σ σ' : Standing) (c c' : Cached) (name n heap size align : ℕ) (old : Block) (Answers : ℕ → ℕ → Option ℕ → Type 0) (Same : Type 0) where
   abbrev f : Profile
   f = σ.seat.profile
 

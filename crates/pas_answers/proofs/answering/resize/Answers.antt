@@ -11,7 +11,7 @@ remake-requires-clause-can g c = can_move (cached c.args.cache.now) c.args.name 
 
 pub returns-in-Ok-Kept-clause-performs : goal.returns-in-Ok-Kept-clause-performs
 returns-in-Ok-Kept-clause-performs g c = λ n heap.
-    kept (cached c.args.cache.now) (cached c.remake.new.cache) c.args.name n heap c.args.size c.args.align c.args.old (g.O.Door.answers c.args.door.now c.remake.new.door) (c.remake.new.door ≡ c.args.door.now)
+    kept (g.D.Desk.standing c.args.desk.now) (g.D.Desk.standing c.remake.new.desk) (cached c.args.cache.now) (cached c.remake.new.cache) c.args.name n heap c.args.size c.args.align c.args.old (g.O.Door.answers c.args.door.now c.remake.new.door) (c.remake.new.door ≡ c.args.door.now)
     (c.in-Ok-Kept.is ∙ ap (λ moved. Ok moved) c.in-Ok-Kept.field-0-is) c.remake.ensures.moves
 
 pub returns-in-Ok-Kept-clause-stands : goal.returns-in-Ok-Kept-clause-stands
@@ -19,17 +19,17 @@ returns-in-Ok-Kept-clause-stands g c = λ block is. subst (IsBlockOf (g.D.Desk.s
 
 pub returns-in-Ok-New-clause-performs : goal.returns-in-Ok-New-clause-performs
 returns-in-Ok-New-clause-performs g c = λ n heap.
-    replaced (cached c.args.cache.now) (cached c.remake.new.cache) c.args.name n heap c.args.size c.args.align c.args.old (g.O.Door.answers c.args.door.now c.remake.new.door) (c.remake.new.door ≡ c.args.door.now)
+    replaced (g.D.Desk.standing c.args.desk.now) (g.D.Desk.standing c.remake.new.desk) (cached c.args.cache.now) (cached c.remake.new.cache) c.args.name n heap c.args.size c.args.align c.args.old (g.O.Door.answers c.args.door.now c.remake.new.door) (c.remake.new.door ≡ c.args.door.now)
     c.in-Ok-New.block (c.in-Ok-New.is ∙ ap (λ moved. Ok moved) c.in-Ok-New.field-0-is) c.requires.stands.heap c.remake.ensures.moves
 
 pub returns-in-Ok-New-clause-stands : goal.returns-in-Ok-New-clause-stands
 returns-in-Ok-New-clause-stands g c =
-    new_stands (cached c.args.cache.now) (cached c.remake.new.cache) c.args.name 0 0 c.args.size c.args.align c.args.old (g.O.Door.answers c.args.door.now c.remake.new.door) (c.remake.new.door ≡ c.args.door.now)
+    new_stands (g.D.Desk.standing c.args.desk.now) (g.D.Desk.standing c.remake.new.desk) (cached c.args.cache.now) (cached c.remake.new.cache) c.args.name 0 0 c.args.size c.args.align c.args.old (g.O.Door.answers c.args.door.now c.remake.new.door) (c.remake.new.door ≡ c.args.door.now)
     (g.D.Desk.spare_of c.args.desk.now) c.in-Ok-New.block c.requires.admitted (c.requires.can 0 0) (c.in-Ok-New.is ∙ ap (λ moved. Ok moved) c.in-Ok-New.field-0-is) c.remake.ensures.moves
 
 pub returns-in-Err-clause-performs : goal.returns-in-Err-clause-performs
 returns-in-Err-clause-performs g c = λ n heap.
-    refused (cached c.args.cache.now) (cached c.remake.new.cache) c.args.name n heap c.args.size c.args.align c.args.old (g.O.Door.answers c.args.door.now c.remake.new.door) (c.remake.new.door ≡ c.args.door.now)
+    refused (g.D.Desk.standing c.args.desk.now) (g.D.Desk.standing c.remake.new.desk) (cached c.args.cache.now) (cached c.remake.new.cache) c.args.name n heap c.args.size c.args.align c.args.old (g.O.Door.answers c.args.door.now c.remake.new.door) (c.remake.new.door ≡ c.args.door.now)
     c.in-Err.room c.refusal.result c.refusal.ensures c.requires.stands.heap c.in-Err.ensures.moves
 
 pub returns-in-Err-clause-stands : goal.returns-in-Err-clause-stands
