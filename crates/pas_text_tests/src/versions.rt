@@ -84,10 +84,7 @@ const SIZED_LINES: [(&[u8], Fault); 30] = [
         Some((3, Reason::BadNumber)),
     ),
     (b"fs 3 9 16385 8\n", Some((3, Reason::BadThread))),
-    (
-        b"rs 0 0x00001000 0 16385 8\n",
-        Some((3, Reason::BadThread)),
-    ),
+    (b"rs 0 0x00001000 0 16385 8\n", Some((3, Reason::BadThread))),
     (b"fs 1 9 16385 8\n", Some((3, Reason::BadSize))),
     (b"rs 1 0x00001000 0 16385 8\n", Some((3, Reason::BadSize))),
     (b"fs 1 9 24 8\n", Some((3, Reason::BadAlign))),

@@ -139,13 +139,7 @@ fn item_of_four_words(word: &[u8], a: &[u8], b: &[u8], c: &[u8]) -> Result<Item,
 }
 
 /// What a line of five words says.
-fn item_of_five_words(
-    word: &[u8],
-    a: &[u8],
-    b: &[u8],
-    c: &[u8],
-    d: &[u8],
-) -> Result<Item, Reason>
+fn item_of_five_words(word: &[u8], a: &[u8], b: &[u8], c: &[u8], d: &[u8]) -> Result<Item, Reason>
     ensures { result ≡ item_of_five word.now a.now b.now c.now d.now }
 {
     if !is_word(word, b"fs") {

@@ -166,13 +166,7 @@ impl Reader {
     }
 
     /// .. that names a size and an alignment.
-    fn check_sized_free(
-        &self,
-        thread: u64,
-        name: u32,
-        size: u64,
-        align: u64,
-    ) -> Result<u32, Reason>
+    fn check_sized_free(&self, thread: u64, name: u32, size: u64, align: u64) -> Result<u32, Reason>
         requires { IsValid self.now.header.profile }
         ensures { IsChecked (reason_told self.now thread (Wish.FreesSized name size align)) 1 result }
     {
@@ -222,9 +216,7 @@ impl Reader {
                 self.check_sized_free(thread, name, size, align)
             }
             Wish::FreesRaw { .. } => self.check_thread(thread, 1),
-            Wish::FreesRawSized { size, align, .. } => {
-                self.check_sized_raw(thread, size, align)
-            }
+            Wish::FreesRawSized { size, align, .. } => { self.check_sized_raw(thread, size, align) }
             Wish::Flushes => self.check_thread(thread, 0),
             Wish::Stops => self.check_thread(thread, 0),
         }
@@ -467,7 +459,11 @@ impl Reader {
     {
         let mut bounds = Vec::new(self.alloc);
         for actor in 0..self.header.profile.threads as usize + 1 {
-            let deeds = if actor == 0 { 0 } else { self.header.profile.pages };
+            let deeds = if actor == 0 {
+                0
+            } else {
+                self.header.profile.pages
+            };
             bounds.push(deeds + self.counts.costs[actor])?;
         }
         Ok(Bounds { bounds })
