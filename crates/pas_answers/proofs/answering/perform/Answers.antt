@@ -60,18 +60,18 @@ returns-in-Stop-clause-performs g c =
 -- a reallocation of a block, and of nothing
 pub resize-requires-clause-admitted : goal.resize-requires-clause-admitted
 resize-requires-clause-admitted g c =
-    admitted_there (g.D.Desk.standing c.args.desk.now).seat.profile c.requires.fit.0 c.requires.fit.1 c.in-Some-in-Remake.block c.in-Remake.is c.requires.fit.2 (c.requires.stands c.in-Some-in-Remake.block c.in-Some-in-Remake.is)
+    admitted_there (g.D.Desk.standing c.args.desk.now).seat.profile c.requires.fit.0 c.requires.fit.1 c.in-Some-meant.block c.in-Remake.is c.requires.fit.2 (c.requires.stands c.in-Some-meant.block c.in-Some-meant.is)
 
 pub resize-requires-clause-stands : goal.resize-requires-clause-stands
-resize-requires-clause-stands g c = c.requires.stands c.in-Some-in-Remake.block c.in-Some-in-Remake.is
+resize-requires-clause-stands g c = c.requires.stands c.in-Some-meant.block c.in-Some-meant.is
 
 pub resize-requires-clause-can : goal.resize-requires-clause-can
 resize-requires-clause-can g c = can_resize (cached c.args.cache.now) (g.D.Desk.spare_of c.args.desk.now) c.in-Remake.is c.requires.can
 
-pub returns-in-Remake-Some-clause-performs : goal.returns-in-Remake-Some-clause-performs
-returns-in-Remake-Some-clause-performs g c =
-    performs_move (cached c.args.cache.now) (cached c.resize.new.cache) (g.O.Door.answers c.args.door.now c.resize.new.door) (c.resize.new.door ≡ c.args.door.now) c.in-Remake.is c.in-Some-in-Remake.is (c.resize.ensures.performs _ _)
+pub returns-in-Some-meant-clause-performs : goal.returns-in-Some-meant-clause-performs
+returns-in-Some-meant-clause-performs g c =
+    performs_move (cached c.args.cache.now) (cached c.resize.new.cache) (g.O.Door.answers c.args.door.now c.resize.new.door) (c.resize.new.door ≡ c.args.door.now) c.in-Remake.is c.in-Some-meant.is (c.resize.ensures.performs _ _)
 
-pub returns-in-Remake-None-clause-performs : goal.returns-in-Remake-None-clause-performs
-returns-in-Remake-None-clause-performs g c =
-    performs_no_move (cached c.args.cache.now) (g.O.Door.answers c.args.door.now c.args.door.now) (c.args.door.now ≡ c.args.door.now) c.in-Remake.is c.in-None-in-Remake.is refl
+pub returns-in-None-meant-clause-performs : goal.returns-in-None-meant-clause-performs
+returns-in-None-meant-clause-performs g c =
+    performs_no_move (cached c.args.cache.now) (g.O.Door.answers c.args.door.now c.args.door.now) (c.args.door.now ≡ c.args.door.now) c.in-Remake.is c.in-None-meant.is refl
