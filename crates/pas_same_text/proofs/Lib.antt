@@ -13,3 +13,11 @@ mod CachedSlots
 mod EntryEvents
 mod FlushEvents
 mod Flushes
+mod GivenBack
+mod GivingBack
+mod EndedBlocks
+mod EntrySteps
+mod FlushedLogs
+mod GivenPages
+mod FlushActs
+mod ReturnHints

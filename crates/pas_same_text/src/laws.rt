@@ -4,7 +4,7 @@ ghost use Rattle.pas_profile.specs.declared.name.Name.{Name};
 ghost use Rattle.pas_profile.specs.declared.profile.Profile.{Profile};
 ghost use Rattle.pas_trace.specs.Acts.{Act};
 ghost use Rattle.pas_trace.specs.EveryPlan.{IsThread};
-ghost use Rattle.pas_trace.specs.declared.plan.What.TheVariants.{Alloc, Free, Raw};
+ghost use Rattle.pas_trace.specs.declared.plan.What.TheVariants.{Alloc, Free, FreeSized, Raw, RawSized};
 ghost use Rattle.pas_profile.specs.Requests.{route_in};
 ghost use Rattle.pas_profile.specs.declared.directory.Route.{Route};
 ghost use Rattle.pas_profile.specs.Directories.{number_of};
@@ -54,7 +54,9 @@ pub fn settling_stays_the_same()
 /// request of its name was refused.
 pub fn frees_stay_the_same()
     ensures raw { (f : Profile) (line k : ℕ) (block : Name) → IsThread f k → StaysSameWhere (HasLogRoom k) f (Act.Operates (record { line = line; actor = k; what = Raw block })) }
+    ensures raw_sized { (f : Profile) (line k room : ℕ) (block : Name) → IsThread f k → StaysSameWhere (HasLogRoom k) f (Act.Operates (record { line = line; actor = k; what = RawSized room block })) }
     ensures named { (f : Profile) (line k name : ℕ) → IsThread f k → StaysSameWhere (HasLogRoom k) f (Act.Operates (record { line = line; actor = k; what = Free name })) }
+    ensures named_sized { (f : Profile) (line k name room : ℕ) → IsThread f k → StaysSameWhere (HasLogRoom k) f (Act.Operates (record { line = line; actor = k; what = FreeSized name room })) }
 {}
 
 /// Whenever all actors are at rest and the events, the live blocks and the caches are the same: a grain is free in the text exactly where its bit is set, and a
