@@ -21,3 +21,7 @@ mod FlushedLogs
 mod GivenPages
 mod FlushActs
 mod ReturnHints
+mod GivenUp
+mod StopSteps
+mod StopActs
+mod BackActs

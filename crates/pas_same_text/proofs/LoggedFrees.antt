@@ -51,7 +51,7 @@ said_same f k said p w same = record {
 abbrev with_entry : Cached → Entry → Cached
 with_entry c entry = record c { log = c.log ++ entry ∷ []; noted = c.noted }
 
-nothing_more : (xs : List Record) → xs ++ [] ≡ xs
+pub nothing_more : (xs : List Record) → xs ++ [] ≡ xs
 nothing_more [] = refl
 nothing_more (x ∷ xs) = ap (λ (ys : List Record). x ∷ ys) (nothing_more xs)
 
@@ -71,7 +71,7 @@ added_same f k entry p w is same =
     }
 
 -- ---- where the address is
-page_inside : (pages a : ℕ) → 1 ≤ a / 4096 → a / 4096 ≤ pages → (nat_le 4096 a && nat_lt a (4096 * (pages + 1))) ≡ true
+pub page_inside : (pages a : ℕ) → 1 ≤ a / 4096 → a / 4096 ≤ pages → (nat_le 4096 a && nat_lt a (4096 * (pages + 1))) ≡ true
 page_inside pages a some few =
     let low : 4096 ≤ a = omega (arith, some) in
     let high : a < 4096 * (pages + 1) = omega (arith, few) in
@@ -90,7 +90,7 @@ page_outside pages a none = false_from_ne_true (nat_le 4096 a && nat_lt a (4096 
 abbrev freed_by : Profile → ℕ → Entry → World → Bool → Bool → World
 freed_by f k entry w inside aligned = if inside then (if aligned then logs f k entry w else refuses_free k entry.name FreeFault.Unaligned w) else refuses_free k entry.name FreeFault.Outside w
 
-freed_is : (f : Profile) (k : ℕ) (entry : Entry) (w : World) (inside aligned : Bool) → (nat_le 4096 (address_of entry.name) && nat_lt (address_of entry.name) (4096 * (f.pages + 1))) ≡ inside → (address_of entry.name % 16 == 0) ≡ aligned
+pub freed_is : (f : Profile) (k : ℕ) (entry : Entry) (w : World) (inside aligned : Bool) → (nat_le 4096 (address_of entry.name) && nat_lt (address_of entry.name) (4096 * (f.pages + 1))) ≡ inside → (address_of entry.name % 16 == 0) ≡ aligned
     → frees f k entry w ≡ freed_by f k entry w inside aligned
 freed_is f k entry w inside aligned e h =
     ap (λ (t : Bool). freed_by f k entry w t (address_of entry.name % 16 == 0)) e ∙ ap (λ (u : Bool). freed_by f k entry w inside u) h
@@ -125,7 +125,7 @@ refused_text f k entry w c c' steps Outside refuses = freed_is f k entry w false
 refused_text f k entry w c c' steps Unaligned refuses =
     freed_is f k entry w true false (page_inside f.pages (address_of entry.name) refuses.fault_is.0.0 refuses.fault_is.0.1) (ne_eqb (address_of entry.name % 16) 0 refuses.fault_is.1)
 
-refused_same : (f : Profile) (k : ℕ) (entry : Entry) (p : Progress) (w : World) (c' : Cached) (steps : List Made) (fault : FreeFault) → IsSame f p w
+pub refused_same : (f : Profile) (k : ℕ) (entry : Entry) (p : Progress) (w : World) (c' : Cached) (steps : List Made) (fault : FreeFault) → IsSame f p w
     → RefusesName f (p.caches k) c' entry.name steps fault → IsSame f (after_with p k steps (Some (said_of_fault entry.name fault)) p.names c') (frees f k entry w)
 refused_same f k entry p w c' steps fault same refuses =
     let name : Name = entry.name in
@@ -133,7 +133,7 @@ refused_same f k entry p w c' steps fault same refuses =
     (subst (λ (ms : List Made). IsSame f (after_with p k ms (Some (said_of_fault name fault)) p.names c') (refuses_free k name fault w)) (sym refuses.no_steps)
     (subst (λ (c : Cached). IsSame f (after_with p k [] (Some (said_of_fault name fault)) p.names c) (refuses_free k name fault w)) (sym refuses.cache) (said_same f k (said_of_fault name fault) p w same)))
 
-freed_same : (f : Profile) (k : ℕ) (entry : Entry) (p : Progress) (w : World) (c' : Cached) (steps : List Made) (said : Option TheSaid) → IsThread f k → IsSame f p w → nat_le 64 (length (p.caches k).log) ≡ false
+pub freed_same : (f : Profile) (k : ℕ) (entry : Entry) (p : Progress) (w : World) (c' : Cached) (steps : List Made) (said : Option TheSaid) → IsThread f k → IsSame f p w → nat_le 64 (length (p.caches k).log) ≡ false
     → IsFreed f k (p.caches k) c' entry steps said → IsSame f (after_with p k steps said p.names c') (frees f k entry w)
 freed_same f k entry p w c' steps said is same room (inl t) =
     subst (λ (s : Option TheSaid). IsSame f (after_with p k steps s p.names c') (frees f k entry w)) (sym t.1) (logged_same f k entry p w c' steps is same room t.0)
@@ -156,7 +156,7 @@ pub raw_sized_same : (f : Profile) (line k room : ℕ) (block : Name) → IsThre
 raw_sized_same f line k size block is p p' w room taken = entry_same f k (sized_entry block size) p p' w taken.advances.0 is taken.same room taken.advances.1.0 taken.advances.1.1 taken.advances.2
 
 -- ---- a free by a name of the trace
-skipped_same : (f : Profile) (k name : ℕ) (p : Progress) (w : World) (c' : Cached) (steps : List Made) (said : Option TheSaid) → IsSame f p w → steps ≡ [] → c' ≡ p.caches k → said ≡ Some (Said.Skipped name)
+pub skipped_same : (f : Profile) (k name : ℕ) (p : Progress) (w : World) (c' : Cached) (steps : List Made) (said : Option TheSaid) → IsSame f p w → steps ≡ [] → c' ≡ p.caches k → said ≡ Some (Said.Skipped name)
     → IsSame f (after_with p k steps said p.names c') (says (Record.Said k (Said.Skipped name)) w)
 skipped_same f k name p w c' steps said same no_steps cache is =
     subst (λ (s : Option TheSaid). IsSame f (after_with p k steps s p.names c') (says (Record.Said k (Said.Skipped name)) w)) (sym is)

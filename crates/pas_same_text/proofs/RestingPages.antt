@@ -84,7 +84,7 @@ module _ (f : Profile) (p : Progress) (w : World) (valid : IsValid f) (between :
   word_now : (page : ℕ) (d : Directory) → deed_in (visible p.list) page ≡ Some d → word_after p.list (Word.Deed page) ≡ deed_word_of d
   word_now page d is = deed_of f p.list between.legal page ∙ ap word_of_deed is
 
-  free_at : (page b : ℕ) → b < 256 → is_free w page b ≡ has_bit (word_after p.list (Word.Free page (b / 64))) (b % 64)
+  pub free_at : (page b : ℕ) → b < 256 → is_free w page b ≡ has_bit (word_after p.list (Word.Free page (b / 64))) (b % 64)
   free_at page b small =
       let at_page : (256 * page + b) / 256 ≡ page = omega (arith, small) in
       let at_word : (256 * page + b) / 64 % 4 ≡ b / 64 = omega (arith, small) in

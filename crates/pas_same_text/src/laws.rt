@@ -4,7 +4,7 @@ ghost use Rattle.pas_profile.specs.declared.name.Name.{Name};
 ghost use Rattle.pas_profile.specs.declared.profile.Profile.{Profile};
 ghost use Rattle.pas_trace.specs.Acts.{Act};
 ghost use Rattle.pas_trace.specs.EveryPlan.{IsThread};
-ghost use Rattle.pas_trace.specs.declared.plan.What.TheVariants.{Alloc, Free, FreeSized, Raw, RawSized};
+ghost use Rattle.pas_trace.specs.declared.plan.What.TheVariants.{Alloc, Flush, Free, FreeSized, Raw, RawSized, Stop};
 ghost use Rattle.pas_profile.specs.Requests.{route_in};
 ghost use Rattle.pas_profile.specs.declared.directory.Route.{Route};
 ghost use Rattle.pas_profile.specs.Directories.{number_of};
@@ -26,7 +26,7 @@ ghost use Rattle.pas_core.specs.Rights.{eligible_bit};
 ghost use Rattle.pas_answers.specs.Answers.{Progress};
 ghost use Rattle.pas_one_text.specs.State.{World, each};
 ghost use Rattle.pas_one_text.specs.Pages.{is_free, is_kept, is_offered, has_room};
-ghost use Rattle.pas_same_text.specs.Acts.{IsAtRest, StaysSame, StaysSameWhere, HasLogRoom, HasCachedSlot};
+ghost use Rattle.pas_same_text.specs.Acts.{IsAtRest, StaysSame, StaysSameWhere, HasUsableBlocks, HasLogRoom, HasCachedSlot};
 ghost use Rattle.pas_same_text.specs.Words.{free_bit};
 
 /// A mark is a line.
@@ -88,4 +88,22 @@ pub fn flushes_show_the_same()
     ensures events { (f : Profile) (k : ℕ) (logged : List Entry) (noted noted' : List EndedRun) (steps : List Made) (l : Whole) (w : World) → IsFlushOf f k logged noted noted' steps l w → (flushes f k w).events ≡ visible (triples k steps ++ l) }
     ensures live { (f : Profile) (k : ℕ) (logged : List Entry) (noted noted' : List EndedRun) (steps : List Made) (l : Whole) (w : World) → IsFlushOf f k logged noted noted' steps l w → (flushes f k w).live ≡ lives_in (flushes f k w).events }
     ensures epoch { (f : Profile) (k : ℕ) (logged : List Entry) (noted noted' : List EndedRun) (steps : List Made) (l : Whole) (w : World) → IsFlushOf f k logged noted noted' steps l w → (flushes f k w).epoch ≡ w.epoch }
+{}
+
+/// Where each live block lies on grains that blocks of its page's directory may cover: a flush lets each logged free take effect, and leaves the caches, the hints and
+/// the offers of the text. So does a free into a full log, which is flushed first, and a free into any log is logged at its end, or answered at once.
+pub fn flushes_stay_the_same()
+    ensures flush { (f : Profile) (line k : ℕ) → IsThread f k → StaysSameWhere HasUsableBlocks f (Act.Operates (record { line = line; actor = k; what = Flush })) }
+    ensures raw { (f : Profile) (line k : ℕ) (block : Name) → IsThread f k → StaysSameWhere HasUsableBlocks f (Act.Operates (record { line = line; actor = k; what = Raw block })) }
+    ensures raw_sized { (f : Profile) (line k room : ℕ) (block : Name) → IsThread f k → StaysSameWhere HasUsableBlocks f (Act.Operates (record { line = line; actor = k; what = RawSized room block })) }
+    ensures named { (f : Profile) (line k name : ℕ) → IsThread f k → StaysSameWhere HasUsableBlocks f (Act.Operates (record { line = line; actor = k; what = Free name })) }
+    ensures named_sized { (f : Profile) (line k name room : ℕ) → IsThread f k → StaysSameWhere HasUsableBlocks f (Act.Operates (record { line = line; actor = k; what = FreeSized name room })) }
+{}
+
+/// A stop is a flush after which all local allocators of the thread's cache go, in whatever order: by an operation of the thread, by the scavenger where the thread was idle
+/// for so many epochs, which is said, and at the close.
+pub fn stops_stay_the_same()
+    ensures stop { (f : Profile) (line k : ℕ) → IsThread f k → StaysSameWhere HasUsableBlocks f (Act.Operates (record { line = line; actor = k; what = Stop })) }
+    ensures idle { (f : Profile) (k n : ℕ) → IsThread f k → StaysSameWhere HasUsableBlocks f (Act.StopsIdle k n) }
+    ensures ends { (f : Profile) (k : ℕ) → IsThread f k → StaysSameWhere HasUsableBlocks f (Act.Ends k) }
 {}
