@@ -114,12 +114,12 @@ idle_act f k n is p p' w usable taken = elim taken.advances [
       subst (λ (x : World). IsSame f p' x) (sym (idle_by f k n w false (idle_test f k n p w is taken.same ∙ test))) (subst (λ (q : Progress). IsSame f q w) (sym h.1) taken.same)
 ]
   where
+    by_test : (a b : ℕ) (t : Bool) → nat_le a b ≡ t → (a ≤ b → ⊥) → t ≡ false
+    by_test a b true e past = let le : a ≤ b = grind (arith, nat_tests, e) in absurd (past le)
+    by_test a b false e past = refl
+
     not_le : (a b : ℕ) → (a ≤ b → ⊥) → nat_le a b ≡ false
-    not_le a b no = by_test a b (nat_le a b) refl no
-      where
-        by_test : (a b : ℕ) (t : Bool) → nat_le a b ≡ t → (a ≤ b → ⊥) → t ≡ false
-        by_test a b true e no = let le : a ≤ b = grind (arith, nat_tests, e) in absurd (no le)
-        by_test a b false e no = refl
+    not_le a b past = by_test a b (nat_le a b) refl past
 
 -- ==== FREES INTO ANY LOG
 -- an actor that is at rest with a cache is so with an empty log

@@ -48,7 +48,7 @@ use Rattle.pas_free_log.proofs.OneEntry.{first_look, trying, AreIdle, idle_look,
 use Rattle.pas_one_text.specs.Frees.{is_other_room}
 use Rattle.pas_same_text.specs.Entries.{IsEntryReason}
 use Rattle.pas_same_text.proofs.Flushes.{visible_steps}
-use Rattle.pas_same_text.proofs.GivingBack.{IsMarked, once_parts, none_marked, returns_marked, hints_none, hints_both}
+use Rattle.pas_same_text.proofs.GivingBack.{IsMarked, marked_parts, none_marked, returns_marked, hints_none, hints_both}
 use Rattle.pas_same_text.proofs.ReturnHints.{return_hints}
 
 -- ---- the pages of a block that ended
@@ -80,7 +80,7 @@ page_marks g n q steps h marked =
     let rest : List Made = h.puts ++ (made (Stamp (g / 256)) h.stamped ∷ made (Look (Word.Deed (g / 256))) (deed_word_of h.directory) ∷ []) in
     let others : Only (Putting ∷ Stamping ∷ LookDeed ∷ []) rest = only_both (Putting ∷ Stamping ∷ LookDeed ∷ []) h.puts (made (Stamp (g / 256)) h.stamped ∷ made (Look (Word.Deed (g / 256))) (deed_word_of h.directory) ∷ [])
     (only_within (Putting ∷ []) (Putting ∷ Stamping ∷ LookDeed ∷ []) h.puts refl (puts_kinds (g / 256) h.mask 4 h.puts h.order)) (refl, (refl, tt)) in
-    elim (once_parts _ h.after rest (subst (IsMarked q) h.steps_are marked)) [
+    elim (marked_parts q h.after rest (subst (IsMarked q) h.steps_are marked)) [
       | inl first ↦ returns_marked (g / 256) q h.after (return_returns (g / 256) h.directory h.after h.returns) first
       | inr later ↦ absurd (none_marked (Putting ∷ Stamping ∷ LookDeed ∷ []) refl q rest others later)
     ]
@@ -90,7 +90,7 @@ first_page g k = omega arith
 
 run_marks : (k g n q : ℕ) (steps : List Made) → PagesSteps k g n steps → IsMarked q steps → (g / 256 ≤ q) × (q < g / 256 + k)
 run_marks zero g n q steps h marked = absurd (subst (IsMarked q) h marked)
-run_marks (suc k) g n q steps h marked = elim (once_parts _ h.0 h.1 (subst (IsMarked q) h.4 marked)) [
+run_marks (suc k) g n q steps h marked = elim (marked_parts q h.0 h.1 (subst (IsMarked q) h.4 marked)) [
   | inl first ↦ let at = sym (first_page g k) ∙ page_marks (first_on g (g / 256 + k)) (count_on g n (g / 256 + k)) q h.0 h.2 first in (omega (arith, at), omega (arith, at))
   | inr later ↦ let rest = run_marks k g n q h.1 h.3 later in let low = rest.0 in let high = rest.1 in (low, omega (arith, high))
 ]
@@ -264,7 +264,7 @@ module _ (f : Profile) (k epoch : ℕ) (s : Settled) (piece : List Made) (l : Wh
 
   -- a page that is marked is one of those of the block that ended
   pub after_marked : (q : ℕ) → IsMarked q piece → IsMarked q is.after
-  after_marked q marked = elim (once_parts _ is.after is.ends (subst (IsMarked q) is.steps_are marked)) [
+  after_marked q marked = elim (marked_parts q is.after is.ends (subst (IsMarked q) is.steps_are marked)) [
     | inl first_part ↦ first_part
     | inr later ↦ absurd (none_marked trying refl q is.ends ends_trying later)
   ]

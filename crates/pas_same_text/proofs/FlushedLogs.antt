@@ -54,7 +54,7 @@ use Rattle.pas_same_text.proofs.EndedBlocks.{rejected_returns, ended_returns, en
 use Rattle.pas_same_text.proofs.EntryEvents.{reject_text, end_text, reject_shown, end_shown}
 use Rattle.pas_same_text.proofs.EntrySteps.{IsEndOfBlock, found_block, block_marked, name_same, entry_kinds, entry_events, entry_hints, after_marked, read_directory, reason_is}
 use Rattle.pas_same_text.proofs.GivenBack.{Returns, returns_nothing, returns_then, returns_like, has_both, page_there}
-use Rattle.pas_same_text.proofs.GivingBack.{IsMarked, once_parts, none_marked, hints_none, hints_both}
+use Rattle.pas_same_text.proofs.GivingBack.{IsMarked, marked_parts, none_marked, hints_none, hints_both}
 use Rattle.pas_same_text.proofs.Tests.{has_filtered}
 
 -- ---- what is noted
@@ -360,7 +360,7 @@ module _ (f : Profile) (k epoch : ℕ) (l : Whole) (w : World) (c : Cached) (cac
         pages = was.pages ++ taken.pages;
         returns = returns_then f was.pages taken.pages w v x was.returns taken.returns;
         fewer = fewer_then w.events v.events x.events was.fewer less;
-        marks = λ q of mark. elim (once_parts _ piece steps mark) [
+        marks = λ q of mark. elim (marked_parts q piece steps mark) [
           | inl here ↦ ended_since w.events v.events x.events was.pages taken.pages q was.fewer (taken.marks q of here)
           | inr earlier ↦ still_ended w.events v.events x.events was.pages taken.pages q stays (was.marks q of earlier)
         ];

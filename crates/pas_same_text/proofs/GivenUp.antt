@@ -2,6 +2,7 @@
 use Rattle.std.proofs.Common.{◌≡◌, ℕ, suc, ◌+◌, ◌-◌, ◌*◌, ◌<◌, ◌≤◌, ◌≢◌, ◌==◌, Bool, true, false, not, ◌&&◌, ◌||◌, if◌then◌else◌, cond, List, [], ◌∷◌, ◌++◌, length, map, refl, ap, sym, ◌∙◌, subst, arith}
 use Rattle.std.proofs.lemmas.Bool.{eq-eqb, eqb-true, eqb-false, false≢true, true≢false}
 use Rattle.std.proofs.lemmas.List.Folds.{list_any-append}
+use Rattle.std.proofs.lemmas.List.Sums.{sum_by-cons}
 use Rattle.std.specs.List.{list_any, filter, count_by}
 use Rattle.pas_bits.specs.Runs.{in_run}
 use Rattle.pas_profile.specs.Classes.{class_grains}
@@ -27,6 +28,9 @@ abbrev pub AreUnique : List Local → Type 0
 AreUnique [] = Unit {0}
 AreUnique (l ∷ ls) = (others l.heap l.class ls ≡ ls) × AreUnique ls
 
+counted : (p : Slots → Bool) (s : Slots) (slots : List Slots) → count_by p (s ∷ slots) ≡ cond (p s) 1 0 + count_by p slots
+counted p s slots = sum_by-cons (λ x. cond (p x) 1 0) s slots
+
 no_longer : (c rest : ℕ) (t : Bool) → cond t 1 0 + c ≤ 0 → (t ≡ false) × (c ≤ 0)
 no_longer c rest true h = absurd (omega (arith, h))
 no_longer c rest false h = (refl, omega (arith, h))
@@ -36,7 +40,7 @@ none_for heap class [] [] same none = refl
 none_for heap class [] (l ∷ ls) same none = absurd same
 none_for heap class (s ∷ slots) [] same none = absurd same
 none_for heap class (s ∷ slots) (l ∷ ls) same none =
-    let at = no_longer (count_by (is_for_slots heap class) slots) 0 (is_for_slots heap class s) none in
+    let at = no_longer (count_by (is_for_slots heap class) slots) 0 (is_for_slots heap class s) (subst (λ (n : ℕ). n ≤ 0) (counted (is_for_slots heap class) s slots) none) in
     ap (λ (t : Bool). if not t then l ∷ others heap class ls else others heap class ls) (for_same heap class s l same.0 ∙ at.0)
     ∙ ap (λ (xs : List Local). l ∷ xs) (none_for heap class slots ls same.1 at.1)
 
@@ -56,8 +60,8 @@ unique_of [] [] same one = tt
 unique_of [] (l ∷ ls) same one = absurd same
 unique_of (s ∷ slots) [] same one = absurd same
 unique_of (s ∷ slots) (l ∷ ls) same one = (
-  none_for l.heap l.class slots ls same.1 (own_counted (count_by (is_for_slots l.heap l.class) slots) (is_for_slots l.heap l.class s) (sym (for_same l.heap l.class s l same.0) ∙ for_own l.heap l.class l refl refl) (one l.heap l.class)),
-  unique_of slots ls same.1 (λ heap class. fewer_counted (count_by (is_for_slots heap class) slots) (is_for_slots heap class s) (one heap class)),
+  none_for l.heap l.class slots ls same.1 (own_counted (count_by (is_for_slots l.heap l.class) slots) (is_for_slots l.heap l.class s) (sym (for_same l.heap l.class s l same.0) ∙ for_own l.heap l.class l refl refl) (subst (λ (n : ℕ). n ≤ 1) (counted (is_for_slots l.heap l.class) s slots) (one l.heap l.class))),
+  unique_of slots ls same.1 (λ heap class. fewer_counted (count_by (is_for_slots heap class) slots) (is_for_slots heap class s) (subst (λ (n : ℕ). n ≤ 1) (counted (is_for_slots heap class) s slots) (one heap class))),
 )
 
 others_rest : (l : Local) (ls : List Local) → AreUnique (l ∷ ls) → others l.heap l.class (l ∷ ls) ≡ ls

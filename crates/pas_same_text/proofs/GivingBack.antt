@@ -70,10 +70,13 @@ is_mark q s = false
 abbrev pub IsMarked : ℕ → List Made → Type 0
 IsMarked q = Once (λ m before. is_mark q m.step ≡ true)
 
-pub once_parts : (P : Made → Type 0) (ys xs : List Made) → Once (λ m before. P m) (ys ++ xs) → Once (λ m before. P m) ys ⊎ Once (λ m before. P m) xs
+once_parts : (P : Made → Type 0) (ys xs : List Made) → Once (λ m before. P m) (ys ++ xs) → Once (λ m before. P m) ys ⊎ Once (λ m before. P m) xs
 once_parts P [] xs h = inr h
 once_parts P (y ∷ ys) xs (inl h) = inl (inl h)
 once_parts P (y ∷ ys) xs (inr h) = elim (once_parts P ys xs h) [ | inl first ↦ inl (inr first) | inr later ↦ inr later ]
+
+pub marked_parts : (q : ℕ) (ys xs : List Made) → IsMarked q (ys ++ xs) → IsMarked q ys ⊎ IsMarked q xs
+marked_parts q ys xs h = once_parts (λ m. is_mark q m.step ≡ true) ys xs h
 
 mark_kind : (q : ℕ) (s : Step) → is_in (Hinting ∷ Offering ∷ []) (kind_of s) ≡ false → is_mark q s ≡ true → ⊥
 mark_kind q (Hint p) out h = true≢false out

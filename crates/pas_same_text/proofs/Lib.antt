@@ -25,3 +25,4 @@ mod GivenUp
 mod StopSteps
 mod StopActs
 mod BackActs
+mod UsableBlocks

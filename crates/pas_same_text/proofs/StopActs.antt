@@ -59,7 +59,7 @@ use Rattle.pas_same_text.proofs.FreeGrains.{free_same, holder_is}
 use Rattle.pas_same_text.proofs.GivenBack.{Returns, returns_then, has_both}
 use Rattle.pas_same_text.proofs.GivenPages.{IsGivenBack, room_from, covered_not_held, free_left, given_pages}
 use Rattle.pas_same_text.proofs.GivenUp.{IsGivenUp, AllOfRegion, unique_of, all_up}
-use Rattle.pas_same_text.proofs.GivingBack.{IsMarked, OffersPage, HintsPage, once_parts, hint_marks, offer_marks, offered_of_region, hints_both, epoch_stays_by}
+use Rattle.pas_same_text.proofs.GivingBack.{IsMarked, OffersPage, HintsPage, marked_parts, hint_marks, offer_marks, offered_of_region, hints_both, epoch_stays_by}
 use Rattle.pas_same_text.proofs.RestingPages.{deed_now, free_at}
 use Rattle.pas_same_text.proofs.StopSteps.{IsMarkedBy, IsMarkedIn, AllClasses, ReadsRoom, room_earlier, grain_read, all_marked, all_hints}
 
@@ -76,10 +76,10 @@ all_of_region f v (s ∷ slots) (l ∷ ls) same known = (subst (IsPage f) (sym s
 
 -- the page of one that is marked is minded
 marked_minded : (q : ℕ) (steps : List Made) (slots : List Slots) (ls : List Local) → AreSameLocals slots ls → IsMarkedIn q steps slots → has_number (map (λ l. l.page) ls) q ≡ true
-marked_minded q steps (s ∷ rest) [] same (IsMarkedIn.Here s rest o) = absurd same
-marked_minded q steps (s ∷ rest) (l ∷ ls) same (IsMarkedIn.Here s rest o) = or_left (l.page == q) (has_number (map (λ x. x.page) ls) q) (eq-eqb l.page q (same.0.page ∙ o.page))
-marked_minded q steps (s ∷ rest) [] same (IsMarkedIn.There s rest o) = absurd same
-marked_minded q steps (s ∷ rest) (l ∷ ls) same (IsMarkedIn.There s rest o) = or_right (l.page == q) (has_number (map (λ x. x.page) ls) q) (marked_minded q steps rest ls same.1 o)
+marked_minded q steps slots [] same (IsMarkedIn.Here s rest o) = absurd same
+marked_minded q steps slots (l ∷ ls) same (IsMarkedIn.Here s rest o) = or_left (l.page == q) (has_number (map (λ x. x.page) ls) q) (eq-eqb l.page q (same.0.page ∙ o.page))
+marked_minded q steps slots [] same (IsMarkedIn.There s rest o) = absurd same
+marked_minded q steps slots (l ∷ ls) same (IsMarkedIn.There s rest o) = or_right (l.page == q) (has_number (map (λ x. x.page) ls) q) (marked_minded q steps rest ls same.1 o)
 
 -- one of the list that is marked
 record IsOneOf (f : Profile) (v : View) (q : ℕ) (steps : List Made) (slots : List Slots) : Type 0 where
@@ -89,8 +89,8 @@ record IsOneOf (f : Profile) (v : View) (q : ℕ) (steps : List Made) (slots : L
   has : (g : ℕ) → covers own g ≡ true → any_covers slots g ≡ true
 
 one_of : (f : Profile) (v : View) (q : ℕ) (steps : List Made) (slots : List Slots) → All (IsLocal f v) slots → IsMarkedIn q steps slots → IsOneOf f v q steps slots
-one_of f v q steps (s ∷ rest) known (IsMarkedIn.Here s rest o) = record { own = s; marked = o; known = All-head (IsLocal f v) s rest known; has = λ g h. or_left (covers s g) (any_covers rest g) h }
-one_of f v q steps (s ∷ rest) known (IsMarkedIn.There s rest o) =
+one_of f v q steps slots known (IsMarkedIn.Here s rest o) = record { own = s; marked = o; known = All-head (IsLocal f v) s rest known; has = λ g h. or_left (covers s g) (any_covers rest g) h }
+one_of f v q steps slots known (IsMarkedIn.There s rest o) =
     let r = one_of f v q steps rest (All-tail (IsLocal f v) s rest known) o in
     record { own = r.own; marked = r.marked; known = r.known; has = λ g h. or_right (covers s g) (any_covers rest g) (r.has g h) }
 
@@ -216,11 +216,11 @@ module _ (f : Profile) (k : ℕ) (p : Progress) (w : World) (flushed stopped : L
     returns = returns_then f to.pages (map (λ l. l.page) (locals_of vf k)) w vf v to.returns up.returns;
     kinds = all_kinds;
     hints = hints_both stopped flushed (all_hints c.locals stopped each.order) to.hints;
-    marks = λ q of hint. has_both to.pages (map (λ l. l.page) (locals_of vf k)) q ∙ elim (once_parts _ stopped flushed (hint_marks q (stopped ++ flushed) hint)) [
+    marks = λ q of hint. has_both to.pages (map (λ l. l.page) (locals_of vf k)) q ∙ elim (marked_parts q stopped flushed (hint_marks q (stopped ++ flushed) hint)) [
       | inl first ↦ or_right (has_number to.pages q) (has_number (map (λ l. l.page) (locals_of vf k)) q) (marked_minded q stopped c.locals (locals_of vf k) own_same.locals (stop_marks q first))
       | inr later ↦ or_left (has_number to.pages q) (has_number (map (λ l. l.page) (locals_of vf k)) q) (to.marks q of later).minded
     ];
-    rooms = λ q d of is offer. elim (once_parts _ stopped flushed (offer_marks q (stopped ++ flushed) offer)) [
+    rooms = λ q d of is offer. elim (marked_parts q stopped flushed (offer_marks q (stopped ++ flushed) offer)) [
       | inl first ↦ let o = one_of f (part k p.list) q stopped c.locals known (stop_marks q first) in marked_room q d of is o o.marked.room
       | inr later ↦ ended_room f p p' w v to.pages valid before after same.pages.events has usable fewer (λ j g now. (held_before j g now).1) q d of is
           (subst (λ (es : List Event). IsEndedOn w.events es to.pages q) (sym up.events) (to.marks q (offered_of_region f k p.list q (stopped ++ flushed) after.legal offer) later))

@@ -33,7 +33,7 @@ use Rattle.pas_segregated.specs.declared.slots.Slots.{Slots}
 use Rattle.pas_segregated.proofs.Starts.{start_below}
 use Rattle.pas_cache.specs.Changes.{StopsAll}
 use Rattle.pas_same_text.specs.Same.{has_number}
-use Rattle.pas_same_text.proofs.GivingBack.{IsMarked, OffersPage, once_parts, none_marked, offer_marks, returns_marked, hints_none, hints_both, hints_of}
+use Rattle.pas_same_text.proofs.GivingBack.{IsMarked, OffersPage, marked_parts, none_marked, offer_marks, returns_marked, hints_none, hints_both, hints_of}
 use Rattle.pas_same_text.proofs.ReturnHints.{return_hints}
 
 -- ---- a grain that blocks of the directory may cover was read as free
@@ -106,19 +106,19 @@ end_room true all_free page q d free after u h marked = room_later page d after 
 end_room false all_free page q d free after none h marked =
     let park : List Made = made (Park page) h.parked ∷ [] in
     let later : List Made = looks page (words h.later) 4 in
-    elim (once_parts _ h.after (later ++ park) (subst (IsMarked q) h.steps_are marked)) [
+    elim (marked_parts q h.after (later ++ park) (subst (IsMarked q) h.steps_are marked)) [
       | inl first ↦
           let r : ReadsRoom page d later = looks_room page d h.later (usable_if h.usable d h.later h.usable_is (reoffers_none h.usable page q d h.after h.reoffers first)) in
           let whole : ReadsRoom page d after = subst (ReadsRoom page d) (sym h.steps_are) (room_later page d h.after (later ++ park) (room_earlier page d later park r)) in
           room_earlier page d after (looks page (words free) 4) whole
-      | inr rest ↦ elim (once_parts _ later park rest) [
+      | inr rest ↦ elim (marked_parts q later park rest) [
         | inl look ↦ absurd (looks_offer_none page q (words h.later) look)
         | inr parks ↦ absurd (none_marked (Parking ∷ []) refl q park (refl, tt) parks)
       ]
     ]
 
 leave_room : (page q : ℕ) (d : Directory) (steps : List Made) → LeaveSteps page d steps → IsMarked q steps → ReadsRoom page d steps
-leave_room page q d steps h marked = elim (once_parts _ h.after (looks page (words h.free) 4) (subst (IsMarked q) h.steps_are marked)) [
+leave_room page q d steps h marked = elim (marked_parts q h.after (looks page (words h.free) 4) (subst (IsMarked q) h.steps_are marked)) [
   | inl first ↦ subst (ReadsRoom page d) (sym h.steps_are) (end_room h.usable h.all_free page q d h.free h.after h.usable_is h.ends first)
   | inr later ↦ absurd (looks_offer_none page q (words h.free) later)
 ]
@@ -140,7 +140,7 @@ has_member s mask is grains m = let below = start_below s.class m.0 is in let le
 
 back_marked : (s : Slots) (mask : Mask4) (q : ℕ) (steps : List Made) → IsClass s.class → AreGrains s mask → BackSteps s.page (home_of s) mask steps → IsMarked q steps → IsMarkedBy s q steps
 back_marked s mask q steps is grains (inl h) marked = absurd (subst (IsMarked q) h.1 marked)
-back_marked s mask q steps is grains (inr h) marked = elim (once_parts _ h.2 h.1 (subst (IsMarked q) h.5 marked)) [
+back_marked s mask q steps is grains (inr h) marked = elim (marked_parts q h.2 h.1 (subst (IsMarked q) h.5 marked)) [
   | inl first ↦ record { page = returns_marked s.page q h.2 (return_returns s.page (home_of s) h.2 h.4) first; room = inl (has_member s mask is grains h.0) }
   | inr later ↦ absurd (none_marked (Putting ∷ []) refl q h.1 (puts_kinds s.page mask 4 h.1 h.3) later)
 ]
@@ -152,7 +152,7 @@ marked_earlier : (s : Slots) (q : ℕ) (ys xs : List Made) → IsMarkedBy s q ys
 marked_earlier s q ys xs o = record { page = o.page; room = elim o.room [ | inl some ↦ inl some | inr r ↦ inr (room_earlier q (home_of s) ys xs r) ] }
 
 one_marked : (s : Slots) (q : ℕ) (steps : List Made) → IsClass s.class → StopStepsAt (home_of s) s steps → IsMarked q steps → IsMarkedBy s q steps
-one_marked s q steps is h marked = subst (IsMarkedBy s q) (sym h.steps_are) (elim (once_parts _ h.left h.back (subst (IsMarked q) h.steps_are marked)) [
+one_marked s q steps is h marked = subst (IsMarkedBy s q) (sym h.steps_are) (elim (marked_parts q h.left h.back (subst (IsMarked q) h.steps_are marked)) [
   | inl first ↦ marked_earlier s q h.left h.back (left_marked s s.right q h.left h.leaves first)
   | inr later ↦ marked_later s q h.left h.back (back_marked s h.mask q h.back is h.grains h.puts later)
 ])
@@ -188,7 +188,7 @@ in_earlier q ys xs slots (IsMarkedIn.There s rest o) = IsMarkedIn.There s rest (
 
 pub all_marked : (q : ℕ) (slots : List Slots) (steps : List Made) → AllClasses slots → StopsAll slots steps → IsMarked q steps → IsMarkedIn q steps slots
 all_marked q [] steps classes h marked = absurd (subst (IsMarked q) h marked)
-all_marked q (s ∷ rest) steps classes h marked = subst (λ (ms : List Made). IsMarkedIn q ms (s ∷ rest)) (sym h.4) (elim (once_parts _ h.0 h.1 (subst (IsMarked q) h.4 marked)) [
+all_marked q (s ∷ rest) steps classes h marked = subst (λ (ms : List Made). IsMarkedIn q ms (s ∷ rest)) (sym h.4) (elim (marked_parts q h.0 h.1 (subst (IsMarked q) h.4 marked)) [
   | inl first ↦ IsMarkedIn.Here s rest (marked_earlier s q h.0 h.1 (one_marked s q h.0 classes.0 h.2 first))
   | inr later ↦ IsMarkedIn.There s rest (in_later q h.0 h.1 rest (all_marked q rest h.1 classes.1 h.3 later))
 ])

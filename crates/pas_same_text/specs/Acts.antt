@@ -56,6 +56,10 @@ pub record AreBlocksUsable (es : List Event) : Type 0 where
 abbrev pub HasUsableBlocks : Progress → Type 0
 HasUsableBlocks p = AreBlocksUsable (visible p.list)
 
+-- THE ACT KEEPS IT SO
+abbrev pub KeepsUsable : Profile → Act → Type 0
+KeepsUsable f act = (p p' : Progress) → IsValid f → IsBetween f p → IsBetween f p' → Advances f act p p' → HasUsableBlocks p → HasUsableBlocks p'
+
 -- thread k's log has room for one more
 abbrev pub HasLogRoom : ℕ → Progress → Type 0
 HasLogRoom k p = length (p.caches k).log < 64

@@ -26,7 +26,7 @@ ghost use Rattle.pas_core.specs.Rights.{eligible_bit};
 ghost use Rattle.pas_answers.specs.Answers.{Progress};
 ghost use Rattle.pas_one_text.specs.State.{World, each};
 ghost use Rattle.pas_one_text.specs.Pages.{is_free, is_kept, is_offered, has_room};
-ghost use Rattle.pas_same_text.specs.Acts.{IsAtRest, StaysSame, StaysSameWhere, HasUsableBlocks, HasLogRoom, HasCachedSlot};
+ghost use Rattle.pas_same_text.specs.Acts.{IsAtRest, StaysSame, StaysSameWhere, HasUsableBlocks, KeepsUsable, HasLogRoom, HasCachedSlot};
 ghost use Rattle.pas_same_text.specs.Words.{free_bit};
 
 /// A mark is a line.
@@ -106,4 +106,9 @@ pub fn stops_stay_the_same()
     ensures stop { (f : Profile) (line k : ℕ) → IsThread f k → StaysSameWhere HasUsableBlocks f (Act.Operates (record { line = line; actor = k; what = Stop })) }
     ensures idle { (f : Profile) (k n : ℕ) → IsThread f k → StaysSameWhere HasUsableBlocks f (Act.StopsIdle k n) }
     ensures ends { (f : Profile) (k : ℕ) → IsThread f k → StaysSameWhere HasUsableBlocks f (Act.Ends k) }
+{}
+
+/// Whatever act a replay goes on by, each live block lies on grains that blocks of its page's directory may cover after it, where that was so before.
+pub fn blocks_stay_usable()
+    ensures { (f : Profile) (act : Act) → KeepsUsable f act }
 {}
