@@ -126,7 +126,7 @@ idle_before true entry deed first guess before tries = subst (λ s. AreIdle (s +
 idle_before false entry deed first guess before tries = tries_idle entry.name deed first guess before tries
 
 -- a deed word is read as the directory that the machine has
-read_deed : (f : Profile) (valid : IsValid f) (o : Option Directory) → ((d : Directory) → o ≡ Some d → directory_read (deed_word_of d) ≡ Some d) → directory_read (word_of_deed o) ≡ o
+pub read_deed : (f : Profile) (valid : IsValid f) (o : Option Directory) → ((d : Directory) → o ≡ Some d → directory_read (deed_word_of d) ≡ Some d) → directory_read (word_of_deed o) ≡ o
 read_deed f valid None is = refl
 read_deed f valid (Some d) is = is d refl
 

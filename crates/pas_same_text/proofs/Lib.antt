@@ -26,3 +26,5 @@ mod StopSteps
 mod StopActs
 mod BackActs
 mod UsableBlocks
+mod WholeText
+mod AllActs

@@ -2,22 +2,32 @@
 ghost use Rattle.std.specs.Prelude.{ℕ, ◌+◌, ◌*◌, ◌<◌, ◌≡◌, List, ◌∷◌, ◌++◌, true};
 ghost use Rattle.pas_profile.specs.declared.name.Name.{Name};
 ghost use Rattle.pas_profile.specs.declared.profile.Profile.{Profile};
-ghost use Rattle.pas_trace.specs.Acts.{Act};
+ghost use Rattle.pas_trace.specs.Acts.{Act, acts_of};
 ghost use Rattle.pas_trace.specs.EveryPlan.{IsThread};
 ghost use Rattle.pas_trace.specs.declared.plan.What.TheVariants.{Alloc, Flush, Free, FreeSized, Raw, RawSized, Stop};
 ghost use Rattle.pas_profile.specs.Requests.{route_in};
 ghost use Rattle.pas_profile.specs.declared.directory.Route.{Route};
 ghost use Rattle.pas_profile.specs.Directories.{number_of};
-ghost use Rattle.pas_profile.specs.Profiles.{IsDirectoryOf};
+ghost use Rattle.pas_profile.specs.Profiles.{IsValid, IsDirectoryOf};
 ghost use Rattle.pas_profile.specs.declared.directory.Directory.{Directory};
 ghost use Rattle.pas_profile.specs.declared.event.Event.{Event};
 ghost use Rattle.pas_machine.specs.Machine.{Run};
 ghost use Rattle.pas_free_log.specs.declared.ending.Outcome.{Outcome};
 ghost use Rattle.pas_free_log.specs.declared.log.Entry.{Entry};
 ghost use Rattle.pas_one_text.specs.Frees.{ends, flushes};
-ghost use Rattle.pas_same_text.specs.Same.{lives_in};
+ghost use Rattle.pas_same_text.specs.Same.{IsSame, lives_in};
+ghost use Rattle.pas_same_text.specs.Plans.{AllBetween, AllProved};
+ghost use Rattle.pas_answers.specs.Reaching.{Reaches};
+ghost use Rattle.pas_answers.specs.Replays.{at_start};
+ghost use Rattle.pas_one_text.specs.Order.{acts_on, opened, replayed};
+ghost use Rattle.pas_one_text.specs.Reports.{text_of};
+ghost use Rattle.pas_report.specs.Lines.{lines_of};
+ghost use Rattle.pas_report.specs.Marks.{marks_after};
+ghost use Rattle.pas_report.specs.Reports.{report_text};
+ghost use Rattle.pas_report.specs.Rests.{AreTrueMarks};
+ghost use Rattle.pas_trace.specs.declared.plan.Op.{Op};
 ghost use Rattle.pas_same_text.specs.Entries.{IsShown, IsEntryEvent, HaveOutcomes, events_of_flush, are_unsized, onto, HasShown, IsFlushOf};
-ghost use Rattle.pas_steps.specs.Lists.{Whole, part, visible};
+ghost use Rattle.pas_steps.specs.Lists.{Whole, part, visible, Legal};
 ghost use Rattle.pas_steps.specs.Desks.{triples};
 ghost use Rattle.pas_steps.specs.declared.step.Made.{Made};
 ghost use Rattle.pas_free_log.specs.declared.noting.EndedRun.{EndedRun};
@@ -111,4 +121,19 @@ pub fn stops_stay_the_same()
 /// Whatever act a replay goes on by, each live block lies on grains that blocks of its page's directory may cover after it, where that was so before.
 pub fn blocks_stay_usable()
     ensures { (f : Profile) (act : Act) → KeepsUsable f act }
+{}
+
+/// Acts one after the other keep the text, where all actors are at rest between them: all acts but a pass, and of requests those of a class for which a slot is
+/// cached. Before the first act the text's state is the replay's.
+pub fn acts_stay_the_same()
+    ensures start { (f : Profile) → IsSame f at_start (opened f) }
+    ensures acts { (f : Profile) (acts : List Act) (p p' : Progress) (is : Reaches f acts p p') (w : World) → IsValid f → AllBetween f acts p p' is → AllProved f acts p p' is → HasUsableBlocks p → IsSame f p w → IsSame f p' (each (acts_on f) acts w) }
+{}
+
+/// The text of a state that is the replay's is what is written of that replay: the lines of its records, and then the report of the machine that its events reach, with
+/// the marks after its list. So it is of a replay of such acts from the start, in their order.
+pub fn texts_are_told()
+    ensures state { (f : Profile) (p : Progress) (w : World) → IsValid f → Legal f p.list → AreTrueMarks f p.list → IsSame f p w → text_of f w ≡ lines_of p.records ++ report_text f (visible p.list) (marks_after p.list) }
+    ensures replay { (f : Profile) (phases : List (List Op)) (p : Progress) (is : Reaches f (acts_of f.threads phases) at_start p) → IsValid f → AllBetween f (acts_of f.threads phases) at_start p is → AllProved f (acts_of f.threads phases) at_start p is
+        → AreTrueMarks f p.list → text_of f (replayed f phases) ≡ lines_of p.records ++ report_text f (visible p.list) (marks_after p.list) }
 {}
