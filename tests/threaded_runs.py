@@ -159,6 +159,18 @@ def four_more_classes():
     return trace(6, 3, 1, 2, in_turn(*turns), version=3)
 
 
+def reallocations():
+    """Two threads give their own blocks other sizes, and then each the blocks that both have, so that each block is freed twice or kept for
+    two names; some want whole pages, and some find no room."""
+    sizes = (24, 600, 4097, 100)
+    first = {thread: range(1000 * thread, 1000 * thread + 80) for thread in (1, 2)}
+    own = [[line for name in first[thread] for line in asked(thread, [name], thread - 1, sizes[name % 4]) +
+            [f"m {thread} {name + 100} {name} {sizes[name // 4 % 4]} {16 << name % 3}"]] for thread in (1, 2)]
+    again = [[line for name in (*first[1], *first[2]) for line in [f"m {thread} {name + 100 * thread + 300} {name + 100} {sizes[name // 16 % 4] + thread} 16"] +
+              [f"flush {thread}"] * (name % 7 == 0)] for thread in (1, 2)]
+    return trace(40, 2, 2, 2, in_turn(*own), in_turn(*again), version=4)
+
+
 def one_thread():
     """One thread, so there is no race."""
     names = range(1, 91)
@@ -167,7 +179,7 @@ def one_thread():
 
 
 OWN = [two_frees, the_one_page, whose_page, shared_pages, bit_fit, large_blocks, large_and_small, full_logs, ticks_beside, passes_beside,
-       idle_threads, raw_frees, sized_frees, four_more_classes, one_thread]
+       idle_threads, raw_frees, sized_frees, four_more_classes, reallocations, one_thread]
 
 
 def named(path):

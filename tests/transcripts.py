@@ -16,7 +16,7 @@ from orders import (GRAIN, GRAINS, PAGE, Back, Bare, Deed, End, Ended, Give, InU
 
 CLASSES = [16, 32, 48, 64, 80, 96, 112, 128, 160, 192, 224, 256, 320, 384, 448, 512, 640, 768, 896, 1024]
 # How many of them traces of a version have.
-CLASSES_OF = {1: 16, 2: 16, 3: 20}
+CLASSES_OF = {1: 16, 2: 16, 3: 20, 4: 20}
 MOST_BITFIT = 2048
 MOST_LOGGED = 64
 MARKS = ["backed", "offered", "parked", "hinted"]
@@ -35,6 +35,7 @@ SHAPES = {
     "outside": "A turn N",
     "unaligned": "A turn N",
     "skipped": "name N",
+    "kept": "A turn N name N",
     "tick": "N",
     "pass": "N",
     "unback": "page N epoch N",
@@ -79,6 +80,15 @@ class Wanted(NamedTuple):
         """Whether a block of it may begin there: in its page where it isn't large."""
         offset = address % PAGE
         return offset % self.step == 0 and (self.directory[1] == "large" or offset + self.room <= self.most)
+
+
+class Block(NamedTuple):
+    """A block that was given."""
+
+    address: int
+    turn: int
+    room: int
+    heap: int
 
 
 class Logged(NamedTuple):
@@ -239,11 +249,25 @@ class Accounts:
             if self.named[name] is None:
                 lines.take_exactly(f"name {name} has no block", "skipped", name)
                 return []
-            return self.freed(thread, *self.named[name], sizing, lines)
+            return self.freed(thread, *self.named[name][:2], sizing, lines)
+        if word == "m":
+            return self.reallocated(thread, *values, lines)
         if word in ("r", "rs"):
             address, turn, *sizing = values
             return self.freed(thread, address, turn, sizing, lines)
         return self.flushed(thread, lines)
+
+    def reallocated(self, thread, name, old, size, align, lines):
+        """A block that suits is kept; for another one its heap is asked, and where that gives one the old one is freed then, as any
+        free is. A block that was refused has no other size."""
+        block = self.named[old]
+        if block is None or (max(size, 1) <= block.room and block.address % align == 0):
+            said = ("skipped", name) if block is None else ("kept", block.address, block.turn, name)
+            lines.take_exactly(f"the reallocation of name {old} asks for nothing", *said)
+            self.named[name] = block
+            return []
+        events = self.requested(self.trace.wanted(name, block.heap, size, align), lines)
+        return events + (self.freed(thread, *block[:2], [], lines) if self.named[name] else [])
 
     def requested(self, wanted, lines):
         """The deeds and backs of a request, and then its block or its refusal."""
@@ -273,7 +297,7 @@ class Accounts:
         is_large = wanted.directory[1] == "large"
         if not are_rising(deeds) or not are_rising(backs) or not set(backs if is_large else deeds + backs) <= set(give.pages):
             raise Wrong(f"no pages for the request of name {wanted.name}: deeds {deeds}, backs {backs}, {line.text}")
-        self.named[wanted.name] = address, turn
+        self.named[wanted.name] = Block(address, turn, room, heap)
         return give
 
     def refused(self, wanted, line, deeds, backs):

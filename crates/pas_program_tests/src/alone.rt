@@ -1,7 +1,7 @@
 //! Traces of one thread, with nothing for the scavenger, and their transcripts.
 
 /// Traces of one thread alone.
-pub const TRACES: [&str; 20] = [
+pub const TRACES: [&str; 21] = [
     // Nothing is asked.
     "pas 1 pages 4 threads 1 heaps 1 age 2",
     // The free waits in the log until the thread is stopped at the close.
@@ -52,10 +52,12 @@ pub const TRACES: [&str; 20] = [
      a 1 13 0 320 16\na 1 14 0 384 16\na 1 15 0 448 16\na 1 16 0 512 16\na 1 17 0 640 16\na 1 18 0 768 16\n\
      a 1 19 0 896 16\na 1 20 0 1024 16\na 1 21 0 513 16\na 1 22 0 641 16\na 1 23 0 769 16\na 1 24 0 897 16\n\
      a 1 25 0 600 256\na 1 26 0 769 256\na 1 27 0 1025 16\n",
+    // A block is kept for another size, and another takes its place; then there is no room, and so nothing to reallocate.
+    "pas 4 pages 2 threads 1 heaps 1 age 2\na 1 1 0 24 16\nm 1 2 1 32 16\nm 1 3 2 33 16\nm 1 4 3 64 16\nm 1 5 4 16 16\nf 1 3\n",
 ];
 
 /// What the traces are replayed to in the order of their texts, each at its place.
-pub const TEXTS: [&str; 20] = [
+pub const TEXTS: [&str; 21] = [
     "close\nreport\ntotal deeds 0 backed 0 live 0 given 0 ended 0\n",
     "1 deed page 1 heap 0 class 32\n1 back page 1\n1 give 0x00001000 turn 0 room 32 heap 0\nclose\n\
      1 freed 0x00001000 turn 0 epoch 0\nreport\n\
@@ -215,4 +217,10 @@ pub const TEXTS: [&str; 20] = [
      page 20 heap 0 class 1024 live 3 free 64 stamp 0 marks backed+offered\n\
      page 21 heap 0 bitfit live 1 free 191 stamp 0 marks backed+offered\n\
      total deeds 21 backed 21 live 27 given 27 ended 0\n",
+    "1 deed page 1 heap 0 class 32\n1 back page 1\n1 give 0x00001000 turn 0 room 32 heap 0\n1 kept 0x00001000 turn 0 name 2\n\
+     1 deed page 2 heap 0 class 48\n1 back page 2\n1 give 0x00002000 turn 0 room 48 heap 0\n1 no-space name 4\n\
+     1 skipped name 5\nclose\n1 freed 0x00001000 turn 0 epoch 0\n1 freed 0x00002000 turn 0 epoch 0\nreport\n\
+     page 1 heap 0 class 32 live 0 free 256 stamp 0 marks backed+offered+hinted\n\
+     page 2 heap 0 class 48 live 0 free 256 stamp 0 marks backed+offered+hinted\n\
+     total deeds 2 backed 2 live 0 given 2 ended 2\n",
 ];

@@ -1,6 +1,6 @@
 //! Inputs that are no trace, and the first fault of each.
 
-pub const TRACES: [&str; 12] = [
+pub const TRACES: [&str; 15] = [
     "",
     "\n",
     // A name is freed in the phase in which another thread asks for it.
@@ -19,10 +19,14 @@ pub const TRACES: [&str; 12] = [
     "pas 2 pages 16384 threads 1 heaps 1 age 2\na 1 1 0 67108864 16\n",
     "pas 3 pages 16385 threads 1 heaps 1 age 2\na 1 1 0 67108864 16\n",
     "pas 3 pages 16384 threads 1 heaps 1 age 2\na 1 1 0 67108865 16\n",
+    // A reallocation of a name that no line made, and one that makes a name again; it came with version 4.
+    "pas 4 pages 2 threads 1 heaps 1 age 2\na 1 1 0 24 16\nm 1 2 1 32 16\nm 1 3 9 16 16\n",
+    "pas 4 pages 2 threads 1 heaps 1 age 2\na 1 1 0 24 16\nm 1 2 1 32 16\nm 1 2 9 16 16\n",
+    "pas 3 pages 2 threads 1 heaps 1 age 2\na 1 1 0 24 16\nm 1 2 1 32 16\nm 1 3 2 33 16\n",
 ];
 
 /// What is written of them, each at its place.
-pub const TEXTS: [&str; 12] = [
+pub const TEXTS: [&str; 15] = [
     "line 1: BadHeader\n",
     "line 1: BadHeader\n",
     "line 3: TooEarly\n",
@@ -35,4 +39,7 @@ pub const TEXTS: [&str; 12] = [
     "line 1: BadHeader\n",
     "line 1: BadHeader\n",
     "line 2: BadSize\n",
+    "line 4: NameUnknown\n",
+    "line 4: NameTaken\n",
+    "line 3: BadWord\n",
 ];
