@@ -29,12 +29,14 @@ fn digit(byte: Option<&u8>) -> Option<usize>
     }
 }
 
-/// The thread of a line that begins as a request, a free or a reallocation does, or 0: the number at its third byte.
+/// The thread of a line that begins as a request, a free or a reallocation does, or 0: the number behind its first word.
 fn thread_in(line: &[u8]) -> usize {
-    if !matches!(line.first(), Some(b'a' | b'f' | b'm' | b'r')) || line.get(1) != Some(&b' ') {
-        return 0;
-    }
-    match (digit(line.get(2)), digit(line.get(3))) {
+    let (tens, ones) = match (line.first(), line.get(1), line.get(2)) {
+        (Some(b'a' | b'f' | b'm' | b'r'), Some(b' '), first) => (digit(first), digit(line.get(3))),
+        (Some(b'f' | b'r'), Some(b's'), Some(b' ')) => (digit(line.get(3)), digit(line.get(4))),
+        _ => (None, None),
+    };
+    match (tens, ones) {
         (Some(tens), Some(ones)) => 10 * tens + ones,
         (Some(ones), None) => ones,
         _ => 0,
