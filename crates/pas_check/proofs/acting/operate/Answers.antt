@@ -41,11 +41,11 @@ returns-in-Free-clause-taken c =
 
 pub returns-in-FreeSized-clause-taken : goal.returns-in-FreeSized-clause-taken
 returns-in-FreeSized-clause-taken c =
-    if_ok c.free_named-2.result
+    if_ok c.free_named-in-FreeSized.result
     (λ (taken : Bool). (f : Profile) (act : Act) → FreesNamed f act c.args.op.actor c.in-FreeSized.name c.in-FreeSized.room
-    → ActTaken f c.args.text.now c.args.judge.now c.args.cursor.now c.free_named-2.new.judge c.free_named-2.new.cursor act taken)
-    (λ (taken : Bool). (f : Profile) → ActTaken f c.args.text.now c.args.judge.now c.args.cursor.now c.free_named-2.new.judge c.free_named-2.new.cursor (Operates c.args.op) taken)
-    (λ taken freed f. freed f (Operates c.args.op) (λ s. ap (λ (w : What). begun_what f s c.args.op.actor w) c.in-FreeSized.is)) c.free_named-2.ensures.taken
+    → ActTaken f c.args.text.now c.args.judge.now c.args.cursor.now c.free_named-in-FreeSized.new.judge c.free_named-in-FreeSized.new.cursor act taken)
+    (λ (taken : Bool). (f : Profile) → ActTaken f c.args.text.now c.args.judge.now c.args.cursor.now c.free_named-in-FreeSized.new.judge c.free_named-in-FreeSized.new.cursor (Operates c.args.op) taken)
+    (λ taken freed f. freed f (Operates c.args.op) (λ s. ap (λ (w : What). begun_what f s c.args.op.actor w) c.in-FreeSized.is)) c.free_named-in-FreeSized.ensures.taken
 
 pub returns-in-Raw-clause-taken : goal.returns-in-Raw-clause-taken
 returns-in-Raw-clause-taken c =
@@ -57,11 +57,11 @@ returns-in-Raw-clause-taken c =
 
 pub returns-in-RawSized-clause-taken : goal.returns-in-RawSized-clause-taken
 returns-in-RawSized-clause-taken c =
-    if_ok c.free_entry-2.result
+    if_ok c.free_entry-in-RawSized.result
     (λ (taken : Bool). (f : Profile) (act : Act) → FreesEntry f c.args.judge.now c.args.cursor.now act c.args.op.actor (entry_of c.in-RawSized.name c.in-RawSized.room)
-    → ActTaken f c.args.text.now c.args.judge.now c.args.cursor.now c.free_entry-2.new.judge c.free_entry-2.new.cursor act taken)
-    (λ (taken : Bool). (f : Profile) → ActTaken f c.args.text.now c.args.judge.now c.args.cursor.now c.free_entry-2.new.judge c.free_entry-2.new.cursor (Operates c.args.op) taken)
-    (λ taken freed f. freed f (Operates c.args.op) (λ s stands. ap (λ (w : What). begun_what f s c.args.op.actor w) c.in-RawSized.is)) c.free_entry-2.ensures.taken
+    → ActTaken f c.args.text.now c.args.judge.now c.args.cursor.now c.free_entry-in-RawSized.new.judge c.free_entry-in-RawSized.new.cursor act taken)
+    (λ (taken : Bool). (f : Profile) → ActTaken f c.args.text.now c.args.judge.now c.args.cursor.now c.free_entry-in-RawSized.new.judge c.free_entry-in-RawSized.new.cursor (Operates c.args.op) taken)
+    (λ taken freed f. freed f (Operates c.args.op) (λ s stands. ap (λ (w : What). begun_what f s c.args.op.actor w) c.in-RawSized.is)) c.free_entry-in-RawSized.ensures.taken
 
 pub returns-in-Tick-clause-taken : goal.returns-in-Tick-clause-taken
 returns-in-Tick-clause-taken c = λ f.
