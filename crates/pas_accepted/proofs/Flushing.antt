@@ -31,7 +31,7 @@ use Rattle.pas_check.specs.Begins.{entries_due}
 use Rattle.pas_check.specs.States.{Due, Frees, Stand, Task, with_due}
 use Rattle.pas_check.specs.Takes.{IsEventOf}
 use Rattle.pas_check.specs.Tasks.{emptying}
-use Rattle.pas_check.specs.declared.logging.Entry.{Entry as Known}
+use Rattle.pas_check.specs.declared.entry.Entry.{Entry as Known}
 use Rattle.pas_check.proofs.Entries.{end_is, reject_is}
 use Rattle.pas_accepted.proofs.Going.{LeadsOn, on_as, on_both, on_line, on_same}
 use Rattle.pas_accepted.proofs.LogEntries.{known_again, known_as, logged_as, reason_may}
@@ -77,7 +77,7 @@ lived_all k epoch (x ∷ xs) es address b is = lived_all k epoch xs es address b
 
 still_heeds : (k epoch : ℕ) (settled : List Settled) (es : List Event) (entry : Entry) (outcome : Outcome) → Heeds es entry outcome → Heeds (map (shown_for k epoch) settled ++ es) entry outcome
 still_heeds k epoch settled es entry (Refused read) heeds = tt
-still_heeds k epoch settled es entry (Ended grains) heeds differs =
+still_heeds k epoch settled es entry (Ended grains) heeds = λ differs.
     let other = differs.1 in
     heeds (differs.0, record { block = other.block; lives = lived_all k epoch settled es (address_of entry.name) other.block other.lives; turn_is = other.turn_is; differs = other.differs })
 

@@ -25,7 +25,7 @@ use Rattle.pas_answers.proofs.Tidy.{Tidy}
 use Rattle.pas_check.specs.Begins.{entry_of as known_entry, freeing, freeing_at, freeing_named, is_aligned, is_page, logging, tells as saying}
 use Rattle.pas_check.specs.States.{Stand, Task}
 use Rattle.pas_check.specs.Tasks.{emptying}
-use Rattle.pas_check.specs.declared.logging.Entry.{Entry as Known}
+use Rattle.pas_check.specs.declared.entry.Entry.{Entry as Known}
 use Rattle.pas_check.proofs.Ticks.{epoch_kept}
 use Rattle.pas_accepted.proofs.FlushKinds.{flush_only}
 use Rattle.pas_accepted.proofs.Flushing.{flush_leads}

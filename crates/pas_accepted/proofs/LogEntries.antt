@@ -7,7 +7,7 @@ use Rattle.pas_profile.specs.declared.event.Why.{Why}
 use Rattle.pas_free_log.specs.Endings.{reason_by, reason_for}
 use Rattle.pas_free_log.specs.declared.log.Entry.{Entry}
 use Rattle.pas_check.specs.Takes.{MayRefuse}
-use Rattle.pas_check.specs.declared.logging.Entry.{Entry as Known}
+use Rattle.pas_check.specs.declared.entry.Entry.{Entry as Known}
 
 -- that of a replay, and that of a check
 abbrev pub logged_as : Known → Entry

@@ -23,7 +23,7 @@ use Rattle.pas_check.specs.Tables.{logged, logs_held, meant}
 use Rattle.pas_check.specs.Tasks.{ActTaken, Asks, FreesEntry, FreesNamed, IsNext, LogEmptied, PassTaken, Stands, emptying}
 use Rattle.pas_check.specs.declared.acting.Judge.{Judge}
 use Rattle.pas_check.specs.declared.cutting.Cursor.{Cursor}
-use Rattle.pas_check.specs.declared.logging.Entry.{Entry}
+use Rattle.pas_check.specs.declared.entry.Entry.{Entry}
 use Rattle.pas_check.specs.declared.logging.Logs.{Logs}
 use Rattle.pas_check.specs.declared.naming.Names.{Names}
 use Rattle.pas_check.specs.declared.serving.Wanted.{Wanted}

@@ -11,7 +11,7 @@ use Rattle.pas_check.specs.Begins.{after_task, begun, begun_from, begun_what, en
 use Rattle.pas_check.specs.Going.{AreAlike}
 use Rattle.pas_check.specs.States.{Due, Task, Does, Stand, with_due}
 use Rattle.pas_check.specs.Takes.{Takes, TakesDue, TakesFirst}
-use Rattle.pas_check.specs.declared.logging.Entry.{Entry}
+use Rattle.pas_check.specs.declared.entry.Entry.{Entry}
 use Rattle.pas_check.proofs.Leads.{first_none}
 
 -- no outcome of a pass is due first

@@ -9,7 +9,7 @@ use Rattle.pas_check.specs.Leading.{Fails, IsWithin, lines_from}
 use Rattle.pas_check.specs.States.{Due, Frees, Stand, with_due, with_one}
 use Rattle.pas_check.specs.Takes.{IsEventOf, TakesEntry}
 use Rattle.pas_check.specs.declared.cutting.Cursor.{Cursor}
-use Rattle.pas_check.specs.declared.logging.Entry.{Entry}
+use Rattle.pas_check.specs.declared.entry.Entry.{Entry}
 use Rattle.pas_check.proofs.Entries.{one_event}
 use Rattle.pas_check.proofs.Kept.{EndsBy, kept_more}
 use Rattle.pas_check.proofs.Leads.{due_lacks, due_refused, due_taken, leads_fails, leads_nowhere, leads_on}

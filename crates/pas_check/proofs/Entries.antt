@@ -13,7 +13,7 @@ use Rattle.pas_machine.proofs.LiveBlocks.{all_counted}
 use Rattle.pas_check.specs.Calls.{Differs}
 use Rattle.pas_check.specs.States.{Stand}
 use Rattle.pas_check.specs.Takes.{MayRefuse, IsEventOf}
-use Rattle.pas_check.specs.declared.logging.Entry.{Entry}
+use Rattle.pas_check.specs.declared.entry.Entry.{Entry}
 
 -- a live block's turn is the number of ends at its address
 turn_counts : (o : Option Live) (b : Live) (gives ends : ℕ) → o ≡ Some b → IsCounted o gives ends → b.block.name.turn ≡ ends

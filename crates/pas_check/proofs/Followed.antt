@@ -17,7 +17,7 @@ use Rattle.pas_check.specs.Calls.{IsFollowed, outcome_in}
 use Rattle.pas_check.specs.Checks.{AllFit, FitsAct, FitsWhat, IsThread}
 use Rattle.pas_check.specs.States.{Due, Writes, Task, Does, Reports, Stand}
 use Rattle.pas_check.specs.Takes.{IsOutcome}
-use Rattle.pas_check.specs.declared.logging.Entry.{Entry}
+use Rattle.pas_check.specs.declared.entry.Entry.{Entry}
 use Rattle.pas_check.proofs.Beginnings.{begins_no_pass}
 use Rattle.pas_check.proofs.Examinings.{outcome_is}
 

@@ -3,7 +3,7 @@ use Rattle.std.proofs.Common.{◌≡◌, ◌≢◌, ℕ, ◌+◌, ◌-◌, ◌*�
 use Rattle.std.proofs.lemmas.Bool.{cases_lt}
 use Rattle.std.proofs.lemmas.List.{drop-set-add, drop-set-lt, length-take-le, take-set-le, take_more_set}
 use Rattle.pas_check.specs.Tables.{log_of}
-use Rattle.pas_check.specs.declared.logging.Entry.{Entry}
+use Rattle.pas_check.specs.declared.entry.Entry.{Entry}
 
 module _ (entries : List Entry) (counts : List ℕ) (sized : length entries ≡ 64 * length counts) (few : (j : ℕ) → get_or counts j 0 ≤ 64) where
   left_there : (k : ℕ) → k < length counts → 64 ≤ length (drop (64 * k) entries)

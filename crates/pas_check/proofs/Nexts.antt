@@ -17,7 +17,7 @@ use Rattle.pas_check.specs.Ranges.{Fits, FitsEntry, FitsEvent}
 use Rattle.pas_check.specs.Readings.{byte_at, of_u8, past_digits}
 use Rattle.pas_check.specs.States.{Due, Writes, Frees, Serves, Examines, Heads, Shows, Totals, Stand}
 use Rattle.pas_check.specs.Takes.{IsEventOf, IsOutcome, IsPreparing, IsRefusal, Takes, TakesDue, TakesFirst, TakesOutcome, directory_of, record_of}
-use Rattle.pas_check.specs.declared.logging.Entry.{Entry}
+use Rattle.pas_check.specs.declared.entry.Entry.{Entry}
 use Rattle.pas_check.proofs.Digits.{past_number, u8_back}
 use Rattle.pas_check.proofs.OneNext.{gives_fits, one_next, one_outcome, outcome_fits, prepares_fits, refusal_fits, same_record}
 use Rattle.pas_check.proofs.Takings.{why_fits}

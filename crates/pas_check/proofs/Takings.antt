@@ -22,7 +22,7 @@ use Rattle.pas_check.specs.Calls.{event_in, IsHeedless, IsStepped, Differs, MayA
 use Rattle.pas_check.specs.Ranges.{FitsEntry, FitsEvent, FitsWhy}
 use Rattle.pas_check.specs.States.{Stand}
 use Rattle.pas_check.specs.Takes.{MayRefuse, IsEventOf, IsPreparing}
-use Rattle.pas_check.specs.declared.logging.Entry.{Entry}
+use Rattle.pas_check.specs.declared.entry.Entry.{Entry}
 use Rattle.pas_check.proofs.Entries.{end_is, reject_is, room_reason}
 
 pub not_stepped : (machine : Machine) (e : Event) (reason : Illegal) → ((es : List Event) → StandsFor machine es → IsFirst (profile_of machine) es e reason)

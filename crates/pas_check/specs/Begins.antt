@@ -13,7 +13,7 @@ use Rattle.pas_report.specs.declared.record.Said.{Said}
 use Rattle.pas_trace.specs.Acts.{Act, Operates, Settles, Ticks, MakesPass, ReadsEpoch, StopsIdle, MarksPhase, Wakes, MarksClose, Ends}
 use Rattle.pas_trace.specs.Named.{standing_for}
 use Rattle.pas_check.specs.States.{Due, Writes, Frees, Serves, Examines, Heads, Shows, Totals, Task, Does, Reports, Stand, with_at, with_due}
-use Rattle.pas_check.specs.declared.logging.Entry.{Entry}
+use Rattle.pas_check.specs.declared.entry.Entry.{Entry}
 
 -- the line of just this record is due
 abbrev pub says : Stand → Record → Stand

@@ -24,7 +24,7 @@ use Rattle.pas_check.specs.States.{Due, Examines, Serves, Stand, with_due, with_
 use Rattle.pas_check.specs.Takes.{IsFor, IsRefusal, MayCome, MayRefuse, TakesEntry, TakesGive, TakesOutcome, TakesPreparing, TakesRefusal, after_outcome, directory_of}
 use Rattle.pas_check.specs.declared.cutting.Cursor.{Cursor}
 use Rattle.pas_check.specs.declared.examining.Examined.{Examined}
-use Rattle.pas_check.specs.declared.logging.Entry.{Entry}
+use Rattle.pas_check.specs.declared.entry.Entry.{Entry}
 use Rattle.pas_check.specs.declared.serving.Wanted.{Wanted}
 
 -- the event of a record

@@ -9,7 +9,7 @@ use Rattle.pas_trace.specs.declared.plan.Plan.{Plan}
 use Rattle.pas_trace.specs.Acts.{Act, acts_of}
 use Rattle.pas_trace.specs.Named.{Named}
 use Rattle.pas_trace.specs.declared.item.Request.{Request}
-use Rattle.pas_check.specs.declared.logging.Entry.{Entry}
+use Rattle.pas_check.specs.declared.entry.Entry.{Entry}
 
 -- ---- what is due
 -- What the next lines are to answer. `Writes`: the line of just this record. `Frees`: the line of an entry of thread k's log. `Serves`: those of a request of

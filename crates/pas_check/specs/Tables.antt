@@ -5,7 +5,7 @@ use Rattle.pas_trace.specs.Named.{Named, standing_for}
 use Rattle.pas_check.specs.declared.naming.Meaning.{Meaning}
 use Rattle.pas_check.specs.declared.naming.Meaning.TheVariants.{Unasked, Refused, Given}
 use Rattle.pas_check.specs.declared.naming.Names.{Names}
-use Rattle.pas_check.specs.declared.logging.Entry.{Entry}
+use Rattle.pas_check.specs.declared.entry.Entry.{Entry}
 use Rattle.pas_check.specs.declared.logging.Logs.{Logs}
 
 -- what a name stands for; None where no request had it

@@ -23,7 +23,7 @@ use Rattle.pas_report.specs.declared.record.Said.{Said}
 use Rattle.pas_trace.specs.declared.item.Request.{Request}
 use Rattle.pas_check.specs.States.{Due, Writes, Frees, Serves, Examines, Heads, Shows, Totals, Stand, with_due, with_one, with_name}
 use Rattle.pas_check.specs.Begins.{ready}
-use Rattle.pas_check.specs.declared.logging.Entry.{Entry}
+use Rattle.pas_check.specs.declared.entry.Entry.{Entry}
 
 -- ---- an entry of a log
 -- A reason for which the end of an entry may be refused. That the block's room differs is one only where the entry names a room, and it tells that room.

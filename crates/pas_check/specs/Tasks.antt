@@ -13,7 +13,7 @@ use Rattle.pas_check.specs.States.{Due, Serves, Task, Does, Stand, with_due}
 use Rattle.pas_check.specs.Tables.{AreNamed, logged, logs_held}
 use Rattle.pas_check.specs.declared.acting.Judge.{Judge}
 use Rattle.pas_check.specs.declared.cutting.Cursor.{Cursor}
-use Rattle.pas_check.specs.declared.logging.Entry.{Entry}
+use Rattle.pas_check.specs.declared.entry.Entry.{Entry}
 
 -- the judge stands for the state, at the cursor
 pub record Stands (f : Profile) (judge : Judge) (s : Stand) (at : Cursor) : Type 0 where

@@ -17,9 +17,10 @@ ghost use Rattle.pas_check.specs.declared.cutting.Cursor.{Cursor as TheCursor};
 
 use crate::cutting::Cursor;
 use crate::emptying::take_entries;
+use crate::entry::Entry;
 use crate::examining::take_outcomes;
 use crate::following::take_record;
-use crate::logging::{Entry, Logs};
+use crate::logging::Logs;
 use crate::naming::Names;
 use crate::requesting::take_request;
 use crate::serving::{Wanted, wanted_for};

@@ -5,7 +5,7 @@ ghost use Rattle.pas_check.specs.Calls.{EntriesTaken};
 ghost use Rattle.pas_check.specs.Leading.{IsWithin, StaysWithin};
 
 use crate::cutting::{Cursor, next_line};
-use crate::logging::Entry;
+use crate::entry::Entry;
 use crate::taking::take_entry;
 use pas_machine::Machine;
 use pas_profile::NoMemory;

@@ -21,7 +21,7 @@ ghost use Rattle.pas_check.specs.Begins.{after_task, past_outcomes, ready};
 ghost use Rattle.pas_check.specs.Bounds.{FitsFirst, FitsNext, IsSmall};
 ghost use Rattle.pas_check.specs.Going.{AreAlike, SoFar};
 ghost use Rattle.pas_check.specs.Ranges.{Fits};
-ghost use Rattle.pas_check.specs.declared.logging.Entry.{Entry};
+ghost use Rattle.pas_check.specs.declared.entry.Entry.{Entry};
 ghost use Rattle.pas_check.specs.declared.verdict.Verdict.{Verdict};
 
 /// No two records whose numbers fit their places have one line. So a line of a transcript says one thing.

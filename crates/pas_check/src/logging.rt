@@ -1,15 +1,9 @@
 //! The logs of the threads.
 ghost use Rattle.std.specs.Prelude.{ℕ, ◌≡◌, ◌≢◌, ◌+◌, ◌*◌, ◌<◌, ◌≤◌, [], ◌∷◌, ◌++◌, length, nat_le, slice_index, vec_len, IfOk};
 
+use crate::entry::Entry;
 use pas_profile::{Address, Name, NoMemory};
 use std::alloc::Global;
-
-/// A free in a log: the name of the block, and the room that the free named, or 0 where it named none.
-#[derive(Clone, Copy, Drop)]
-pub(crate) struct Entry {
-    pub name: Name,
-    pub room: u32,
-}
 
 /// The frees of each thread since its log was emptied last, at most 64, in order. Those of thread k stand from the place 64 k on.
 #[derive(Drop)]

@@ -12,7 +12,7 @@ ghost use Rattle.pas_check.specs.Calls.{event_in, IsHeedless, IsStepped, Differs
 ghost use Rattle.pas_check.specs.Takes.{IsPreparing};
 ghost use Rattle.pas_check.specs.Ranges.{FitsEvent};
 
-use crate::logging::Entry;
+use crate::entry::Entry;
 use crate::reading::read_record;
 use pas_machine::{Machine, StepFault};
 use pas_profile::{Address, Block, Directory, Event, Name, NoMemory, Why};

@@ -1,7 +1,7 @@
 use Rattle.std.proofs.Common.{◌+◌, List, drop, get_or, true, refl, subst, ◌∙◌}
 use Rattle.std.proofs.lemmas.List.{drop_more}
 use Rattle.pas_check.specs.Calls.{EntriesTaken}
-use Rattle.pas_check.specs.declared.logging.Entry.{Entry}
+use Rattle.pas_check.specs.declared.entry.Entry.{Entry}
 use Rattle.pas_check.proofs.Emptyings.{entries_amiss, entries_begin, entries_lack, entries_more}
 use Rattle.pas_check.proofs.emptying.take_entries.Goals as goal
 
