@@ -1,6 +1,7 @@
 //! What the names of a trace stand for in a phase: kept once, for all threads, but for each thread's own requests.
-ghost use Rattle.std.specs.Prelude.{◌≡◌, ◌<◌, ◌^◌, vec_len};
+ghost use Rattle.std.specs.Prelude.{◌≡◌, ◌<◌, ◌^◌, [], ◌∷◌, MatchOption, vec_len};
 ghost use Rattle.pas_answers.specs.Names.{names_held};
+ghost use Rattle.pas_acts.specs.NameBooks.{name_asked};
 
 use pas_answers::names::{Meaning, Names};
 use pas_profile::{Block, NoMemory, Room};
@@ -87,6 +88,18 @@ impl Request {
     }
 }
 
+/// The name that an operation asks for, if any.
+#[inline(always)]
+fn asked_name(op: Op) -> Option<u32>
+    ensures { MatchOption result (name_asked op.what ≡ []) (λ name. name_asked op.what ≡ name ∷ []) }
+{
+    match op.what {
+        What::Alloc { name, .. } => Some(name),
+        What::Remake { name, .. } => Some(name),
+        _ => None,
+    }
+}
+
 impl NameBook {
     ghost use Rattle.std.specs.Prelude.{◌≡◌, ◌<◌, ◌^◌, ◌==◌, ℕ, List, [], None, if◌then◌else◌, IfOk, length};
     ghost use Rattle.pas_profile.specs.declared.profile.Profile.{Profile as TheProfile};
@@ -156,9 +169,12 @@ impl NameBook {
     {
         let mut counts = Counts::new();
         for op in ops {
-            if let What::Alloc { name, .. } = op.what {
-                let place = counts.add(op.actor);
-                self.set_place(name, place);
+            match asked_name(*op) {
+                Some(name) => {
+                    let place = counts.add(op.actor);
+                    self.set_place(name, place);
+                }
+                None => {}
             }
         }
     }
