@@ -27,7 +27,7 @@ same_parsed bytes a b p q = same_ok (sym p.read ∙ q.read)
 pub same_plan : (bytes text : List ℕ) (a b : Plan) → IsPlanOf bytes a → IsPlanOf bytes b → IsAccepted a text → IsAccepted b text
 same_plan bytes text a b p q accepted =
     let same = same_parsed bytes a b p q in
-    let profile : a.profile ≡ b.profile = p.profile ∙ ap (λ (t : Parsed). record t.header { shared = shared_in t.items }) same ∙ sym q.profile in
-    let phases : map ops_of (phases_of a.phases) ≡ map ops_of (phases_of b.phases) = p.phases ∙ ap (λ (t : Parsed). phases_in t.items) same ∙ sym q.phases in
+    let profile : a.profile ≡ b.profile = p.profile ∙ ap (λ (t : Parsed). record t.header.profile { shared = shared_in t.items }) same ∙ sym q.profile in
+    let phases : map ops_of (phases_of a.phases) ≡ map ops_of (phases_of b.phases) = p.phases ∙ ap (λ (t : Parsed). phases_in t.header.profile t.items) same ∙ sym q.phases in
     let there : AcceptsIn text b.profile (map ops_of (phases_of a.phases)) = subst (λ f. AcceptsIn text f (map ops_of (phases_of a.phases))) profile accepted in
     subst (AcceptsIn text b.profile) phases there
