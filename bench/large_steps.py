@@ -7,8 +7,9 @@ A TRACE is a file in the trace format, or the same packed by xz. The counting is
 `crates/` twice, changes the texts below in the copies, and runs each by `rt try`, which builds it without a proof. One copy counts
 the steps of each request for more than 2,048 bytes, from its actor's count before the call to that after it, and says of all of
 them how many they are, their pages, their steps and the most of one, in place of the events and refusals; the other does the same,
-and asks no index. The first table row of a trace has the figures of all such requests that were given a block; those that were refused
-are counted apart. A build takes about a minute.
+and asks no index. A row has the figures of a trace's requests that were given a block; those that were refused have a row of their own. A
+build takes about a minute, and what it builds is some fifty times as slow as the program, for it checks each access; a trace that takes longer
+than ten minutes has no row.
 """
 
 import lzma
@@ -107,14 +108,17 @@ def main(paths):
     print("| Trace | Requests | Pages | Steps with the indexes | A request | Most | Steps without | A request | Most |")
     print("|---|---|---|---|---|---|---|---|---|")
     for name in sorted(ways[0]):
+        if not all(way.get(name) for way in ways):
+            print(f"{name}: no answer in time, or no such request", file=sys.stderr)
+            continue
         for kind, word in ((0, ""), (1, ", refused")):
-            if kind not in ways[0][name]:
+            if not any(kind in way[name] for way in ways):
                 continue
             figures = []
             for way in ways:
                 number, pages, most, steps = way[name].get(kind, (0, 0, 0, 0))
                 figures.append(f"{steps:,} | {steps / max(number, 1):,.1f} | {most:,}")
-            number, pages = ways[0][name][kind][:2]
+            number, pages = ways[0][name].get(kind, ways[1][name].get(kind))[:2]
             print(f"| {name}{word} | {number:,} | {pages:,} | {' | '.join(figures)} |", flush=True)
 
 
