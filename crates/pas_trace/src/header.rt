@@ -15,7 +15,7 @@ use pas_profile::limits::{
 };
 
 /// The latest version of the format.
-const LATEST: u64 = 3;
+const LATEST: u64 = 4;
 
 /// The first version whose regions have all classes, and may have the most pages.
 const FIRST_LARGE: u64 = 3;
@@ -98,7 +98,7 @@ fn header_with(
 }
 
 /// The version and the region that a header names: `pas V pages P threads T heaps H age A`. None for any other line.
-pub fn read_header(line: &[u8]) -> Option<Header>
+pub(crate) fn read_header(line: &[u8]) -> Option<Header>
     ensures { result ≡ header_of line.now }
 {
     let (format, version, rest) = word_pair(line)?;
