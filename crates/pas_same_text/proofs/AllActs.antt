@@ -22,7 +22,7 @@ use Rattle.pas_one_text.specs.Reports.{text_of}
 use Rattle.pas_same_text.specs.Same.{IsSame}
 use Rattle.pas_same_text.specs.Acts.{IsBetween, IsTaken, HasUsableBlocks, StaysSame, StaysSameWhere}
 use Rattle.pas_same_text.specs.Plans.{AllBetween, AllProved, IsCachedBy, IsProvedWhat, IsProvedAct}
-use Rattle.pas_same_text.proofs.BackActs.{flush_act, stop_act, end_act, idle_act, raw_act, raw_sized_act, free_act, free_sized_act}
+use Rattle.pas_same_text.proofs.BackActs.{flush_act, stop_act, end_act, idle_act, raw_act, raw_sized_act, free_act, free_sized_act, remake_act}
 use Rattle.pas_same_text.proofs.CachedSlots.{cached_same}
 use Rattle.pas_same_text.proofs.SmallActs.{phase_same, close_same, wake_same, reading_same, tick_same, settling_same}
 use Rattle.pas_same_text.proofs.UsableBlocks.{act_usable}
@@ -42,6 +42,7 @@ operation_stays f line k (What.Free name) is p p' w proved usable taken = free_a
 operation_stays f line k (What.FreeSized name room) is p p' w proved usable taken = free_sized_act f line k name room is p p' w usable taken
 operation_stays f line k (What.Raw block) is p p' w proved usable taken = raw_act f line k block is p p' w usable taken
 operation_stays f line k (What.RawSized room block) is p p' w proved usable taken = raw_sized_act f line k room block is p p' w usable taken
+operation_stays f line k (What.Remake name old heap size align) is p p' w proved usable taken = remake_act f line k name old heap size align p p' w proved taken
 operation_stays f line k What.Flush is p p' w proved usable taken = flush_act f line k is p p' w usable taken
 operation_stays f line k What.Stop is p p' w proved usable taken = stop_act f line k is p p' w usable taken
 operation_stays f line k (What.Tick e) is p p' w proved usable taken = absurd taken.advances.1

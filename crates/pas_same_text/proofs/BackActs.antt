@@ -29,10 +29,11 @@ use Rattle.pas_report.specs.declared.record.Said.{Said as TheSaid}
 use Rattle.pas_report.specs.declared.record.Said.TheVariants as Said
 use Rattle.pas_trace.specs.Acts.{Act}
 use Rattle.pas_trace.specs.EveryPlan.{IsThread}
-use Rattle.pas_trace.specs.declared.plan.What.TheVariants.{Free, FreeSized, Raw, RawSized, Flush, Stop}
-use Rattle.pas_answers.specs.Answers.{Progress, Named, Answer, IsFreed, IsFreedBy, IsFlushed, IsStopped, IsIdleFor, standing_for, records_of, said_by, with_records, with_steps, after_answer, after_stop, room_noted, stopped}
+use Rattle.pas_trace.specs.declared.plan.What.TheVariants.{Free, FreeSized, Raw, RawSized, Remake, Flush, Stop}
+use Rattle.pas_answers.specs.Answers.{Progress, Named, named, Answer, having, IsRemadeBy, IsFreed, IsFreedBy, IsFlushed, IsStopped, IsIdleFor, standing_for, records_of, said_by, with_records, with_steps, after_answer, after_stop, room_noted, stopped}
 use Rattle.pas_answers.specs.Answers.{with_cache as with_cached}
-use Rattle.pas_one_text.specs.State.{World, Cache, cache_of, set_cache, log_of, says}
+use Rattle.pas_one_text.specs.State.{World, Cache, cache_of, set_cache, log_of, says, names_it}
+use Rattle.pas_one_text.specs.Order.{keeps_block, replaces, remakes}
 use Rattle.pas_one_text.specs.Frees.{adds, logs, frees, frees_what, frees_named, flushes, stops}
 use Rattle.pas_one_text.specs.Passes.{stops_idle}
 use Rattle.pas_same_text.specs.Same.{IsSame, IsSameCache, AreSameCaches}
@@ -40,7 +41,8 @@ use Rattle.pas_same_text.specs.Acts.{IsBetween, IsTaken, AreBlocksUsable, HasUsa
 use Rattle.pas_same_text.proofs.CacheLists.{same_own, same_with, same_again}
 use Rattle.pas_same_text.proofs.FlushActs.{flush_same}
 use Rattle.pas_same_text.proofs.Frames.{unchanged, pages_next}
-use Rattle.pas_same_text.proofs.LoggedFrees.{after_with, nothing_more, page_inside, freed_is, refused_same, skipped_same, freed_same}
+use Rattle.pas_same_text.specs.Plans.{IsIdleRemake}
+use Rattle.pas_same_text.proofs.LoggedFrees.{after_with, said_same, nothing_more, page_inside, freed_is, refused_same, skipped_same, freed_same}
 use Rattle.pas_same_text.proofs.SmallActs.{says_same, cache_state}
 use Rattle.pas_same_text.proofs.StopActs.{stop_same}
 
@@ -235,3 +237,41 @@ free_act f line k name is p p' w usable taken = name_any f k p p' w is taken.val
 
 pub free_sized_act : (f : Profile) (line k name room : ℕ) → IsThread f k → StaysSameWhere HasUsableBlocks f (Act.Operates (record { line = line; actor = k; what = FreeSized name room }))
 free_sized_act f line k name room is p p' w usable taken = name_any f k p p' w is taken.valid taken.before taken.after taken.same usable taken.advances.0 taken.advances.1.1 taken.advances.2 name (Some room) taken.advances.1.0
+
+-- ---- reallocations that do nothing
+named_same : (f : Profile) (k name : ℕ) (o : Option Block) (said : TheSaid) (p : Progress) (w : World) → IsSame f p w → IsSame f (after_with p k [] (Some said) (named name o ∷ p.names) (p.caches k)) (names_it name o (says (Record.Said k said) w))
+named_same f k name o said p w same =
+    let to : IsSame f (after_with p k [] (Some said) p.names (p.caches k)) (says (Record.Said k said) w) = said_same f k said p w same in record {
+      pages = pages_next f p.list p.list w (names_it name o (says (Record.Said k said) w)) same.pages (unchanged p.list) (record { events = refl; live = refl; hinted = refl; locals = refl });
+      caches = to.caches;
+      names = ap (λ (ns : List Named). named name o ∷ ns) same.names;
+      records = to.records;
+      epoch = to.epoch;
+      read = to.read;
+    }
+
+remade_as : (f : Profile) (k name : ℕ) (o : Option Block) (said : TheSaid) (p p' : Progress) (w : World) (a : Answer) → IsSame f p w → p' ≡ after_answer p k a → a.steps ≡ [] → a.cache ≡ p.caches k → a.said ≡ Some said → a.names ≡ named name o ∷ p.names
+    → IsSame f p' (names_it name o (says (Record.Said k said) w))
+remade_as f k name o said p p' w a same reached steps cache is names =
+    subst (λ (q : Progress). IsSame f q (names_it name o (says (Record.Said k said) w)))
+    (sym (reached
+    ∙ (ap (λ (ms : List Made). after_with p k ms a.said a.names a.cache) steps
+    ∙ (ap (λ (c : Cached). after_with p k [] a.said a.names c) cache
+    ∙ (ap (λ (s : Option TheSaid). after_with p k [] s a.names (p.caches k)) is
+    ∙ ap (λ (ns : List Named). after_with p k [] (Some said) ns (p.caches k)) names)))))
+    (named_same f k name o said p w same)
+
+remakes_idly : (f : Profile) (k name size align : ℕ) (meant : Option (Option Block)) (p p' : Progress) (w : World) (a : Answer) → IsIdleRemake size align meant → IsSame f p w → p' ≡ after_answer p k a
+    → IsRemadeBy f k name size align meant (having p.names (part k p.list) (p.caches k)) a → IsSame f p' (remakes f k name size align meant w)
+remakes_idly f k name size align None p p' w a idle same reached h = absurd h
+remakes_idly f k name size align (Some None) p p' w a idle same reached h = remade_as f k name None (Said.Skipped name) p p' w a same reached h.0 h.1 h.2 h.3
+remakes_idly f k name size align (Some (Some old)) p p' w a idle same reached (inl kept) =
+    subst (λ (t : Bool). IsSame f p' (if t then keeps_block k name old w else replaces f k name old size align w)) (sym idle)
+    (remade_as f k name (Some old) (Said.Kept old.name name) p p' w a same reached kept.no_steps kept.cache kept.said_is kept.names_are)
+remakes_idly f k name size align (Some (Some old)) p p' w a idle same reached (inr replaced) = absurd (false≢true (sym replaced.unsuited ∙ idle))
+
+pub remake_act : (f : Profile) (line k name old heap size align : ℕ) (p p' : Progress) (w : World) → IsIdleRemake size align (standing_for p.names old) → IsTaken f (Act.Operates (record { line = line; actor = k; what = Remake name old heap size align })) p p' w
+    → IsSame f p' (remakes f k name size align (standing_for w.names old) w)
+remake_act f line k name old heap size align p p' w idle taken =
+    subst (λ (ns : List Named). IsSame f p' (remakes f k name size align (standing_for ns old) w)) (sym taken.same.names)
+    (remakes_idly f k name size align (standing_for p.names old) p p' w taken.advances.0 idle taken.same taken.advances.2 taken.advances.1)

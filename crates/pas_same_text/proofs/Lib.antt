@@ -28,3 +28,4 @@ mod BackActs
 mod UsableBlocks
 mod WholeText
 mod AllActs
+mod SearchedPages

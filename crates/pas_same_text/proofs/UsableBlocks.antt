@@ -31,11 +31,13 @@ use Rattle.pas_steps.specs.Events.{events_by}
 use Rattle.pas_steps.specs.Lists.{Whole, part, word_after, visible, Legal}
 use Rattle.pas_steps.specs.Views.{View, known_deed, usable_by_kind}
 use Rattle.pas_steps.specs.declared.step.Made.{Made}
+use Rattle.pas_steps.proofs.Adding.{triples_append}
 use Rattle.pas_steps.proofs.Frames.{events_append}
 use Rattle.pas_steps.proofs.Parts.{part_of_own}
 use Rattle.pas_core.specs.Good.{IsPartOf, word_of_deed}
 use Rattle.pas_core.proofs.Deeds.{known_is, deed_of, directory_is_of}
 use Rattle.pas_core.proofs.MachineRuns.{runs}
+use Rattle.pas_core.proofs.OneActor.{legal_earlier}
 use Rattle.pas_core.proofs.Rights.{deeds_known}
 use Rattle.pas_free_log.specs.Flushes.{Settled, shown_for, event_for}
 use Rattle.pas_free_log.specs.Logs.{entry_of, sized_entry}
@@ -43,6 +45,7 @@ use Rattle.pas_free_log.specs.declared.ending.Outcome.{Outcome as TheEnd}
 use Rattle.pas_free_log.specs.declared.ending.Outcome.TheVariants.{Ended, Refused}
 use Rattle.pas_free_log.specs.declared.log.Entry.{Entry}
 use Rattle.pas_free_log.specs.declared.noting.EndedRun.{EndedRun}
+use Rattle.pas_cache.specs.Calls.{TakesEntry}
 use Rattle.pas_cache.specs.Changes.{EmptiesLog, EmptiesFull}
 use Rattle.pas_cache.specs.Contents.{Cached}
 use Rattle.pas_cache.specs.Serves.{Wanted, wanted_for, IsPlaced, IsInSlot, IsPreparing, IsDeedOf}
@@ -53,7 +56,7 @@ use Rattle.pas_trace.specs.Acts.{Act}
 use Rattle.pas_trace.specs.declared.item.Request.{Request}
 use Rattle.pas_trace.specs.declared.plan.Op.{Op}
 use Rattle.pas_trace.specs.declared.plan.What.{What}
-use Rattle.pas_answers.specs.Answers.{Progress, Having, Answer, having, IsServed, IsGiven, RefusalEnds, RequestEnds, IsFreed, IsFreedBy, IsStopped, IsAnswered, standing_for, entry_with, wanted_by}
+use Rattle.pas_answers.specs.Answers.{Progress, Having, Answer, having, IsServed, IsGiven, RefusalEnds, RequestEnds, IsFreed, IsFreedBy, IsStopped, IsAnswered, IsRemadeBy, IsReplaced, request_for, standing_for, entry_with, wanted_by}
 use Rattle.pas_same_text.specs.Acts.{IsBetween, AreBlocksUsable, HasUsableBlocks, KeepsUsable}
 use Rattle.pas_same_text.proofs.Flushes.{visible_steps}
 
@@ -255,6 +258,29 @@ module _ (f : Profile) (k heap size align : ℕ) (l : Whole) (steps : List Made)
       (next_usable f (Event.Give k block) (given.before ++ visible l) run (give_usable block given) (all_usable f given.before (visible l) run.1 (all_preparing wanted.directory given.before given.prepared) usable))
   by_answer (Err room) ends = steps_usable f k steps l valid legal (refusal_gives wanted.route wanted.directory (events_by k (part k l) steps) ends) usable
 
+-- ---- a reallocation
+logged_gives : (f : Profile) (k : ℕ) (c c' : Cached) (entry : Entry) (freed : List Made) (v : View) (answer : Result Block NoRoom) → MatchResult answer (λ block. TakesEntry f k c c' entry freed) (λ room. (freed ≡ []) × (c' ≡ c)) → AreNoGives (events_by k v freed)
+logged_gives f k c c' entry freed v (Ok block) takes = full_gives (nat_le 64 (length c.log)) k c.log takes.logs.kept c.noted c'.noted freed v takes.logs.emptied
+logged_gives f k c c' entry freed v (Err room) none = subst (λ (ms : List Made). AreNoGives (events_by k v ms)) (sym none.0) tt
+
+replaced_usable : (f : Profile) (k : ℕ) (r : Request) (old : Block) (b : Having) (l : Whole) (a : Answer) → b.view ≡ part k l → IsValid f → Legal f (triples k a.steps ++ l) → IsReplaced f k r old b a → AreBlocksUsable (visible l) → AreBlocksUsable (visible (triples k a.steps ++ l))
+replaced_usable f k r old b l a view valid legal h usable =
+    let whole : Legal f (triples k (h.freed ++ h.placed.steps) ++ l) = subst (λ (ms : List Made). Legal f (triples k ms ++ l)) h.steps_are legal in
+    let first : Legal f (triples k h.placed.steps ++ l) = legal_earlier f k h.freed h.placed.steps l whole in
+    let ends : RequestEnds k (wanted_by f r) (part k l) h.placed.steps h.served.answer = subst (λ (v : View). RequestEnds k (wanted_by f r) v h.placed.steps h.served.answer) view h.served.ends in
+    let given : AreBlocksUsable (visible (triples k h.placed.steps ++ l)) = by_answer f k r.heap r.size r.align l h.placed.steps valid first usable h.served.answer ends in
+    subst (λ (ms : List Made). AreBlocksUsable (visible (triples k ms ++ l))) (sym h.steps_are)
+    (subst (λ (m : Whole). AreBlocksUsable (visible m)) (triples_append k h.freed h.placed.steps l)
+    (steps_usable f k h.freed (triples k h.placed.steps ++ l) valid (subst (Legal f) (sym (triples_append k h.freed h.placed.steps l)) whole)
+    (logged_gives f k h.placed.cache a.cache (entry_of old.name) h.freed (part k (triples k h.placed.steps ++ l)) h.served.answer h.logged) given))
+
+remade_usable : (f : Profile) (k name size align : ℕ) (meant : Option (Option Block)) (p : Progress) (a : Answer) → IsValid f → Legal f (triples k a.steps ++ p.list) → IsRemadeBy f k name size align meant (having p.names (part k p.list) (p.caches k)) a → HasUsableBlocks p
+    → AreBlocksUsable (visible (triples k a.steps ++ p.list))
+remade_usable f k name size align None p a valid legal h usable = absurd h
+remade_usable f k name size align (Some None) p a valid legal h usable = subst (λ (ms : List Made). AreBlocksUsable (visible (triples k ms ++ p.list))) (sym h.0) usable
+remade_usable f k name size align (Some (Some old)) p a valid legal (inl kept) usable = subst (λ (ms : List Made). AreBlocksUsable (visible (triples k ms ++ p.list))) (sym kept.no_steps) usable
+remade_usable f k name size align (Some (Some old)) p a valid legal (inr replaced) usable = replaced_usable f k (request_for old name size align) old (having p.names (part k p.list) (p.caches k)) p.list a refl valid legal replaced usable
+
 -- ---- the acts
 operation_usable : (f : Profile) (k : ℕ) (what : What) (p : Progress) (a : Answer) → IsValid f → Legal f (triples k a.steps ++ p.list) → IsAnswered f k what (having p.names (part k p.list) (p.caches k)) a → HasUsableBlocks p → AreBlocksUsable (visible (triples k a.steps ++ p.list))
 operation_usable f k (What.Alloc name heap size align) p a valid legal h usable = by_answer f k heap size align p.list a.steps valid legal usable h.answer h.ends
@@ -262,6 +288,7 @@ operation_usable f k (What.Free name) p a valid legal h usable = steps_usable f 
 operation_usable f k (What.FreeSized name room) p a valid legal h usable = steps_usable f k a.steps p.list valid legal (named_gives f k (p.caches k) a.cache name (Some room) (standing_for p.names name) a.steps a.said (part k p.list) h.0) usable
 operation_usable f k (What.Raw block) p a valid legal h usable = steps_usable f k a.steps p.list valid legal (freed_gives f k (p.caches k) a.cache (entry_of block) a.steps a.said (part k p.list) h.0) usable
 operation_usable f k (What.RawSized room block) p a valid legal h usable = steps_usable f k a.steps p.list valid legal (freed_gives f k (p.caches k) a.cache (sized_entry block room) a.steps a.said (part k p.list) h.0) usable
+operation_usable f k (What.Remake name old heap size align) p a valid legal h usable = remade_usable f k name size align (standing_for p.names old) p a valid legal h usable
 operation_usable f k What.Flush p a valid legal h usable = steps_usable f k a.steps p.list valid legal (flush_gives k (p.caches k).log (p.caches k).noted a.cache.noted a.steps (part k p.list) h.0.empties) usable
 operation_usable f k What.Stop p a valid legal h usable = steps_usable f k a.steps p.list valid legal (stop_gives k (p.caches k) a.cache a.steps (part k p.list) h.0) usable
 operation_usable f k (What.Tick e) p a valid legal h usable = absurd h

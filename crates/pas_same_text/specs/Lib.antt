@@ -3,3 +3,4 @@ pub mod Words
 pub mod Acts
 pub mod Entries
 pub mod Plans
+pub mod Searched

@@ -1,5 +1,5 @@
 //! What each act owes: from a state of the text that is the replay's it leads to one that is. Each law is the contract of an empty function.
-ghost use Rattle.std.specs.Prelude.{ℕ, ◌+◌, ◌*◌, ◌<◌, ◌≡◌, List, ◌∷◌, ◌++◌, true};
+ghost use Rattle.std.specs.Prelude.{ℕ, ◌+◌, ◌*◌, ◌<◌, ◌≡◌, List, ◌∷◌, ◌++◌, true, Ok};
 ghost use Rattle.pas_profile.specs.declared.name.Name.{Name};
 ghost use Rattle.pas_profile.specs.declared.profile.Profile.{Profile};
 ghost use Rattle.pas_trace.specs.Acts.{Act, acts_of};
@@ -8,7 +8,7 @@ ghost use Rattle.pas_trace.specs.declared.plan.What.TheVariants.{Alloc, Flush, F
 ghost use Rattle.pas_profile.specs.Requests.{route_in};
 ghost use Rattle.pas_profile.specs.declared.directory.Route.{Route};
 ghost use Rattle.pas_profile.specs.Directories.{number_of};
-ghost use Rattle.pas_profile.specs.Profiles.{IsValid, IsDirectoryOf};
+ghost use Rattle.pas_profile.specs.Profiles.{IsValid, IsPage, IsDirectoryOf};
 ghost use Rattle.pas_profile.specs.declared.directory.Directory.{Directory};
 ghost use Rattle.pas_profile.specs.declared.event.Event.{Event};
 ghost use Rattle.pas_machine.specs.Machine.{Run};
@@ -17,6 +17,9 @@ ghost use Rattle.pas_free_log.specs.declared.log.Entry.{Entry};
 ghost use Rattle.pas_one_text.specs.Frees.{ends, flushes};
 ghost use Rattle.pas_same_text.specs.Same.{IsSame, lives_in};
 ghost use Rattle.pas_same_text.specs.Plans.{AllBetween, AllProved};
+ghost use Rattle.pas_same_text.specs.Searched.{IsSearch};
+ghost use Rattle.pas_search.specs.Searches.{FromOffered, ByDeed};
+ghost use Rattle.pas_one_text.specs.Searches.{searched};
 ghost use Rattle.pas_answers.specs.Reaching.{Reaches};
 ghost use Rattle.pas_answers.specs.Replays.{at_start};
 ghost use Rattle.pas_one_text.specs.Order.{acts_on, opened, replayed};
@@ -32,12 +35,14 @@ ghost use Rattle.pas_steps.specs.Desks.{triples};
 ghost use Rattle.pas_steps.specs.declared.step.Made.{Made};
 ghost use Rattle.pas_free_log.specs.declared.noting.EndedRun.{EndedRun};
 ghost use Rattle.pas_steps.specs.Views.{has_right};
-ghost use Rattle.pas_core.specs.Rights.{eligible_bit};
+ghost use Rattle.pas_core.specs.Rights.{eligible_bit, free_of_page};
 ghost use Rattle.pas_answers.specs.Answers.{Progress};
 ghost use Rattle.pas_one_text.specs.State.{World, each};
 ghost use Rattle.pas_one_text.specs.Pages.{is_free, is_kept, is_offered, has_room};
 ghost use Rattle.pas_same_text.specs.Acts.{IsAtRest, StaysSame, StaysSameWhere, HasUsableBlocks, KeepsUsable, HasLogRoom, HasCachedSlot};
 ghost use Rattle.pas_same_text.specs.Words.{free_bit};
+
+use pas_core::laws::Fitting;
 
 /// A mark is a line.
 #[tactic(auto, using(crate::proofs::SmallActs::phase_same, crate::proofs::SmallActs::close_same))]
@@ -136,4 +141,11 @@ pub fn texts_are_told()
     ensures state { (f : Profile) (p : Progress) (w : World) → IsValid f → Legal f p.list → AreTrueMarks f p.list → IsSame f p w → text_of f w ≡ lines_of p.records ++ report_text f (visible p.list) (marks_after p.list) }
     ensures replay { (f : Profile) (phases : List (List Op)) (p : Progress) (is : Reaches f (acts_of f.threads phases) at_start p) → IsValid f → AllBetween f (acts_of f.threads phases) at_start p is → AllProved f (acts_of f.threads phases) at_start p is
         → AreTrueMarks f p.list → text_of f (replayed f phases) ≡ lines_of p.records ++ report_text f (visible p.list) (marks_after p.list) }
+{}
+
+/// A search that found a page found the one that the text finds: the lowest offered page on which something fits, or where there is none, the lowest that nobody has.
+pub fn searches_choose_the_same<W: Fitting>(wanted: &W)
+    ensures offered { (f : Profile) (d : Directory) (k : ℕ) (p : Progress) (w : World) (fits : ℕ → List ℕ) (steps : List Made) (page : ℕ) → IsSearch (W.no_fit wanted.now) f d k p steps w fits → IsPage f page → FromOffered (W.no_fit wanted.now) d page steps
+        → (W.no_fit wanted.now (free_of_page p.list page) → ⊥) → searched f w d fits ≡ Ok page }
+    ensures deed { (f : Profile) (d : Directory) (k : ℕ) (p : Progress) (w : World) (fits : ℕ → List ℕ) (steps : List Made) (page : ℕ) → IsSearch (W.no_fit wanted.now) f d k p steps w fits → IsPage f page → ByDeed (W.no_fit wanted.now) f d page steps → searched f w d fits ≡ Ok page }
 {}
