@@ -1,4 +1,5 @@
 pub mod Lines
+pub mod Inputs
 pub mod States
 pub mod Begins
 pub mod Takes
