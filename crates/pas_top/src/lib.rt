@@ -2,6 +2,7 @@
 #![tactic(auto)]
 
 mod generating;
+mod judging;
 pub mod laws;
 pub mod main_call;
 mod opening;
@@ -10,7 +11,7 @@ mod outcome;
 pub use main_call::pas_main;
 pub use pas_words::manner;
 
-const USAGE: &str = "usage: pas order | pas run | pas gen SEED OPS THREADS PAGES\n";
+const USAGE: &str = "usage: pas order | pas run | pas check | pas gen SEED OPS THREADS PAGES\n";
 
 const TOO_LONG: &str = "input too long\n";
 
