@@ -1,6 +1,6 @@
 -- From how a call for a check ended to what it says of its status.
-use Rattle.std.proofs.Common.{◌≡◌, ℕ, ◌≤◌, ◌<◌, ◌⊎◌, List, [], ◌∷◌, ◌++◌, Option, Some, Ok, Err, refl, ap, sym, ◌∙◌, subst, inl, inr, length, arith}
-use Rattle.pas_trace.specs.Plans.{IsPlanOf, Parsed, parsed}
+use Rattle.std.proofs.Common.{◌≡◌, ℕ, ◌≤◌, ◌<◌, ◌⊎◌, List, Option, Some, Err, refl, ap, sym, ◌∙◌, subst, inl, inr, length, arith}
+use Rattle.pas_trace.specs.Plans.{IsPlanOf, parsed}
 use Rattle.pas_trace.specs.declared.plan.Plan.{Plan}
 use Rattle.pas_trace.specs.declared.fault.TraceFault.{TraceFault}
 use Rattle.pas_check.specs.Inputs.{trace_in, transcript_in}
@@ -11,7 +11,7 @@ use Rattle.pas_io.specs.Told.{Rose, Tells}
 use Rattle.pas_words.specs.Words.{IsChecking}
 use Rattle.pas_top.specs.Checked.{EndsCheck, TellsCheck}
 use Rattle.pas_top.specs.Judgements.{IsJudged, IsJudgement, judgement_status, judgement_text, verdict_status}
-use Rattle.pas_top.specs.Outputs.{most_bytes, too_long_text, ChecksTo, HasVerdict, HasFailed, IsCheckStatus, IsCutOff, IsOutput, IsStatus, IsWriting, IsWritten}
+use Rattle.pas_top.specs.Outputs.{most_bytes, too_long_text, ChecksTo, HasFailed, IsCheckStatus, IsCutOff, IsOutput, IsStatus, IsWriting, IsWritten}
 use Rattle.pas_top.specs.declared.judging.Judgement.{Judgement}
 use Rattle.pas_top.specs.declared.judging.Judgement.TheVariants.{Judged, Faulty}
 use Rattle.pas_top.proofs.Statuses.{answered, cut_off, not_four, sound, written}

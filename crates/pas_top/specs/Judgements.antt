@@ -1,5 +1,5 @@
 -- What an input comes to under a check: the verdict on its transcript, or the first fault of its trace.
-use Rattle.std.specs.Prelude.{ℕ, ◌≡◌, ◌⊎◌, List, ◌++◌, Option, Some, Err, codes}
+use Rattle.std.specs.Prelude.{ℕ, ◌≡◌, List, ◌++◌, Err, codes}
 use Rattle.std.specs.Fmt.{decimal}
 use Rattle.pas_trace.specs.Plans.{IsPlanOf, parsed}
 use Rattle.pas_trace.specs.declared.plan.Plan.{Plan}

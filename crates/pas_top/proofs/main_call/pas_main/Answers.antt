@@ -6,7 +6,6 @@ use Rattle.pas_top.specs.Manners.{way_of}
 use Rattle.pas_top.proofs.Summing.{gen_cut_off, gen_sound, gen_summed}
 use Rattle.pas_top.specs.Outputs.{IsReplaying, IsChecking, IsAccepted, most_bytes, texts_of, usage_text, too_long_text}
 use Rattle.pas_top.proofs.Statuses.{cut_off, not_four, nothing_left, sound, written}
-use Rattle.pas_words.proofs.Apart.{not_both}
 use Rattle.pas_top.proofs.Checks.{ended_status, ended_written, ended_failed, ended_cut_off, ended_sound, ended_long, ended_mistraced, ended_judged, ended_checked}
 use Rattle.pas_top.proofs.Headline.{can_write, outcome_output, too_long_output, status_not_four}
 use Rattle.pas_top.proofs.main_call.pas_main.Goals as goal
