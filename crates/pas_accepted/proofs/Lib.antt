@@ -1,8 +1,10 @@
 mod Going
 mod Pieces
 mod NamesOfBlocks
+mod LogEntries
 mod Telling
 mod FlushKinds
+mod SizedEnds
 mod Flushing
 mod Outcomes
 mod Tries

@@ -38,8 +38,8 @@ of_parts text (No n) a is = is
 pub same_verdict : (bytes text : List ℕ) (a b : Plan) → IsPlanOf bytes a → IsPlanOf bytes b → (v : Verdict) → IsVerdict a text v → IsVerdict b text v
 same_verdict bytes text a b p q v verdict =
     let same = same_parsed bytes a b p q in
-    let profile : a.profile ≡ b.profile = p.profile ∙ ap (λ (t : Parsed). record t.header { shared = shared_in t.items }) same ∙ sym q.profile in
-    let phases : map ops_of (phases_of a.phases) ≡ map ops_of (phases_of b.phases) = p.phases ∙ ap (λ (t : Parsed). phases_in t.items) same ∙ sym q.phases in
+    let profile : a.profile ≡ b.profile = p.profile ∙ ap (λ (t : Parsed). record t.header.profile { shared = shared_in t.items }) same ∙ sym q.profile in
+    let phases : map ops_of (phases_of a.phases) ≡ map ops_of (phases_of b.phases) = p.phases ∙ ap (λ (t : Parsed). phases_in t.header.profile t.items) same ∙ sym q.phases in
     let there : JudgesIn text v b.profile (map ops_of (phases_of a.phases)) = subst (λ f. JudgesIn text v f (map ops_of (phases_of a.phases))) profile (to_parts text v a verdict) in
     of_parts text v b (subst (JudgesIn text v b.profile) phases there)
 

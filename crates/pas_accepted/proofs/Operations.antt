@@ -1,5 +1,5 @@
 -- A thread's operation, by what it asks for.
-use Rattle.std.proofs.Common.{◌≡◌, ℕ, List, [], ◌∷◌, ◌++◌, None, Result, refl, ap, sym, ◌∙◌, Option}
+use Rattle.std.proofs.Common.{◌≡◌, ℕ, List, [], ◌∷◌, ◌++◌, None, Some, Result, refl, ap, sym, ◌∙◌, Option}
 use Rattle.pas_profile.specs.Profiles.{IsValid}
 use Rattle.pas_profile.specs.Requests.{route_in}
 use Rattle.pas_profile.specs.declared.directory.Route.{Route}
@@ -19,12 +19,12 @@ use Rattle.pas_report.specs.declared.record.Record.{Record}
 use Rattle.pas_trace.specs.Named.{named, standing_for as stands_for}
 use Rattle.pas_trace.specs.declared.item.Request.{Request}
 use Rattle.pas_trace.specs.declared.plan.What.{What}
-use Rattle.pas_trace.specs.declared.plan.What.TheVariants.{Alloc, Free, Raw, Flush, Stop, Tick, Pass, Idle}
-use Rattle.pas_answers.specs.Answers.{Answer, IsAnswered, Progress, after_answer, block_of, having, records_of, said_by}
+use Rattle.pas_trace.specs.declared.plan.What.TheVariants.{Alloc, Free, FreeSized, Raw, RawSized, Flush, Stop, Tick, Pass, Idle}
+use Rattle.pas_answers.specs.Answers.{Answer, IsAnswered, IsFreedBy, Progress, after_answer, block_of, having, records_of, room_noted, said_by}
 use Rattle.pas_answers.specs.Named.{standing_for}
 use Rattle.pas_answers.specs.Refusals.{RefusesTruly}
 use Rattle.pas_answers.proofs.Tidy.{Tidy, answer_tidy}
-use Rattle.pas_check.specs.Begins.{begun_what, freeing_named}
+use Rattle.pas_check.specs.Begins.{begun_what, entry_of as known_entry, freeing_named, unsized}
 use Rattle.pas_check.specs.States.{Serves, Stand, Task}
 use Rattle.pas_check.specs.Tasks.{emptying}
 use Rattle.pas_check.proofs.Ticks.{epoch_kept}
@@ -48,6 +48,14 @@ module _ (f : Profile) (valid : IsValid f) (p : Progress) (s : Stand) (ts : List
   tidy_of : (what : What) → IsAnswered f k what (having p.names (part k p.list) (p.caches k)) a → Tidy (a.steps ++ part k p.list)
   tidy_of what is = answer_tidy f k what (having p.names (part k p.list) (p.caches k)) a is (piece_of f k a.steps p.list legal) (tells.tidy k)
 
+  -- a free of what a name stands for
+  named_comes : (name : ℕ) (room : Option ℕ) → IsFreedBy f k (p.caches k) a.cache name room (standing_for p.names name) a.steps a.said → a.names ≡ p.names → Tidy (a.steps ++ part k p.list)
+      → LeadsOn f s [] (record (freeing_named f s k name (room_noted room) (stands_for s.names name)) { left = ts })
+      → Comes f s (records_of (events_by k (part k p.list) a.steps) ++ said_by k a.said) (after_answer p k a) ts
+  named_comes name room is same tidy begun =
+      freed_comes f valid p s ts tells due k a same tidy legal name room (standing_for p.names name) is
+      (on_as f s _ _ [] [] refl (ap (λ x. record (freeing_named f s k name (room_noted room) x) { left = ts }) (sym (ap (λ ns. stands_for ns name) tells.names ∙ known_stands p.names name))) begun)
+
   -- THE OPERATION
   pub what_comes : (what : What) (is : IsAnswered f k what (having p.names (part k p.list) (p.caches k)) a) → RefusesTruly f k what (having p.names (part k p.list) (p.caches k)) a is p.list → LeadsOn f s [] (record (begun_what f s k what) { left = ts })
       → Comes f s (records_of (events_by k (part k p.list) a.steps) ++ said_by k a.said) (after_answer p k a) ts
@@ -68,10 +76,10 @@ module _ (f : Profile) (valid : IsValid f) (p : Progress) (s : Stand) (ts : List
         due = refl;
         left = refl;
       }
-  what_comes (Free name) is truly begun =
-      freed_comes f valid p s ts tells due k a is.1 (tidy_of (Free name) is) legal name (standing_for p.names name) is.0
-      (on_as f s _ _ [] [] refl (ap (λ x. record (freeing_named f s k name x) { left = ts }) (sym (ap (λ ns. stands_for ns name) tells.names ∙ known_stands p.names name))) begun)
-  what_comes (Raw block) is truly begun = free_comes f valid p s ts tells due k a is.1 (tidy_of (Raw block) is) legal block is.0 begun
+  what_comes (Free name) is truly begun = named_comes name None is.0 is.1 (tidy_of (Free name) is) begun
+  what_comes (FreeSized name room) is truly begun = named_comes name (Some room) is.0 is.1 (tidy_of (FreeSized name room) is) begun
+  what_comes (Raw block) is truly begun = free_comes f valid p s ts tells due k a is.1 (tidy_of (Raw block) is) legal (unsized block) is.0 begun
+  what_comes (RawSized room block) is truly begun = free_comes f valid p s ts tells due k a is.1 (tidy_of (RawSized room block) is) legal (known_entry block room) is.0 begun
   what_comes Flush is truly begun =
       let u : Stand = emptying s k [] [] ts in
       let end : Stand = emptied p s k a.steps [] [] ts in

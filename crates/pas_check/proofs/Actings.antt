@@ -14,15 +14,16 @@ use Rattle.pas_report.specs.declared.record.Said.{Said}
 use Rattle.pas_trace.specs.Acts.{Act, MakesPass, MarksClose, MarksPhase, StopsIdle, Ticks, Wakes}
 use Rattle.pas_trace.specs.Named.{standing_for}
 use Rattle.pas_trace.specs.declared.item.Request.{Request}
-use Rattle.pas_check.specs.Begins.{after_task, begun_act, entries_due, flushing, freeing_at, freeing_named, is_aligned, is_page, logging, stopping, tells}
+use Rattle.pas_check.specs.Begins.{after_task, begun_act, entries_due, entry_of, flushing, freeing_at, freeing_named, is_aligned, is_page, logging, stopping, tells}
 use Rattle.pas_check.specs.Bounds.{FitsRequest, IsKept}
 use Rattle.pas_check.specs.Calls.{EntriesTaken, IsAsked, IsExamining, IsFollowed, IsWanted, OutcomesTaken, RequestTaken}
 use Rattle.pas_check.specs.Leading.{Fails, IsLed, IsWithin, Leads}
 use Rattle.pas_check.specs.States.{Due, Writes, Serves, Examines, Task, Does, Stand, with_at, with_due, with_name}
 use Rattle.pas_check.specs.Tables.{logged, logs_held, meant}
-use Rattle.pas_check.specs.Tasks.{ActTaken, Asks, FreesBlock, FreesNamed, IsNext, LogEmptied, PassTaken, Stands, emptying}
+use Rattle.pas_check.specs.Tasks.{ActTaken, Asks, FreesEntry, FreesNamed, IsNext, LogEmptied, PassTaken, Stands, emptying}
 use Rattle.pas_check.specs.declared.acting.Judge.{Judge}
 use Rattle.pas_check.specs.declared.cutting.Cursor.{Cursor}
+use Rattle.pas_check.specs.declared.entry.Entry.{Entry}
 use Rattle.pas_check.specs.declared.logging.Logs.{Logs}
 use Rattle.pas_check.specs.declared.naming.Names.{Names}
 use Rattle.pas_check.specs.declared.serving.Wanted.{Wanted}
@@ -147,12 +148,12 @@ woken f text old new at within k held machine names logs epoch awake = act_of_no
     ]
 
 -- ---- a log is emptied
-module _ (f : Profile) (text : List ℕ) (old : Judge) (from to : Cursor) (k : ℕ) (log : List Name) (held : k < logs_held old.logs) where
+module _ (f : Profile) (text : List ℕ) (old : Judge) (from to : Cursor) (k : ℕ) (log : List Entry) (held : k < logs_held old.logs) where
   begun_kept : (s : Stand) (more : List Due) (ts : List Task) → Stands f old s from → IsKept (emptying s k log more ts) from
   begun_kept s more ts stands = kept_same (emptying s k log more ts) s from from refl refl (omega arith) stands.kept
 
   begun_due : (s : Stand) (more : List Due) (ts : List Task) → Stands f old s from → (emptying s k log more ts).due ≡ entries_due k (logged old.logs k) ++ more
-  begun_due s more ts stands = ap (λ (names : List Name). entries_due k names ++ more) (stands.logs k held)
+  begun_due s more ts stands = ap (λ (entries : List Entry). entries_due k entries ++ more) (stands.logs k held)
 
   pub log_amiss : (machine : Machine) → EntriesTaken old.machine machine text from to k (logged old.logs k) [] old.epoch false → (new : Judge)
       → LogEmptied f text old from new to k log false
@@ -207,7 +208,7 @@ with_other_due {f} {j} {s} {at} more stands = record {
 
 module _ (f : Profile) (text : List ℕ) (old new : Judge) (from to : Cursor) (k : ℕ) (within : IsWithin text from) where
   -- a flush, a stop, a thread's end, and a free where the log is full
-  pub flushed : (act : Act) (log : List Name) → ((s : Stand) → Stands f old s from → begun_act f s act ≡ flushing s k log []) → (is : Bool)
+  pub flushed : (act : Act) (log : List Entry) → ((s : Stand) → Stands f old s from → begun_act f s act ≡ flushing s k log []) → (is : Bool)
       → LogEmptied f text old from new to k log is → ActTaken f text old from new to act is
   flushed act log flushes true emptied = λ s ts next.
       let e = emptied s [] ts next.stands in
@@ -419,39 +420,39 @@ module _ (f : Profile) (text : List ℕ) (old : Judge) (from : Cursor) (k : ℕ)
         subst (λ (u : Stand). Stands f old (with_due (record u { left = ts }) []) from) (sym same) (other_plan [] ts next.stands),
       )) is led
 
-module _ (f : Profile) (text : List ℕ) (old : Judge) (from : Cursor) (k : ℕ) (block : Name) (within : IsWithin text from) (act : Act)
-    (frees : FreesBlock f old from act k block) where
-  pub freed_outside : (IsPage (profile_of old.machine) (address_of block / 4096) → ⊥) → (to : Cursor) (is : Bool)
-      → ((s : Stand) (more : List Due) → s.due ≡ Writes (Record.Said k (Said.Outside block)) ∷ more → IsLed f text s from (with_due s more) to is)
+module _ (f : Profile) (text : List ℕ) (old : Judge) (from : Cursor) (k : ℕ) (entry : Entry) (within : IsWithin text from) (act : Act)
+    (frees : FreesEntry f old from act k entry) where
+  pub freed_outside : (IsPage (profile_of old.machine) (address_of entry.name / 4096) → ⊥) → (to : Cursor) (is : Bool)
+      → ((s : Stand) (more : List Due) → s.due ≡ Writes (Record.Said k (Said.Outside entry.name)) ∷ more → IsLed f text s from (with_due s more) to is)
       → ActTaken f text old from old to act is
   freed_outside none to is led =
-      spoken f text old from k within act (Said.Outside block)
-      (λ s stands. frees s stands ∙ ap (λ (x : Bool). freeing_at x (is_aligned block) s k block)
-      (is_outside f (profile_of old.machine) (address_of block / 4096) stands.profile none)) to is led
+      spoken f text old from k within act (Said.Outside entry.name)
+      (λ s stands. frees s stands ∙ ap (λ (x : Bool). freeing_at x (is_aligned entry.name) s k entry)
+      (is_outside f (profile_of old.machine) (address_of entry.name / 4096) stands.profile none)) to is led
 
-  module _ (inside : IsPage (profile_of old.machine) (address_of block / 4096)) where
-    pub freed_unaligned : address_of block % 16 ≢ 0 → (to : Cursor) (is : Bool)
-        → ((s : Stand) (more : List Due) → s.due ≡ Writes (Record.Said k (Said.Unaligned block)) ∷ more → IsLed f text s from (with_due s more) to is)
+  module _ (inside : IsPage (profile_of old.machine) (address_of entry.name / 4096)) where
+    pub freed_unaligned : address_of entry.name % 16 ≢ 0 → (to : Cursor) (is : Bool)
+        → ((s : Stand) (more : List Due) → s.due ≡ Writes (Record.Said k (Said.Unaligned entry.name)) ∷ more → IsLed f text s from (with_due s more) to is)
         → ActTaken f text old from old to act is
     freed_unaligned odd to is led =
-        spoken f text old from k within act (Said.Unaligned block)
-        (λ s stands. frees s stands ∙ (λ i. freeing_at (is_inside f (profile_of old.machine) (address_of block / 4096) stands.profile inside i)
-        (ne_eqb (address_of block % 16) 0 odd i) s k block)) to is led
+        spoken f text old from k within act (Said.Unaligned entry.name)
+        (λ s stands. frees s stands ∙ (λ i. freeing_at (is_inside f (profile_of old.machine) (address_of entry.name / 4096) stands.profile inside i)
+        (ne_eqb (address_of entry.name % 16) 0 odd i) s k entry)) to is led
 
-    module _ (even : address_of block % 16 ≡ 0) (held : k < logs_held old.logs) where
-      logs_it : (full : Bool) → full ≡ nat_le 64 (length (logged old.logs k)) → (s : Stand) → Stands f old s from → begun_act f s act ≡ logging full s k block
+    module _ (even : address_of entry.name % 16 ≡ 0) (held : k < logs_held old.logs) where
+      logs_it : (full : Bool) → full ≡ nat_le 64 (length (logged old.logs k)) → (s : Stand) → Stands f old s from → begun_act f s act ≡ logging full s k entry
       logs_it full is s stands =
-          frees s stands ∙ (λ i. freeing_at (is_inside f (profile_of old.machine) (address_of block / 4096) stands.profile inside i)
-          (eq-eqb (address_of block % 16) 0 even i) s k block)
-          ∙ ap (λ (x : Bool). logging x s k block) (ap (λ (log : List Name). nat_le 64 (length log)) (stands.logs k held) ∙ sym is)
+          frees s stands ∙ (λ i. freeing_at (is_inside f (profile_of old.machine) (address_of entry.name / 4096) stands.profile inside i)
+          (eq-eqb (address_of entry.name % 16) 0 even i) s k entry)
+          ∙ ap (λ (x : Bool). logging x s k entry) (ap (λ (log : List Entry). nat_le 64 (length log)) (stands.logs k held) ∙ sym is)
 
       -- the log is full
       pub freed_full : true ≡ nat_le 64 (length (logged old.logs k)) → (new : Judge) (to : Cursor) (is : Bool)
-          → LogEmptied f text old from new to k (block ∷ []) is → ActTaken f text old from new to act is
-      freed_full full new to is emptied = flushed f text old new from to k within act (block ∷ []) (logs_it true full) is emptied
+          → LogEmptied f text old from new to k (entry ∷ []) is → ActTaken f text old from new to act is
+      freed_full full new to is emptied = flushed f text old new from to k within act (entry ∷ []) (logs_it true full) is emptied
 
       -- it isn't
-      pub freed_logged : false ≡ nat_le 64 (length (logged old.logs k)) → (logs : Logs) → logged logs k ≡ logged old.logs k ++ block ∷ []
+      pub freed_logged : false ≡ nat_le 64 (length (logged old.logs k)) → (logs : Logs) → logged logs k ≡ logged old.logs k ++ entry ∷ []
           → ((j : ℕ) → j ≢ k → logged logs j ≡ logged old.logs j) → logs_held logs ≡ logs_held old.logs
           → ActTaken f text old from (record old { logs = logs }) from act true
       freed_logged room logs added others count = act_of_none f text old from act within (record old { logs = logs })
@@ -467,25 +468,25 @@ module _ (f : Profile) (text : List ℕ) (old : Judge) (from : Cursor) (k : ℕ)
               awake = stands.awake;
               epoch = stands.epoch;
               small = stands.small;
-              kept = kept_same (record s { logs = with_at s.logs k (s.logs k ++ block ∷ []); left = ts }) s from from refl refl (omega arith) stands.kept;
+              kept = kept_same (record s { logs = with_at s.logs k (s.logs k ++ entry ∷ []); left = ts }) s from from refl refl (omega arith) stands.kept;
             }),
           ))
         where
-          log_at : (s : Stand) → Stands f old s from → (j : ℕ) → j < logs_held old.logs → with_at s.logs k (s.logs k ++ block ∷ []) j ≡ logged logs j
+          log_at : (s : Stand) → Stands f old s from → (j : ℕ) → j < logs_held old.logs → with_at s.logs k (s.logs k ++ entry ∷ []) j ≡ logged logs j
           log_at s stands j has = elim (cases_eq j k) [
             | inl is ↦
                 let t : (j == k) ≡ true = eq-eqb j k is in
-                ap (λ (x : Bool). if x then s.logs k ++ block ∷ [] else s.logs j) t ∙ ap (λ (log : List Name). log ++ block ∷ []) (stands.logs k held)
+                ap (λ (x : Bool). if x then s.logs k ++ entry ∷ [] else s.logs j) t ∙ ap (λ (log : List Entry). log ++ entry ∷ []) (stands.logs k held)
                 ∙ sym added ∙ ap (logged logs) (sym is)
             | inr other ↦
                 let t : (j == k) ≡ false = ne_eqb j k other in
-                ap (λ (x : Bool). if x then s.logs k ++ block ∷ [] else s.logs j) t ∙ stands.logs j has ∙ sym (others j other)
+                ap (λ (x : Bool). if x then s.logs k ++ entry ∷ [] else s.logs j) t ∙ stands.logs j has ∙ sym (others j other)
           ]
 
 -- ---- a free of what a name stands for
-module _ (f : Profile) (text : List ℕ) (old : Judge) (from : Cursor) (k name : ℕ) (within : IsWithin text from) (act : Act) (frees : FreesNamed f act k name) where
-  named_as : (block : Option (Option Name)) → block ≡ meant old.names name → (s : Stand) → Stands f old s from → begun_act f s act ≡ freeing_named f s k name block
-  named_as block is s stands = frees s ∙ ap (freeing_named f s k name) (stands.names name ∙ sym is)
+module _ (f : Profile) (text : List ℕ) (old : Judge) (from : Cursor) (k name room : ℕ) (within : IsWithin text from) (act : Act) (frees : FreesNamed f act k name room) where
+  named_as : (block : Option (Option Name)) → block ≡ meant old.names name → (s : Stand) → Stands f old s from → begun_act f s act ≡ freeing_named f s k name room block
+  named_as block is s stands = frees s ∙ ap (freeing_named f s k name room) (stands.names name ∙ sym is)
 
   pub unasked_freed : None ≡ meant old.names name → ActTaken f text old from old from act true
   unasked_freed is = nothing_begun f text old from act within (named_as None is)
@@ -495,7 +496,7 @@ module _ (f : Profile) (text : List ℕ) (old : Judge) (from : Cursor) (k name :
       → ActTaken f text old from old to act is
   refused_freed is to taken led = spoken f text old from k within act (Said.Skipped name) (named_as (Some None) is) to taken led
 
-  pub given_freed : (block : Name) → Some (Some block) ≡ meant old.names name → FreesBlock f old from act k block
+  pub given_freed : (block : Name) → Some (Some block) ≡ meant old.names name → FreesEntry f old from act k (entry_of block room)
   given_freed block is = named_as (Some (Some block)) is
 
 -- ---- an operation

@@ -89,8 +89,8 @@ module _ (f : Profile) (limit : ℕ) (valid : IsValid f) (few : limit ≤ 2 ^ 32
   task_fits : (k : ℕ) (asked : List ℕ) (task : Task) → k < 2 ^ 8 → MatchOption (request_of task) (Unit {0}) (λ r. r.name < limit) → IsSoundTask f asked task
       → MatchOption (request_of task) (Unit {0}) (λ r. FitsRequest f k r)
   task_fits k asked (Task.Request name heap size align) small below sound = request_fits f k name heap size align valid sound.0 small (omega (arith, below, few))
-  task_fits k asked (Task.Free name) small below sound = tt
-  task_fits k asked (Task.FreeRaw block) small below sound = tt
+  task_fits k asked (Task.Free name room) small below sound = tt
+  task_fits k asked (Task.FreeRaw block room) small below sound = tt
   task_fits k asked Task.Flush small below sound = tt
   task_fits k asked Task.Stop small below sound = tt
 

@@ -10,13 +10,14 @@ use Rattle.pas_report.specs.declared.record.Said.{Said}
 use Rattle.pas_trace.specs.Acts.{Act, Operates, Settles, Ticks, MakesPass, ReadsEpoch, StopsIdle, MarksPhase, Wakes, MarksClose, Ends}
 use Rattle.pas_trace.specs.Named.{standing_for}
 use Rattle.pas_trace.specs.declared.plan.What.{What}
-use Rattle.pas_trace.specs.declared.plan.What.TheVariants.{Alloc, Free, Raw, Flush, Stop, Tick, Pass, Idle}
-use Rattle.pas_check.specs.Begins.{after_task, begun_act, begun_from, begun_what, entries_due, flushing, freeing, freeing_at, freeing_named, is_aligned, is_page, logging, past_outcomes, settled_with, stopping, tells}
+use Rattle.pas_trace.specs.declared.plan.What.TheVariants.{Alloc, Free, FreeSized, Raw, RawSized, Flush, Stop, Tick, Pass, Idle}
+use Rattle.pas_check.specs.Begins.{after_task, begun_act, begun_from, begun_what, entries_due, entry_of, flushing, freeing, freeing_at, freeing_named, is_aligned, is_page, logging, past_outcomes, settled_with, stopping, tells, unsized}
 use Rattle.pas_check.specs.Bounds.{FitsNext}
 use Rattle.pas_check.specs.Calls.{IsFollowed, outcome_in}
 use Rattle.pas_check.specs.Checks.{AllFit, FitsAct, FitsWhat, IsThread}
 use Rattle.pas_check.specs.States.{Due, Writes, Task, Does, Reports, Stand}
 use Rattle.pas_check.specs.Takes.{IsOutcome}
+use Rattle.pas_check.specs.declared.entry.Entry.{Entry}
 use Rattle.pas_check.proofs.Beginnings.{begins_no_pass}
 use Rattle.pas_check.proofs.Examinings.{outcome_is}
 
@@ -30,9 +31,9 @@ record IsBegun (f : Profile) (s b : Stand) : Type 0 where
   events : b.events ≡ s.events
   epoch : b.epoch < 2 ^ 64
 
-entries_fit : (f : Profile) (k : ℕ) (log : List Name) (more : List Due) → IsThread k → FitsNext f more → FitsNext f (entries_due k log ++ more)
+entries_fit : (f : Profile) (k : ℕ) (log : List Entry) (more : List Due) → IsThread k → FitsNext f more → FitsNext f (entries_due k log ++ more)
 entries_fit f k [] more thread fits = fits
-entries_fit f k (name ∷ log) more thread fits = (thread.1, inl thread.0)
+entries_fit f k (entry ∷ log) more thread fits = (thread.1, inl thread.0)
 
 module _ (f : Profile) (s : Stand) (due : s.due ≡ []) (small : s.epoch < 2 ^ 64) where
   same : IsBegun f s s
@@ -41,30 +42,32 @@ module _ (f : Profile) (s : Stand) (due : s.due ≡ []) (small : s.epoch < 2 ^ 6
   said : (k : ℕ) (words : Said) → IsThread k → IsBegun f s (tells s k words)
   said k words thread = record { fits = inl thread; events = refl; epoch = small }
 
-  flushes : (k : ℕ) (log : List Name) (more : List Due) → IsThread k → FitsNext f more → IsBegun f s (flushing s k log more)
+  flushes : (k : ℕ) (log : List Entry) (more : List Due) → IsThread k → FitsNext f more → IsBegun f s (flushing s k log more)
   flushes k log more thread fits = record { fits = entries_fit f k (s.logs k) more thread fits; events = refl; epoch = small }
 
-  logs : (full : Bool) (k : ℕ) (name : Name) → IsThread k → IsBegun f s (logging full s k name)
-  logs true k name thread = flushes k (name ∷ []) [] thread tt
-  logs false k name thread = record { fits = subst (FitsNext f) (sym due) tt; events = refl; epoch = small }
+  logs : (full : Bool) (k : ℕ) (entry : Entry) → IsThread k → IsBegun f s (logging full s k entry)
+  logs true k entry thread = flushes k (entry ∷ []) [] thread tt
+  logs false k entry thread = record { fits = subst (FitsNext f) (sym due) tt; events = refl; epoch = small }
 
-  frees_at : (inside aligned : Bool) (k : ℕ) (name : Name) → IsThread k → IsBegun f s (freeing_at inside aligned s k name)
-  frees_at false aligned k name thread = said k (Said.Outside name) thread
-  frees_at true false k name thread = said k (Said.Unaligned name) thread
-  frees_at true true k name thread = logs (nat_le 64 (length (s.logs k))) k name thread
+  frees_at : (inside aligned : Bool) (k : ℕ) (entry : Entry) → IsThread k → IsBegun f s (freeing_at inside aligned s k entry)
+  frees_at false aligned k entry thread = said k (Said.Outside entry.name) thread
+  frees_at true false k entry thread = said k (Said.Unaligned entry.name) thread
+  frees_at true true k entry thread = logs (nat_le 64 (length (s.logs k))) k entry thread
 
-  frees : (k : ℕ) (name : Name) → IsThread k → IsBegun f s (freeing f s k name)
-  frees k name thread = frees_at (is_page f (address_of name / 4096)) (is_aligned name) k name thread
+  frees : (k : ℕ) (entry : Entry) → IsThread k → IsBegun f s (freeing f s k entry)
+  frees k entry thread = frees_at (is_page f (address_of entry.name / 4096)) (is_aligned entry.name) k entry thread
 
-  frees_named : (k name : ℕ) (block : Option (Option Name)) → IsThread k → IsBegun f s (freeing_named f s k name block)
-  frees_named k name None thread = same
-  frees_named k name (Some None) thread = said k (Said.Skipped name) thread
-  frees_named k name (Some (Some block)) thread = frees k block thread
+  frees_named : (k name room : ℕ) (block : Option (Option Name)) → IsThread k → IsBegun f s (freeing_named f s k name room block)
+  frees_named k name room None thread = same
+  frees_named k name room (Some None) thread = said k (Said.Skipped name) thread
+  frees_named k name room (Some (Some block)) thread = frees k (entry_of block room) thread
 
   operates : (k : ℕ) (what : What) → IsThread k → FitsWhat f k what → IsBegun f s (begun_what f s k what)
   operates k (Alloc name heap size align) thread fits = record { fits = fits; events = refl; epoch = small }
-  operates k (Free name) thread fits = frees_named k name (standing_for s.names name) thread
-  operates k (Raw block) thread fits = frees k block thread
+  operates k (Free name) thread fits = frees_named k name 0 (standing_for s.names name) thread
+  operates k (FreeSized name room) thread fits = frees_named k name room (standing_for s.names name) thread
+  operates k (Raw block) thread fits = frees k (unsized block) thread
+  operates k (RawSized room block) thread fits = frees k (entry_of block room) thread
   operates k Flush thread fits = flushes k [] [] thread tt
   operates k Stop thread fits = flushes k [] [] thread tt
   operates k (Tick e) thread fits = same

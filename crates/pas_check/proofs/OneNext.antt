@@ -164,7 +164,7 @@ one_outcome f s small last more line a b x y =
 pub one_next : (f : Profile) (s : Stand) → IsSmall f s → (due : List Due) → FitsFirst f due → (line : List ℕ) (a b : Stand) → TakesDue f s due line a → TakesDue f s due line b → a ≡ b
 one_next f s small [] fits line a b x y = absurd x
 one_next f s small (Writes item ∷ more) fits line a b x y = x.1 ∙ sym y.1
-one_next f s small (Frees k name ∷ more) fits line a b x y = x.next_is ∙ ap (λ e. with_due (with_one s e) more) (one_event s k name x.event y.event x.of_entry y.of_entry) ∙ sym y.next_is
+one_next f s small (Frees k entry ∷ more) fits line a b x y = x.next_is ∙ ap (λ e. with_due (with_one s e) more) (one_event s k entry x.event y.event x.of_entry y.of_entry) ∙ sym y.next_is
 one_next f s small (Serves k r ∷ more) fits line a b x y = one_request f s small k r fits more line a b x y
 one_next f s small (Examines page ∷ more) fits line a b x y = one_outcome f s small page more line a b x y
 one_next f s small (Heads ∷ more) fits line a b x y = x.1 ∙ sym y.1

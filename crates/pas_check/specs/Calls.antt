@@ -13,7 +13,7 @@ use Rattle.pas_profile.specs.Requests.{room_in}
 use Rattle.pas_bits.specs.Runs.{in_run}
 use Rattle.pas_profile.specs.Blocks.{address_of, grain_of, length_of}
 use Rattle.pas_machine.specs.State.{deed_in}
-use Rattle.pas_machine.specs.Machine.{Admits}
+use Rattle.pas_machine.specs.Machine.{Admits, HasOtherRoom}
 use Rattle.pas_machine.specs.Machines.{profile_of, StandsFor}
 use Rattle.pas_machine.specs.declared.machine.Machine.{Machine}
 use Rattle.pas_trace.specs.declared.item.Request.{Request}
@@ -21,9 +21,10 @@ use Rattle.pas_check.specs.Begins.{begun_from, entries_due, past_outcomes}
 use Rattle.pas_check.specs.Bounds.{FitsNext, FitsRequest, IsKept, IsSmall}
 use Rattle.pas_check.specs.Leading.{Fails, Leads}
 use Rattle.pas_check.specs.States.{Due, Examines, Serves, Stand, with_due, with_name, with_one}
-use Rattle.pas_check.specs.Takes.{IsFor, IsRefusal, MayCome, NamesNoRoom, TakesEntry, TakesGive, TakesOutcome, TakesPreparing, TakesRefusal, after_outcome, directory_of}
+use Rattle.pas_check.specs.Takes.{IsFor, IsRefusal, MayCome, MayRefuse, TakesEntry, TakesGive, TakesOutcome, TakesPreparing, TakesRefusal, after_outcome, directory_of}
 use Rattle.pas_check.specs.declared.cutting.Cursor.{Cursor}
 use Rattle.pas_check.specs.declared.examining.Examined.{Examined}
+use Rattle.pas_check.specs.declared.entry.Entry.{Entry}
 use Rattle.pas_check.specs.declared.serving.Wanted.{Wanted}
 
 -- the event of a record
@@ -39,19 +40,32 @@ IsStepped old new e true = (es : List Event) → StandsFor old es → Admits (pr
 IsStepped old new e false = (new ≡ old) × ((es : List Event) → StandsFor old es → Admits (profile_of old) es e → ⊥)
 
 -- ---- an entry
--- the end of the name by actor k, or a refusal of it that names no room
-abbrev pub MayAnswer : ℕ → Name → ℕ → Event → Type 0
-MayAnswer k name epoch e = (e ≡ Event.End k name epoch) ⊎ ((why : Why) × NamesNoRoom why × (e ≡ Event.Reject k name why))
+-- the end of the entry's name by actor k, or a refusal of it for a reason that the entry may have
+abbrev pub MayAnswer : ℕ → Entry → ℕ → Event → Type 0
+MayAnswer k entry epoch e = (e ≡ Event.End k entry.name epoch) ⊎ ((why : Why) × MayRefuse entry why × (e ≡ Event.Reject k entry.name why))
+
+-- the entry names a room, and the block of its name lives with another one
+abbrev pub Differs : List Event → Entry → Type 0
+Differs es entry = (0 < entry.room) × HasOtherRoom es entry.name entry.room
+
+-- .. which the event doesn't heed: it is the end of the name
+abbrev pub IsHeedless : List Event → Entry → Event → Type 0
+IsHeedless es entry (Event.Deed k page d) = ⊥
+IsHeedless es entry (Event.Back k page) = ⊥
+IsHeedless es entry (Event.Unback k page epoch) = ⊥
+IsHeedless es entry (Event.Give k block) = ⊥
+IsHeedless es entry (Event.End k name epoch) = Differs es entry
+IsHeedless es entry (Event.Reject k name why) = ⊥
 
 -- The line is that of the entry, wherever the machine stands for what stood before, and it stands for what stands after it; or no line of the entry is
 -- this one, and the machine is as it was.
-abbrev pub EntryTaken : Machine → Machine → ℕ → Name → ℕ → List ℕ → Bool → Type 0
-EntryTaken old new k name epoch line true = (s : Stand) (more : List Due) → StandsFor old s.events → s.epoch ≡ epoch
-    → (e : Event) × TakesEntry (profile_of old) s k name more line (with_due (with_one s e) more) × StandsFor new (e ∷ s.events)
-EntryTaken old new k name epoch line false = (new ≡ old) × ((s : Stand) (more : List Due) (next : Stand) → StandsFor old s.events → s.epoch ≡ epoch → TakesEntry (profile_of old) s k name more line next → ⊥)
+abbrev pub EntryTaken : Machine → Machine → ℕ → Entry → ℕ → List ℕ → Bool → Type 0
+EntryTaken old new k entry epoch line true = (s : Stand) (more : List Due) → StandsFor old s.events → s.epoch ≡ epoch
+    → (e : Event) × TakesEntry (profile_of old) s k entry more line (with_due (with_one s e) more) × StandsFor new (e ∷ s.events)
+EntryTaken old new k entry epoch line false = (new ≡ old) × ((s : Stand) (more : List Due) (next : Stand) → StandsFor old s.events → s.epoch ≡ epoch → TakesEntry (profile_of old) s k entry more line next → ⊥)
 
 -- The lines of so many entries lead from where the entries of the log are due to where those that are left are; or one of them can't be taken.
-abbrev pub EntriesTaken : Machine → Machine → List ℕ → Cursor → Cursor → ℕ → List Name → List Name → ℕ → Bool → Type 0
+abbrev pub EntriesTaken : Machine → Machine → List ℕ → Cursor → Cursor → ℕ → List Entry → List Entry → ℕ → Bool → Type 0
 EntriesTaken old new text from to k log left epoch true = (s : Stand) (more : List Due) → StandsFor old s.events → s.epoch ≡ epoch → IsKept s from
     → s.due ≡ entries_due k log ++ more
     → (t : Stand) × Leads (profile_of old) text s from t to × (t ≡ record s { events = t.events; due = entries_due k left ++ more }) × StandsFor new t.events × IsKept t to

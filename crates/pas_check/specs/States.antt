@@ -9,6 +9,7 @@ use Rattle.pas_trace.specs.declared.plan.Plan.{Plan}
 use Rattle.pas_trace.specs.Acts.{Act, acts_of}
 use Rattle.pas_trace.specs.Named.{Named}
 use Rattle.pas_trace.specs.declared.item.Request.{Request}
+use Rattle.pas_check.specs.declared.entry.Entry.{Entry}
 
 -- ---- what is due
 -- What the next lines are to answer. `Writes`: the line of just this record. `Frees`: the line of an entry of thread k's log. `Serves`: those of a request of
@@ -16,7 +17,7 @@ use Rattle.pas_trace.specs.declared.item.Request.{Request}
 -- as there are. The report: its head, the line of each page with a deed, which has this directory, and the line of the totals.
 pub data Due : Type 0 where
   Writes : Record → Due
-  Frees : ℕ → Name → Due
+  Frees : ℕ → Entry → Due
   Serves : ℕ → Request → Due
   Examines : ℕ → Due
   Heads : Due
@@ -38,7 +39,7 @@ with_at table k value j = if j == k then value else table j
 pub record Stand : Type 0 where
   pub events : List Event
   pub names : List Named
-  pub logs : ℕ → List Name
+  pub logs : ℕ → List Entry
   pub idle_since : ℕ → ℕ
   pub epoch : ℕ
   pub due : List Due

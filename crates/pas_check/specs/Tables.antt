@@ -5,6 +5,7 @@ use Rattle.pas_trace.specs.Named.{Named, standing_for}
 use Rattle.pas_check.specs.declared.naming.Meaning.{Meaning}
 use Rattle.pas_check.specs.declared.naming.Meaning.TheVariants.{Unasked, Refused, Given}
 use Rattle.pas_check.specs.declared.naming.Names.{Names}
+use Rattle.pas_check.specs.declared.entry.Entry.{Entry}
 use Rattle.pas_check.specs.declared.logging.Logs.{Logs}
 
 -- what a name stands for; None where no request had it
@@ -25,12 +26,12 @@ abbrev pub AreNamed : Names → List Named → Type 0
 AreNamed names list = (name : ℕ) → standing_for list name ≡ meant names name
 
 -- ---- the logs
--- thread k's names, of which there are counts k from the place 64 k on
-abbrev pub log_of : List Name → List ℕ → ℕ → List Name
-log_of names counts k = take (slice_index counts k) (drop (64 * k) names)
+-- thread k's entries, of which there are counts k from the place 64 k on
+abbrev pub log_of : List Entry → List ℕ → ℕ → List Entry
+log_of entries counts k = take (slice_index counts k) (drop (64 * k) entries)
 
-abbrev pub logged : Logs → ℕ → List Name
-logged logs k = log_of logs.names.items logs.counts.items k
+abbrev pub logged : Logs → ℕ → List Entry
+logged logs k = log_of logs.entries.items logs.counts.items k
 
 -- how many logs there are
 abbrev pub logs_held : Logs → ℕ

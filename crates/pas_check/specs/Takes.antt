@@ -23,23 +23,24 @@ use Rattle.pas_report.specs.declared.record.Said.{Said}
 use Rattle.pas_trace.specs.declared.item.Request.{Request}
 use Rattle.pas_check.specs.States.{Due, Writes, Frees, Serves, Examines, Heads, Shows, Totals, Stand, with_due, with_one, with_name}
 use Rattle.pas_check.specs.Begins.{ready}
+use Rattle.pas_check.specs.declared.entry.Entry.{Entry}
 
 -- ---- an entry of a log
--- a reason for which the end of a name is refused, where no room was named with it
-abbrev pub NamesNoRoom : Why → Type 0
-NamesNoRoom Why.Ended = Unit {0}
-NamesNoRoom Why.NoBlock = Unit {0}
-NamesNoRoom (Why.SizeDiffers room) = ⊥
+-- A reason for which the end of an entry may be refused. That the block's room differs is one only where the entry names a room, and it tells that room.
+abbrev pub MayRefuse : Entry → Why → Type 0
+MayRefuse entry Why.Ended = Unit {0}
+MayRefuse entry Why.NoBlock = Unit {0}
+MayRefuse entry (Why.SizeDiffers asked) = (0 < entry.room) × (asked ≡ entry.room)
 
--- Its event is the refusal with the true reason, and where there is none the end with the greatest tick so far. The entry names no room.
-abbrev pub IsEventOf : Stand → ℕ → Name → Event → Type 0
-IsEventOf s k name e =
-    ((why : Why) × NamesNoRoom why × IsReason s.events name why × (e ≡ Event.Reject k name why))
-    ⊎ (((why : Why) → NamesNoRoom why → IsReason s.events name why → ⊥) × (e ≡ Event.End k name s.epoch))
+-- Its event is the refusal with the true reason, and where there is none the end with the greatest tick so far.
+abbrev pub IsEventOf : Stand → ℕ → Entry → Event → Type 0
+IsEventOf s k entry e =
+    ((why : Why) × MayRefuse entry why × IsReason s.events entry.name why × (e ≡ Event.Reject k entry.name why))
+    ⊎ (((why : Why) → MayRefuse entry why → IsReason s.events entry.name why → ⊥) × (e ≡ Event.End k entry.name s.epoch))
 
-pub record TakesEntry (f : Profile) (s : Stand) (k : ℕ) (name : Name) (more : List Due) (line : List ℕ) (next : Stand) : Type 0 where
+pub record TakesEntry (f : Profile) (s : Stand) (k : ℕ) (entry : Entry) (more : List Due) (line : List ℕ) (next : Stand) : Type 0 where
   pub event : Event
-  pub of_entry : IsEventOf s k name event
+  pub of_entry : IsEventOf s k entry event
   pub admitted : Admits f s.events event
   pub line_is : line ≡ line_of_event event
   pub next_is : next ≡ with_due (with_one s event) more
@@ -158,7 +159,7 @@ head_line = codes "report\n"
 abbrev pub TakesDue : Profile → Stand → List Due → List ℕ → Stand → Type 0
 TakesDue f s [] line next = ⊥
 TakesDue f s (Writes item ∷ more) line next = IsJust s (line_of item) more line next
-TakesDue f s (Frees k name ∷ more) line next = TakesEntry f s k name more line next
+TakesDue f s (Frees k entry ∷ more) line next = TakesEntry f s k entry more line next
 TakesDue f s (Serves k r ∷ more) line next = TakesRequest f s k r more line next
 TakesDue f s (Examines page ∷ more) line next = TakesOutcome f s page more line next
 TakesDue f s (Heads ∷ more) line next = IsJust s head_line more line next
@@ -169,7 +170,7 @@ TakesDue f s (Totals ∷ more) line next = IsJust s (total_line f s.events) more
 abbrev pub TakesFirst : Profile → Stand → List Due → List ℕ → Stand → Type 0
 TakesFirst f s [] line next = ⊥
 TakesFirst f s (Writes item ∷ more) line next = ⊥
-TakesFirst f s (Frees k name ∷ more) line next = ⊥
+TakesFirst f s (Frees k entry ∷ more) line next = ⊥
 TakesFirst f s (Serves k r ∷ more) line next = ⊥
 TakesFirst f s (Examines page ∷ more) line next = TakesOutcome f s page more line next
 TakesFirst f s (Heads ∷ more) line next = ⊥

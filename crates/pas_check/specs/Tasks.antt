@@ -1,6 +1,5 @@
 -- What the acts of a replay do to what a check keeps.
 use Rattle.std.specs.Prelude.{ℕ, ◌^◌, ◌<◌, ◌≡◌, Bool, true, false, List, [], ◌∷◌, length, slice_index}
-use Rattle.pas_profile.specs.declared.name.Name.{Name}
 use Rattle.pas_profile.specs.declared.profile.Profile.{Profile}
 use Rattle.pas_machine.specs.Machines.{profile_of, StandsFor}
 use Rattle.pas_trace.specs.Acts.{Act, MakesPass}
@@ -14,6 +13,7 @@ use Rattle.pas_check.specs.States.{Due, Serves, Task, Does, Stand, with_due}
 use Rattle.pas_check.specs.Tables.{AreNamed, logged, logs_held}
 use Rattle.pas_check.specs.declared.acting.Judge.{Judge}
 use Rattle.pas_check.specs.declared.cutting.Cursor.{Cursor}
+use Rattle.pas_check.specs.declared.entry.Entry.{Entry}
 
 -- the judge stands for the state, at the cursor
 pub record Stands (f : Profile) (judge : Judge) (s : Stand) (at : Cursor) : Type 0 where
@@ -42,19 +42,19 @@ ActTaken f text old from new to act false = (s : Stand) (ts : List Task) → IsN
 abbrev pub Flushes : Profile → Act → ℕ → Type 0
 Flushes f act k = (s : Stand) → begun_act f s act ≡ flushing s k [] []
 
--- an act that only frees the block, by thread k, where the judge stands for the state
-abbrev pub FreesBlock : Profile → Judge → Cursor → Act → ℕ → Name → Type 0
-FreesBlock f judge at act k block = (s : Stand) → Stands f judge s at → begun_act f s act ≡ freeing f s k block
+-- an act that only frees by the entry, by thread k, where the judge stands for the state
+abbrev pub FreesEntry : Profile → Judge → Cursor → Act → ℕ → Entry → Type 0
+FreesEntry f judge at act k entry = (s : Stand) → Stands f judge s at → begun_act f s act ≡ freeing f s k entry
 
--- an act that only frees what the name of the trace stands for
-abbrev pub FreesNamed : Profile → Act → ℕ → ℕ → Type 0
-FreesNamed f act k name = (s : Stand) → begun_act f s act ≡ freeing_named f s k name (standing_for s.names name)
+-- an act that only frees what the name of the trace stands for, and names this room
+abbrev pub FreesNamed : Profile → Act → ℕ → ℕ → ℕ → Type 0
+FreesNamed f act k name room = (s : Stand) → begun_act f s act ≡ freeing_named f s k name room (standing_for s.names name)
 
--- where thread k's log is being emptied, and has these names afterwards, when this is due
-abbrev pub emptying : Stand → ℕ → List Name → List Due → List Task → Stand
+-- where thread k's log is being emptied, and has these entries afterwards, when this is due
+abbrev pub emptying : Stand → ℕ → List Entry → List Due → List Task → Stand
 emptying s k log more ts = record (flushing s k log more) { left = ts }
 
-abbrev pub LogEmptied : Profile → List ℕ → Judge → Cursor → Judge → Cursor → ℕ → List Name → Bool → Type 0
+abbrev pub LogEmptied : Profile → List ℕ → Judge → Cursor → Judge → Cursor → ℕ → List Entry → Bool → Type 0
 LogEmptied f text old from new to k log true = (s : Stand) (more : List Due) (ts : List Task) → Stands f old s from
     → (t : Stand) × Leads f text (emptying s k log more ts) from t to × Stands f new t to × (t.due ≡ more) × (t.left ≡ ts)
 LogEmptied f text old from new to k log false = (s : Stand) (more : List Due) (ts : List Task) → Stands f old s from → Fails f text (emptying s k log more ts) from to.lines

@@ -12,11 +12,12 @@ ghost use Rattle.pas_check.specs.Calls.{IsWanted};
 ghost use Rattle.pas_check.specs.Checks.{IsSizedAs};
 ghost use Rattle.pas_check.specs.Leading.{IsWithin, StaysWithin};
 ghost use Rattle.pas_check.specs.Tables.{logs_held, names_held};
-ghost use Rattle.pas_check.specs.Tasks.{ActTaken, Asks, Flushes, FreesBlock, FreesNamed, LogEmptied, PassTaken};
+ghost use Rattle.pas_check.specs.Tasks.{ActTaken, Asks, Flushes, FreesEntry, FreesNamed, LogEmptied, PassTaken};
 ghost use Rattle.pas_check.specs.declared.cutting.Cursor.{Cursor as TheCursor};
 
 use crate::cutting::Cursor;
 use crate::emptying::take_entries;
+use crate::entry::Entry;
 use crate::examining::take_outcomes;
 use crate::following::take_record;
 use crate::logging::Logs;
@@ -132,18 +133,18 @@ fn empty_log(judge: &mut Judge, text: &[u8], cursor: &mut Cursor, k: u8) -> Resu
     }
 }
 
-/// Takes the lines of the entries of the thread's log, which has just this name from then on.
+/// Takes the lines of the entries of the thread's log, which has just this entry from then on.
 fn refill_log(
     judge: &mut Judge,
     text: &[u8],
     cursor: &mut Cursor,
     k: u8,
-    block: Name,
+    entry: Entry,
 ) -> Result<bool, NoMemory>
     requires within { IsWithin text.now cursor.old }
     requires short { length text.now ≤ 16777216 }
     requires held { k < logs_held judge.old.logs }
-    ensures taken { IfOk result (λ taken. (f : Profile) → LogEmptied f text.now judge.old cursor.old judge.new cursor.new k (block ∷ []) taken) }
+    ensures taken { IfOk result (λ taken. (f : Profile) → LogEmptied f text.now judge.old cursor.old judge.new cursor.new k (entry ∷ []) taken) }
     ensures within { IfOk result (StaysWithin text.now cursor.new) }
     ensures sized { IfOk result (λ taken. IsSizedAs judge.old judge.new) }
 {
@@ -157,7 +158,7 @@ fn refill_log(
     ) {
         Ok(true) => {
             judge.logs.clear(k);
-            judge.logs.add(k, block);
+            judge.logs.add(k, entry);
             Ok(true)
         }
         Ok(false) => Ok(false),
@@ -172,23 +173,24 @@ fn is_at_grain(block: Name) -> bool
     block.address.0 % 16 == 0
 }
 
-/// Takes the lines of an act that frees the block: what is said of a name outside of the region or at no grain, or the lines of a full log that is emptied
-/// before the name is logged; otherwise there are none.
-pub(crate) fn free_block(
+/// Takes the lines of an act that frees by the entry: what is said of a name outside of the region or at no grain, or the lines of a full log that is emptied
+/// before the entry is logged; otherwise there are none.
+pub(crate) fn free_entry(
     judge: &mut Judge,
     text: &[u8],
     cursor: &mut Cursor,
     k: u8,
-    block: Name,
+    entry: Entry,
 ) -> Result<bool, NoMemory>
     requires within { IsWithin text.now cursor.old }
     requires short { length text.now ≤ 16777216 }
     requires held { k < logs_held judge.old.logs }
-    ensures taken { IfOk result (λ taken. (f : Profile) (act : Act) → FreesBlock f judge.old cursor.old act k block
+    ensures taken { IfOk result (λ taken. (f : Profile) (act : Act) → FreesEntry f judge.old cursor.old act k entry
         → ActTaken f text.now judge.old cursor.old judge.new cursor.new act taken) }
     ensures within { IfOk result (StaysWithin text.now cursor.new) }
     ensures sized { IfOk result (λ taken. IsSizedAs judge.old judge.new) }
 {
+    let block = entry.name;
     if !judge.machine.has_page(block.address.0 / 4096) {
         let outside = take_record(text, cursor, &Record::Said(k, Said::Outside { block }));
         return Ok(outside);
@@ -198,25 +200,26 @@ pub(crate) fn free_block(
         return Ok(unaligned);
     }
     if judge.logs.is_full(k) {
-        return refill_log(judge, text, cursor, k, block);
+        return refill_log(judge, text, cursor, k, entry);
     }
-    judge.logs.add(k, block);
+    judge.logs.add(k, entry);
     Ok(true)
 }
 
-/// Takes the lines of an act that frees what the name of the trace stands for: those of a free of its block, or what is said of a name whose request was
-/// refused. Where no request had the name there are none.
+/// Takes the lines of an act that frees what the name of the trace stands for, and names this room, or none where it is 0: those of a free of its block, or
+/// what is said of a name whose request was refused. Where no request had the name there are none.
 pub(crate) fn free_named(
     judge: &mut Judge,
     text: &[u8],
     cursor: &mut Cursor,
     k: u8,
     name: u32,
+    room: u32,
 ) -> Result<bool, NoMemory>
     requires within { IsWithin text.now cursor.old }
     requires short { length text.now ≤ 16777216 }
     requires held { k < logs_held judge.old.logs }
-    ensures taken { IfOk result (λ taken. (f : Profile) (act : Act) → FreesNamed f act k name → ActTaken f text.now judge.old cursor.old judge.new cursor.new act taken) }
+    ensures taken { IfOk result (λ taken. (f : Profile) (act : Act) → FreesNamed f act k name room → ActTaken f text.now judge.old cursor.old judge.new cursor.new act taken) }
     ensures within { IfOk result (StaysWithin text.now cursor.new) }
     ensures sized { IfOk result (λ taken. IsSizedAs judge.old judge.new) }
 {
@@ -226,7 +229,7 @@ pub(crate) fn free_named(
             let skipped = take_record(text, cursor, &Record::Said(k, Said::Skipped { name }));
             Ok(skipped)
         }
-        Some(Some(block)) => free_block(judge, text, cursor, k, block),
+        Some(Some(name)) => free_entry(judge, text, cursor, k, Entry { name, room }),
     }
 }
 
@@ -357,8 +360,12 @@ pub(crate) fn operate(
             let wanted = wanted_for(&judge.machine.profile(), name, heap, size, align);
             request(judge, text, cursor, k, wanted)
         }
-        What::Free { name } => free_named(judge, text, cursor, k, name),
-        What::Raw { block } => free_block(judge, text, cursor, k, block),
+        What::Free { name } => free_named(judge, text, cursor, k, name, 0),
+        What::FreeSized { name, room } => free_named(judge, text, cursor, k, name, room),
+        What::Raw { block: name } => free_entry(judge, text, cursor, k, Entry { name, room: 0 }),
+        What::RawSized { room, block: name } => {
+            free_entry(judge, text, cursor, k, Entry { name, room })
+        }
         What::Flush | What::Stop => flush(judge, text, cursor, k),
         What::Tick(_) | What::Pass | What::Idle(_) => Ok(true),
     }

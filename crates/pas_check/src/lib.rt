@@ -6,6 +6,7 @@ mod awake;
 mod checking;
 mod cutting;
 mod emptying;
+pub mod entry;
 mod examining;
 mod following;
 pub mod laws;

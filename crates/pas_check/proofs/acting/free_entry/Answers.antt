@@ -3,34 +3,34 @@ use Rattle.std.proofs.lemmas.Bool.{leb-false}
 use Rattle.pas_profile.specs.declared.profile.Profile.{Profile}
 use Rattle.pas_trace.specs.Acts.{Act}
 use Rattle.pas_check.specs.Tables.{logged}
-use Rattle.pas_check.specs.Tasks.{ActTaken, FreesBlock, LogEmptied}
+use Rattle.pas_check.specs.Tasks.{ActTaken, FreesEntry, LogEmptied}
 use Rattle.pas_check.proofs.Actings.{freed_full, freed_logged, freed_outside, freed_unaligned}
 use Rattle.pas_check.proofs.Takings.{if_ok}
-use Rattle.pas_check.proofs.acting.free_block.Goals as goal
+use Rattle.pas_check.proofs.acting.free_entry.Goals as goal
 
 pub returns-then-not-has_page-clause-taken : goal.returns-then-not-has_page-clause-taken
 returns-then-not-has_page-clause-taken c = λ f act frees.
-    freed_outside f c.args.text.now c.args.judge.now c.args.cursor.now c.args.k c.args.block c.requires.within act frees c.if-not-has_page.ensures
+    freed_outside f c.args.text.now c.args.judge.now c.args.cursor.now c.args.k c.args.entry c.requires.within act frees c.if-not-has_page.ensures
     c.take_record-outside.new.cursor c.take_record-outside.result (c.take_record-outside.ensures.led f)
 
 pub returns-then-not-is_at_grain-clause-taken : goal.returns-then-not-is_at_grain-clause-taken
 returns-then-not-is_at_grain-clause-taken c = λ f act frees.
-    freed_unaligned f c.args.text.now c.args.judge.now c.args.cursor.now c.args.k c.args.block c.requires.within act frees c.if-not-has_page.ensures c.if-not-is_at_grain.ensures
+    freed_unaligned f c.args.text.now c.args.judge.now c.args.cursor.now c.args.k c.args.entry c.requires.within act frees c.if-not-has_page.ensures c.if-not-is_at_grain.ensures
     c.take_record-unaligned.new.cursor c.take_record-unaligned.result (c.take_record-unaligned.ensures.led f)
 
 pub returns-then-is_full-clause-taken : goal.returns-then-is_full-clause-taken
 returns-then-is_full-clause-taken c =
     if_ok c.refill_log.result (λ (taken : Bool). (f : Profile)
-    → LogEmptied f c.args.text.now c.args.judge.now c.args.cursor.now c.refill_log.new.judge c.refill_log.new.cursor c.args.k (c.args.block ∷ []) taken)
-    (λ (taken : Bool). (f : Profile) (act : Act) → FreesBlock f c.args.judge.now c.args.cursor.now act c.args.k c.args.block
+    → LogEmptied f c.args.text.now c.args.judge.now c.args.cursor.now c.refill_log.new.judge c.refill_log.new.cursor c.args.k (c.args.entry ∷ []) taken)
+    (λ (taken : Bool). (f : Profile) (act : Act) → FreesEntry f c.args.judge.now c.args.cursor.now act c.args.k c.args.entry
     → ActTaken f c.args.text.now c.args.judge.now c.args.cursor.now c.refill_log.new.judge c.refill_log.new.cursor act taken)
-    (λ taken emptied f act frees. freed_full f c.args.text.now c.args.judge.now c.args.cursor.now c.args.k c.args.block c.requires.within act frees
+    (λ taken emptied f act frees. freed_full f c.args.text.now c.args.judge.now c.args.cursor.now c.args.k c.args.entry c.requires.within act frees
     c.if-not-has_page.ensures c.if-not-is_at_grain.ensures c.requires.held
     c.if-is_full.ensures c.refill_log.new.judge c.refill_log.new.cursor taken (emptied f)) c.refill_log.ensures.taken
 
 pub returns-clause-taken : goal.returns-clause-taken
 returns-clause-taken c = λ f act frees.
-    freed_logged f c.args.text.now c.args.judge.now c.args.cursor.now c.args.k c.args.block c.requires.within act frees c.if-not-has_page.ensures
+    freed_logged f c.args.text.now c.args.judge.now c.args.cursor.now c.args.k c.args.entry c.requires.within act frees c.if-not-has_page.ensures
     c.if-not-is_at_grain.ensures c.requires.held
     c.if-is_full.ensures c.add.new.self c.add.ensures.added c.add.ensures.others c.add.ensures.held
 
