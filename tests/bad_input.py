@@ -29,11 +29,12 @@ SHAPES = {
     b"phase": [],
     b"fs": ["thread", "name", "size", "align"],
     b"rs": ["thread", "address", "turn", "size", "align"],
+    b"m": ["thread", "name", "old", "size", "align"],
 }
-SINCE = {b"fs": 2, b"rs": 2}
+SINCE = {b"fs": 2, b"rs": 2, b"m": 4}
 
 # The most pages of each version.
-PAGES = {1: 4096, 2: 4096, 3: 16384}
+PAGES = {1: 4096, 2: 4096, 3: 16384, 4: 16384}
 
 
 def number_of(word):
@@ -48,7 +49,7 @@ def value_of(shape, word):
     if shape == "address":
         return int(word, 16) if re.fullmatch(rb"0x[0-9a-f]{8}", word) else None
     number = number_of(word)
-    limits = {"name": range(1, 1_000_001), "epoch": range(1 << 40), "turn": range((1 << 40) - 1)}
+    limits = {"name": range(1, 1_000_001), "old": range(1, 1_000_001), "epoch": range(1 << 40), "turn": range((1 << 40) - 1)}
     return number if number is not None and (shape not in limits or number in limits[shape]) else None
 
 
@@ -76,17 +77,18 @@ class Reader:
         self.records = threads * pages
 
     def cost(self, kind, has):
-        if kind == b"a":
-            return 2 if has["size"] <= 2048 else 1 + -(-has["size"] // 4096)
+        if kind in (b"a", b"m"):
+            return (2 if has["size"] <= 2048 else 1 + -(-has["size"] // 4096)) + (kind == b"m")
         return {b"f": 1, b"r": 1, b"fs": 1, b"rs": 1, b"tick": 1, b"pass": 1 + self.pages, b"idle": self.threads}.get(kind, 0)
 
     def name_fault(self, kind, has):
-        if kind == b"a" and has["name"] in self.asked:
+        if kind in (b"a", b"m") and has["name"] in self.asked:
             return "NameTaken"
-        if kind in (b"f", b"fs"):
-            if has["name"] not in self.asked:
+        if kind in (b"f", b"fs", b"m"):
+            freed = has["old" if kind == b"m" else "name"]
+            if freed not in self.asked:
                 return "NameUnknown"
-            thread, phase = self.asked[has["name"]]
+            thread, phase = self.asked[freed]
             if thread != has["thread"] and phase == self.phase:
                 return "TooEarly"
         return None
@@ -119,7 +121,7 @@ class Reader:
             return None
         self.operations += 1
         self.records += self.cost(kind, has)
-        if kind == b"a":
+        if kind in (b"a", b"m"):
             self.asked[has["name"]] = (has["thread"], self.phase)
         if self.operations > MOST_OPERATIONS:
             return "TooManyOps"
@@ -191,6 +193,16 @@ LATER_BAD = {
         "NameUnknown": [b"fs 1 9 24 16", b"fs 2 1000000 24 16"],
         "TooEarly": [b"fs 2 3 24 16"],
     },
+    4: {
+        "BadWord": [b"m 1 9 3 24", b"m 1 9 3 24 16 0", b"M 1 9 3 24 16"],
+        "BadNumber": [b"m 1 0 3 24 16", b"m 1 9 0 24 16", b"m 1 9 1000001 24 16", b"m 1 09 3 24 16", b"m x 3 9 16385 8", b"m 1 9 3 24 18446744073709551616"],
+        "BadThread": [b"m 0 3 9 16385 8", b"m 3 9 3 24 16"],
+        "BadSize": [b"m 1 3 9 16385 8", b"m 2 9 3 18446744073709551615 16"],
+        "BadAlign": [b"m 1 3 9 24 8", b"m 2 9 3 24 8192"],
+        "NameTaken": [b"m 1 3 9 24 16", b"m 2 1 3 24 16", b"m 1 3 3 24 16"],
+        "NameUnknown": [b"m 1 9 8 24 16", b"m 2 9 9 24 16"],
+        "TooEarly": [b"m 2 9 3 24 16"],
+    },
 }
 
 # Lines at the border of a limit, all of them good behind GOOD.
@@ -203,6 +215,7 @@ LATER_BORDER = {
     2: [
         b"fs 1 3 0 16", b"fs 1 3 16384 4096", b"fs 2 1 24 16", b"rs 1 0xffffffff 1099511627774 16384 4096", b"rs 2 0x00001000 0 0 16", b" fs  1 1 40 16 ",
     ],
+    4: [b"m 1 1000000 3 0 16", b"m 1 9 3 16384 4096", b"m 2 8 1 2049 16", b" m  2 7 2 24 16 "],
 }
 
 HEADERS = {
@@ -298,6 +311,10 @@ def long_texts():
     yield sized + b"rs 1 0x00001000 0 24 16\n" * ticks
     yield sized + b"rs 1 0x00001000 0 24 16\n" * (ticks + 1)
     yield header(2) + b"flush 1\n" * MOST_OPERATIONS + b"rs 1 0x00001000 0 24 16\n"
+    moved = b"pas 4" + whole[5:] + b"a 1 1 0 24 16\n" + b"pass\n" * 487
+    for left in (3, 2):
+        yield moved + b"tick 1\n" * (ticks - 2 - left) + b"m 1 2 1 24 16\n"
+    yield header(4) + b"a 1 1 0 24 16\n" + b"flush 1\n" * (MOST_OPERATIONS - 1) + b"m 1 2 1 24 16\n"
 
 
 def main():

@@ -9,7 +9,7 @@ use Rattle.pas_trace.specs.Asked.{work_of, of_task, request_of, freed_of, reques
 use Rattle.pas_trace.specs.EveryPlan.{is_asked, asked_with, asked_after, asked_by, AreSound, IsSoundTask, IsSoundWork, IsActorBy, IsThread}
 use Rattle.pas_trace.specs.EveryPhase.{FreesItsOwn}
 use Rattle.pas_trace.specs.declared.plan.What.{What}
-use Rattle.pas_trace.specs.declared.plan.What.TheVariants.{Alloc}
+use Rattle.pas_trace.specs.declared.plan.What.TheVariants.{Alloc, Remake}
 use Rattle.pas_trace.specs.declared.item.Request.{Request}
 use Rattle.pas_trace.specs.declared.plan.Task.{Task}
 use Rattle.pas_trace.specs.declared.plan.Work.{Work}
@@ -58,9 +58,10 @@ smaller_if false what few many small n none = small n (not_before what many n no
 
 fit_task : (f : Profile) (limit : ℕ) (few many : List ℕ) (task : Task) → IsSmaller few many → IsSoundTask f many task → MatchOption (request_of task) (Unit {0}) (λ r. r.name < limit) → MatchOption (freed_of task) (Unit {0}) (λ n. is_asked few n ≡ true)
     → IsFitTask f limit few task
-fit_task f limit few many (Task.Request name heap size align) small sound below frees = (below, sound.0, small name sound.1)
-fit_task f limit few many (Task.Free name room) small sound below frees = (frees, sound.1)
-fit_task f limit few many task small sound below frees = sound
+fit_task f limit few many (Task.Request name heap size align) small sound below frees = (below, (sound.0, small name sound.1))
+fit_task f limit few many (Task.Free name room) small sound below frees = (below, (frees, sound.1))
+fit_task f limit few many (Task.Remake name old heap size align) small sound below frees = (below, (sound.0, small name sound.1, frees))
+fit_task f limit few many task small sound below frees = (below, sound)
 
 fit_work : (f : Profile) (limit k : ℕ) (few many : List ℕ) (work : Work) → 1 ≤ k → IsSmaller few many → IsActorBy f work k → IsSoundWork f many work → MatchOption (of_task request_of work) (Unit {0}) (λ r. r.name < limit)
     → MatchOption (of_task freed_of work) (Unit {0}) (λ n. is_asked few n ≡ true) → IsThread f k × IsFitWork f limit few work
@@ -85,6 +86,7 @@ own_fit f limit k few many (op ∷ ops) some small sound below frees =
 -- ---- there is room for its requests
 few_asked : (what : What) → length (name_asked what) ≤ cost_of_what what
 few_asked (Alloc name heap size align) = let one = some_cost size in omega (arith, one)
+few_asked (Remake name old heap size align) = omega arith
 few_asked what = omega arith
 
 pub own_asked : (k : ℕ) (ops : List Op) → length (names_asked (own_acts k ops)) ≤ own_costs_of k (own_acts k ops)

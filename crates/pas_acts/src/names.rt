@@ -88,13 +88,13 @@ impl Request {
 }
 
 impl NameBook {
-    ghost use Rattle.std.specs.Prelude.{◌≡◌, ◌<◌, ◌^◌, ◌==◌, ℕ, List, [], None, if◌then◌else◌, IfOk, length};
+    ghost use Rattle.std.specs.Prelude.{◌≡◌, ◌<◌, ◌^◌, ◌==◌, ℕ, List, [], ◌∷◌, None, if◌then◌else◌, IfOk, MatchOption, length};
     ghost use Rattle.pas_profile.specs.declared.profile.Profile.{Profile as TheProfile};
     ghost use Rattle.pas_trace.specs.EveryPlan.{AreSound};
     ghost use Rattle.pas_answers.specs.Fit.{AreBelow};
     ghost use Rattle.pas_answers.specs.Names.{block_in, block_named, names_held};
     ghost use Rattle.pas_trace.specs.Acts.{own_acts};
-    ghost use Rattle.pas_acts.specs.NameBooks.{requests_in, room_for, names_of, names_asked, place_in, ArePlaced, AreWithin, known_in};
+    ghost use Rattle.pas_acts.specs.NameBooks.{requests_in, room_for, names_of, name_asked, names_asked, place_in, ArePlaced, AreWithin, known_in};
 
     /// No name stands for a block. There is room for the names below the limit.
     pub fn try_new(alloc: Global, limit: usize) -> Result<NameBook, NoMemory>
@@ -146,6 +146,18 @@ impl NameBook {
         self.names.set(name, meaning.block());
     }
 
+    /// The name that an operation asks for, if any.
+    #[inline(always)]
+    fn asked_name(op: Op) -> Option<u32>
+        ensures { MatchOption result (name_asked op.what ≡ []) (λ name. name_asked op.what ≡ name ∷ []) }
+    {
+        match op.what {
+            What::Alloc { name, .. } => Some(name),
+            What::Remake { name, .. } => Some(name),
+            _ => None,
+        }
+    }
+
     /// Notes the places of the names that are asked for in a phase of these operations. One look at each operation.
     pub fn note(&mut self, ops: &[Op])
         requires few { length ops.now < 2 ^ 32 }
@@ -156,9 +168,12 @@ impl NameBook {
     {
         let mut counts = Counts::new();
         for op in ops {
-            if let What::Alloc { name, .. } = op.what {
-                let place = counts.add(op.actor);
-                self.set_place(name, place);
+            match NameBook::asked_name(*op) {
+                Some(name) => {
+                    let place = counts.add(op.actor);
+                    self.set_place(name, place);
+                }
+                None => {}
             }
         }
     }

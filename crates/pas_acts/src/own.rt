@@ -12,6 +12,7 @@ ghost use Rattle.pas_acts.specs.Works.{keeps, Later, ThreadAt, Works};
 use crate::at_desk;
 use crate::gate::Gate;
 use crate::names::{NameBook, Request, Requests};
+use pas_answers::Remake;
 use pas_cache::ThreadCache;
 use pas_large::Door;
 use pas_profile::Block;
@@ -19,7 +20,7 @@ use pas_report::Records;
 use pas_steps::Desk;
 use pas_trace::{Op, Task, Work};
 
-/// What the name that the task frees stands for to the thread.
+/// What the name that the task frees or reallocates stands for to the thread.
 #[inline(always)]
 fn freed(book: &NameBook, requests: &Requests, task: Task) -> Option<Block>
     requires { ArePlaced book.now 0 (names_of (requests_in requests.now)) }
@@ -27,6 +28,7 @@ fn freed(book: &NameBook, requests: &Requests, task: Task) -> Option<Block>
 {
     match task {
         Task::Free { name, .. } => book.meaning(requests, name),
+        Task::Remake { old, .. } => book.meaning(requests, old),
         _ => None,
     }
 }
@@ -40,16 +42,18 @@ fn keep(requests: &mut Requests, task: Task, came: Option<Block>)
 {
     match task {
         Task::Request { name, .. } => requests.push(Request::of(name, came)),
+        Task::Remake { name, .. } => requests.push(Request::of(name, came)),
         _ => {}
     }
 }
 
 /// Performs an operation of the desk's thread, of which none is a chore. Its name is looked up and kept in book and requests.
-fn operate<D: Desk, O: Door>(
+fn operate<D: Desk, O: Door, M: Remake>(
     desk: &mut D,
     door: &mut O,
     book: &NameBook,
     cache: &mut ThreadCache,
+    remaker: &M,
     requests: &mut Requests,
     op: Op,
     out: &mut Records,
@@ -61,17 +65,18 @@ fn operate<D: Desk, O: Door>(
 {
     if let Work::Own(task) = op.work() {
         let meant = freed(book, requests, task);
-        let came = at_desk::operate(desk, door, cache, task, meant, out);
+        let came = at_desk::operate(desk, door, cache, remaker, task, meant, out);
         keep(requests, task, came);
     }
 }
 
 /// Performs the operations of the desk's thread among those of a phase, in order, with the gate called round each.
-pub fn work<D: Desk, O: Door, G: Gate>(
+pub fn work<D: Desk, O: Door, G: Gate, M: Remake>(
     desk: &mut D,
     door: &mut O,
     book: &NameBook,
     cache: &mut ThreadCache,
+    remaker: &M,
     requests: &mut Requests,
     ops: &[Op],
     gate: &G,
@@ -91,7 +96,7 @@ pub fn work<D: Desk, O: Door, G: Gate>(
         if op.actor == actor {
             number += 1;
             gate.before(actor, number);
-            operate(desk, door, book, cache, requests, *op, out);
+            operate(desk, door, book, cache, remaker, requests, *op, out);
             gate.after(actor, number);
         }
     }

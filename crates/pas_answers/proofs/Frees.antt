@@ -24,7 +24,7 @@ use Rattle.pas_cache.specs.Calls.{TakesEntry, RefusesName, Frees, FlushesLog, St
 use Rattle.pas_answers.specs.Answers.{Named, standing_for, said_of_fault, entry_with, IsFreedBy}
 use Rattle.pas_answers.specs.Calls.{what_of, block_behind, IsMeant, IsKnown, owed_events, MayPerform, PerformsMeant, FreesOne}
 use Rattle.pas_answers.specs.Fit.{IsFitTask, IsFitWork, IsFitWhat, cost_of_work}
-use Rattle.pas_answers.specs.Indexes.{IsNamedFor}
+use Rattle.pas_answers.specs.Indexes.{IsNamedFor, request_made}
 use Rattle.pas_answers.proofs.Kept.{task_of}
 use Rattle.pas_answers.proofs.OwedEvents.{full_events}
 use Rattle.pas_cache.proofs.Budget.{emptied_events}
@@ -32,7 +32,7 @@ use Rattle.pas_steps.proofs.Unknown.{unknown_stays}
 
 -- ---- a free
 -- the events of the flush of a full log, and what is owed with the name in the log
-taken_few : (f : Profile) (k : ℕ) (c c' : Cached) (entry : Entry) (steps : List Made) (v : View) → TakesEntry f k c c' entry steps → Agreed f v steps
+pub taken_few : (f : Profile) (k : ℕ) (c c' : Cached) (entry : Entry) (steps : List Made) (v : View) → TakesEntry f k c c' entry steps → Agreed f v steps
     → length (events_by k v steps) + 0 + owed_events f c' (steps ++ v) ≤ 1 + owed_events f c v
 taken_few f k c c' entry steps v takes agreed =
     let events = full_events (nat_le 64 (length c.log)) k c.log takes.logs.kept c.noted c'.noted steps v takes.logs.emptied in
@@ -76,22 +76,23 @@ can_log {σ} {task} c task' block spare is one can =
 pub fits_task : (f : Profile) (limit : ℕ) (asked : List ℕ) {task : Task} (task' : Task) → task ≡ task' → IsFitWhat f limit asked (what_of task) → IsFitTask f limit asked task'
 fits_task f limit asked {task} task' is fit = subst (λ (w : Work). IsFitWork f limit asked w) (task_of task ∙ ap (λ (t : Task). Work.Own t) is) fit
 
--- a task that is no request asks no door
-pub not_asked : (f : Profile) (Answers : ℕ → ℕ → Option ℕ → Type 0) (Same : Type 0) (task : Task) (found : Option ℕ) → request_of task ≡ None → Same → IsNamedFor f Answers Same (what_of task) found
-not_asked f Answers Same (Task.Request name heap size align) found none same = absurd cc
-not_asked f Answers Same (Task.Free name None) found none same = same
-not_asked f Answers Same (Task.Free name (Some room)) found none same = same
-not_asked f Answers Same (Task.FreeRaw block None) found none same = same
-not_asked f Answers Same (Task.FreeRaw block (Some room)) found none same = same
-not_asked f Answers Same Task.Flush found none same = same
-not_asked f Answers Same Task.Stop found none same = same
+-- a task without a new name asks no door
+pub not_asked : (f : Profile) (Answers : ℕ → ℕ → Option ℕ → Type 0) (Same : Type 0) (task : Task) (meant : Option Block) (found : Option ℕ) → request_of task ≡ None → Same → IsNamedFor f Answers Same (request_made (what_of task) meant) found
+not_asked f Answers Same (Task.Request name heap size align) meant found none same = absurd cc
+not_asked f Answers Same (Task.Free name None) meant found none same = same
+not_asked f Answers Same (Task.Free name (Some room)) meant found none same = same
+not_asked f Answers Same (Task.FreeRaw block None) meant found none same = same
+not_asked f Answers Same (Task.FreeRaw block (Some room)) meant found none same = same
+not_asked f Answers Same (Task.Remake name old heap size align) meant found none same = absurd cc
+not_asked f Answers Same Task.Flush meant found none same = same
+not_asked f Answers Same Task.Stop meant found none same = same
 
 -- ---- a free by a name of the trace
 -- a name that was asked for stands for what is meant
 behind : (o : Option (Option Block)) (b : Option Block) → o ≡ Some b → block_behind o ≡ b
 behind o b is = ap block_behind is
 
-stands_for : (names : List Named) (name : ℕ) (block : Option Block) → IsMeant names (Free name) block → IsKnown names (Free name) → standing_for names name ≡ Some block
+pub stands_for : (names : List Named) (name : ℕ) (block : Option Block) → block_behind (standing_for names name) ≡ block → (b : Option Block) × (standing_for names name ≡ Some b) → standing_for names name ≡ Some block
 stands_for names name block means known = known.1 ∙ ap (λ b. Some b) (sym (behind (standing_for names name) known.0 known.1) ∙ means)
 
 -- the name that is freed stands for the block

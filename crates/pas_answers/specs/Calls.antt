@@ -10,7 +10,7 @@ use Rattle.pas_steps.specs.declared.step.Made.{Made}
 use Rattle.pas_trace.specs.Asked.{request_in, freed_in}
 use Rattle.pas_trace.specs.EveryPlan.{is_asked}
 use Rattle.pas_trace.specs.declared.plan.What.{What}
-use Rattle.pas_trace.specs.declared.plan.What.TheVariants.{Alloc, Free, FreeSized, Raw, RawSized, Flush, Stop}
+use Rattle.pas_trace.specs.declared.plan.What.TheVariants.{Alloc, Free, FreeSized, Raw, RawSized, Remake, Flush, Stop}
 use Rattle.pas_trace.specs.declared.plan.Task.{Task}
 use Rattle.pas_trace.specs.declared.item.Request.{Request}
 use Rattle.pas_report.specs.Rooms.{records_in, room_of, Records}
@@ -37,6 +37,7 @@ what_of (Task.Free name None) = Free name
 what_of (Task.Free name (Some room)) = FreeSized name room
 what_of (Task.FreeRaw block None) = Raw block
 what_of (Task.FreeRaw block (Some room)) = RawSized room block
+what_of (Task.Remake name old heap size align) = Remake name old heap size align
 what_of Task.Flush = Flush
 what_of Task.Stop = Stop
 
@@ -73,11 +74,11 @@ AreKnown asked names = (n : ℕ) → is_asked asked n ≡ true → (block : Opti
 abbrev pub OnlyAsked : List ℕ → List Named → Type 0
 OnlyAsked asked names = (n : ℕ) → is_asked asked n ≡ false → standing_for names n ≡ None
 
--- a name that is freed was asked for
+-- a name that is freed or reallocated was asked for
 abbrev pub IsKnown : List Named → What → Type 0
 IsKnown names what = MatchOption (freed_in what) (Unit {0}) (λ name. (block : Option Block) × (standing_for names name ≡ Some block))
 
--- the name that the operation frees stands for this
+-- the name that the operation frees or reallocates stands for this
 abbrev pub IsMeant : List Named → What → Option Block → Type 0
 IsMeant names what meant = MatchOption (freed_in what) (Unit {0}) (λ name. block_behind (standing_for names name) ≡ meant)
 
@@ -89,7 +90,7 @@ named_with (Some request) came = named request.name came ∷ []
 abbrev pub named_by : What → Option Block → List Named
 named_by what came = named_with (request_in what) came
 
--- what the name that the operation frees stands for, by what each name stands for
+-- what the name that the operation frees or reallocates stands for, by what each name stands for
 abbrev pub freed_by : (ℕ → Option Block) → What → Option Block
 freed_by block what = option_and_then block (freed_in what)
 

@@ -8,3 +8,4 @@ pub mod Replays
 pub mod Fit
 pub mod Names
 pub mod Calls
+pub mod Moves

@@ -1,5 +1,5 @@
 //! One operation of a thread.
-ghost use Rattle.std.specs.Prelude.{◌≡◌, ◌+◌, ◌-◌, ◌^◌, ◌≤◌, ◌<◌, ◌++◌, true, false, ℕ, List, Option, None, length, map, drop};
+ghost use Rattle.std.specs.Prelude.{◌≡◌, ◌+◌, ◌-◌, ◌^◌, ◌≤◌, ◌<◌, ◌++◌, true, false, ℕ, List, Option, None, Some, length, map, drop};
 ghost use Rattle.pas_trace.specs.declared.plan.What.TheVariants as TheWhat;
 ghost use Rattle.pas_report.specs.Rooms.{records_in, room_of};
 ghost use Rattle.pas_steps.specs.Desks.{CanCall};
@@ -8,12 +8,13 @@ ghost use Rattle.pas_cache.specs.Calls.{Frees};
 ghost use Rattle.pas_trace.specs.EveryPlan.{IsRoomNamed};
 ghost use Rattle.pas_answers.specs.Answers.{said_of_room, entry_with};
 ghost use Rattle.pas_answers.specs.Fit.{IsFitWhat};
-ghost use Rattle.pas_answers.specs.Indexes.{IsNamedFor};
+ghost use Rattle.pas_answers.specs.Indexes.{IsNamedFor, request_made};
 ghost use Rattle.pas_profile.specs.Profiles.{IsAdmitted};
 ghost use Rattle.pas_profile.specs.declared.name.Block.{Block as TheBlock};
-ghost use Rattle.pas_answers.specs.Calls.{what_of, MayStand, MayPerform, PerformsMeant, FreesOne, MayAnswer, AnswersMeant};
+ghost use Rattle.pas_answers.specs.Calls.{what_of, IsBlockOf, MayStand, MayPerform, PerformsMeant, FreesOne, MayAnswer, AnswersMeant};
 
-use pas_cache::ThreadCache;
+use crate::remaking::Remake;
+use pas_cache::{Moved, ThreadCache};
 use pas_large::Door;
 use pas_profile::{Block, Event, FreeFault, Name, NoRoom};
 use pas_report::{Record, Records, Said};
@@ -57,7 +58,7 @@ fn allocate<D: Desk, O: Door>(
     requires admitted { IsAdmitted (D.standing desk.old).seat.profile size align heap }
     requires can { CanCall (D.standing desk.old) (MayPerform (D.standing desk.old).seat.profile (cached cache.old) (TheWhat.Alloc name heap size align) (D.spare_of desk.old)) }
     ensures performs { (meant : Option TheBlock) → (did : PerformsMeant (TheWhat.Alloc name heap size align) meant result.0 (cached cache.old) (cached cache.new) (D.standing desk.old) (D.standing desk.new) result.1)
-        × IsNamedFor (D.standing desk.old).seat.profile (O.answers door.old door.new) (door.new ≡ door.old) (TheWhat.Alloc name heap size align) did.found }
+        × IsNamedFor (D.standing desk.old).seat.profile (O.answers door.old door.new) (door.new ≡ door.old) (request_made (TheWhat.Alloc name heap size align) meant) did.found }
     ensures stands { MayStand (D.standing desk.old).seat.profile result.0 }
     ensures home { D.home desk.new ≡ D.home desk.old }
 {
@@ -106,12 +107,45 @@ fn free<D: Desk>(
     }
 }
 
-/// Does the task, of which the freed name stands for `meant`: what the asked name stands for from then on, and what is said besides its events.
-#[inline(always)]
-fn perform<D: Desk, O: Door>(
+/// Gives a block another size, under a new name: what that name stands for from then on, and what is said where the block is kept or the request refused.
+fn resize<D: Desk, O: Door, M: Remake>(
     desk: &mut D,
     door: &mut O,
     cache: &mut ThreadCache,
+    remaker: &M,
+    name: u32,
+    old: Block,
+    size: u32,
+    align: u32,
+) -> (Option<Block>, Option<Said>)
+    requires admitted { IsAdmitted (D.standing desk.old).seat.profile size align old.heap }
+    requires stands { IsBlockOf (D.standing desk.old).seat.profile old }
+    requires can { (n heap : ℕ) → CanCall (D.standing desk.old) (MayPerform (D.standing desk.old).seat.profile (cached cache.old) (TheWhat.Remake name n heap size align) (D.spare_of desk.old)) }
+    ensures performs { (n heap : ℕ) → (did : PerformsMeant (TheWhat.Remake name n heap size align) (Some old) result.0 (cached cache.old) (cached cache.new) (D.standing desk.old) (D.standing desk.new) result.1)
+        × IsNamedFor (D.standing desk.old).seat.profile (O.answers door.old door.new) (door.new ≡ door.old) (request_made (TheWhat.Remake name n heap size align) (Some old)) did.found }
+    ensures stands { MayStand (D.standing desk.old).seat.profile result.0 }
+    ensures home { D.home desk.new ≡ D.home desk.old }
+{
+    match remaker.remake(cache, desk, door, old, size, align) {
+        Ok(Moved::Kept) => (
+            Some(old),
+            Some(Said::Kept {
+                block: old.name,
+                name,
+            }),
+        ),
+        Ok(Moved::New(block)) => (Some(block), None),
+        Err(room) => (None, Some(refusal(name, room))),
+    }
+}
+
+/// Does the task, of which the freed or reallocated name stands for `meant`: what the asked name stands for from then on, and what is said besides its events.
+#[inline(always)]
+fn perform<D: Desk, O: Door, M: Remake>(
+    desk: &mut D,
+    door: &mut O,
+    cache: &mut ThreadCache,
+    remaker: &M,
     task: Task,
     meant: Option<Block>,
 ) -> (Option<Block>, Option<Said>)
@@ -119,7 +153,7 @@ fn perform<D: Desk, O: Door>(
     requires stands { MayStand (D.standing desk.old).seat.profile meant }
     requires can { CanCall (D.standing desk.old) (MayPerform (D.standing desk.old).seat.profile (cached cache.old) (what_of task) (D.spare_of desk.old)) }
     ensures performs { (did : PerformsMeant (what_of task) meant result.0 (cached cache.old) (cached cache.new) (D.standing desk.old) (D.standing desk.new) result.1)
-        × IsNamedFor (D.standing desk.old).seat.profile (O.answers door.old door.new) (door.new ≡ door.old) (what_of task) did.found }
+        × IsNamedFor (D.standing desk.old).seat.profile (O.answers door.old door.new) (door.new ≡ door.old) (request_made (what_of task) meant) did.found }
     ensures stands { MayStand (D.standing desk.old).seat.profile result.0 }
     ensures home { D.home desk.new ≡ D.home desk.old }
 {
@@ -135,6 +169,15 @@ fn perform<D: Desk, O: Door>(
             None => (None, Some(Said::Skipped { name })),
         },
         Task::FreeRaw { block, room } => (None, free(desk, cache, block, room)),
+        Task::Remake {
+            name,
+            size,
+            align,
+            ..
+        } => match meant {
+            Some(block) => resize(desk, door, cache, remaker, name, block, size, align),
+            None => (None, Some(Said::Skipped { name })),
+        },
         Task::Flush => {
             cache.flush(desk);
             (None, None)
@@ -146,14 +189,15 @@ fn perform<D: Desk, O: Door>(
     }
 }
 
-/// Does a thread's task, and adds its events and what is said to the records. `meant` is the block that the freed name of a `Task::Free` stands for, if
-/// any, and the result the block that the asked name of a `Task::Request` stands for from then on; None for every other task. A request for whole pages
-/// asks the door for a run first; nothing else asks it or changes it.
+/// Does a thread's task, and adds its events and what is said to the records. `meant` is the block that the name stands for which a `Task::Free` frees or a
+/// `Task::Remake` reallocates, if any, and the result the block that the asked name of a `Task::Request` or a `Task::Remake` stands for from then on; None for
+/// every other task. A request for whole pages asks the door for a run first; nothing else asks it or changes it.
 #[inline(always)]
-pub fn answer_meant<D: Desk, O: Door>(
+pub fn answer_meant<D: Desk, O: Door, M: Remake>(
     desk: &mut D,
     door: &mut O,
     cache: &mut ThreadCache,
+    remaker: &M,
     task: Task,
     meant: Option<Block>,
     out: &mut Records,
@@ -162,15 +206,26 @@ pub fn answer_meant<D: Desk, O: Door>(
     requires stands { MayStand (D.standing desk.old).seat.profile meant }
     requires can { CanCall (D.standing desk.old) (MayAnswer (D.standing desk.old).seat.profile (cached cache.old) (what_of task) (D.spare_of desk.old) out.old) }
     ensures answers { (did : AnswersMeant (what_of task) meant result (cached cache.old) (cached cache.new) out.old out.new (D.standing desk.old) (D.standing desk.new))
-        × IsNamedFor (D.standing desk.old).seat.profile (O.answers door.old door.new) (door.new ≡ door.old) (what_of task) did.performs.found }
+        × IsNamedFor (D.standing desk.old).seat.profile (O.answers door.old door.new) (door.new ≡ door.old) (request_made (what_of task) meant) did.performs.found }
     ensures stands { MayStand (D.standing desk.old).seat.profile result }
     ensures home { D.home desk.new ≡ D.home desk.old }
 {
     let before = desk.shown().len();
-    let (came, said) = perform(desk, door, cache, task, meant);
+    let (came, said) = perform(desk, door, cache, remaker, task, meant);
     push_events(desk.shown(), before, out);
     if let Some(said) = said {
         out.push(Record::Said(desk.actor(), said));
     }
     came
+}
+
+/// Does a thread's stop, and adds its events to the records. No door is asked.
+pub fn answer_stop<D: Desk>(desk: &mut D, cache: &mut ThreadCache, out: &mut Records)
+    requires can { CanCall (D.standing desk.old) (MayAnswer (D.standing desk.old).seat.profile (cached cache.old) TheWhat.Stop (D.spare_of desk.old) out.old) }
+    ensures answers { AnswersMeant TheWhat.Stop None None (cached cache.old) (cached cache.new) out.old out.new (D.standing desk.old) (D.standing desk.new) }
+    ensures home { D.home desk.new ≡ D.home desk.old }
+{
+    let before = desk.shown().len();
+    cache.stop(desk);
+    push_events(desk.shown(), before, out);
 }

@@ -7,7 +7,7 @@ use denote.RawPtr.{null_ptr}
 use Rattle.pas_profile.specs.declared.profile.Profile.{Profile}
 use Rattle.pas_trace.specs.declared.header.Header.{Header}
 use Rattle.pas_trace.specs.Wishes.{name_made, is_name}
-use Rattle.pas_trace.specs.Reasons.{is_named, record_bound}
+use Rattle.pas_trace.specs.Reasons.{is_named, heap_of, record_bound}
 use Rattle.pas_trace.specs.Plans.{parsed, shared_in, add_last, line_of_newest, phases_after, phases_in, bound_of, bounds_upto, ops_of, IsPlanOf}
 use Rattle.pas_trace.specs.declared.item.Item.{Item}
 use Rattle.pas_trace.specs.declared.item.Item.TheVariants.{Blank, Shares, NextPhase, Operates, Scavenges}
@@ -38,18 +38,18 @@ most-add n op [] h = (omega arith, tt)
 most-add n op (p ∷ []) h = (let le = h.0 in omega (arith, le, length-append p (op ∷ [])), tt)
 most-add n op (p ∷ q ∷ ps) h = (let le = h.0 in omega (arith, le), most-add n op (q ∷ ps) h.1)
 
-most-after : (f : Profile) (n line : ℕ) (i : Item) (ps : List (List Op)) → AtMost n ps → AtMost (n + 1) (phases_after f i line ps)
-most-after f n line Blank ps h = most-more n ps h
-most-after f n line (Shares a) ps h = most-more n ps h
-most-after f n line NextPhase ps h = most-next n ps h
-most-after f n line (Operates t w) ps h = most-add n _ ps h
-most-after f n line (Scavenges c) ps h = most-add n _ ps h
+most-after : (f : Profile) (heaps : ℕ → ℕ) (n line : ℕ) (i : Item) (ps : List (List Op)) → AtMost n ps → AtMost (n + 1) (phases_after f heaps i line ps)
+most-after f heaps n line Blank ps h = most-more n ps h
+most-after f heaps n line (Shares a) ps h = most-more n ps h
+most-after f heaps n line NextPhase ps h = most-next n ps h
+most-after f heaps n line (Operates t w) ps h = most-add n _ ps h
+most-after f heaps n line (Scavenges c) ps h = most-add n _ ps h
 
 most-in : (f : Profile) (items : List Item) → AtMost (length items) (phases_in f items)
 most-in f [] = (omega arith, tt)
 most-in f (i ∷ items) =
     let e : length items + 1 ≡ length (i ∷ items) = omega arith in
-    subst (λ n. AtMost n (phases_in f (i ∷ items))) e (most-after f (length items) (line_of_newest (i ∷ items)) i (phases_in f items) (most-in f items))
+    subst (λ n. AtMost n (phases_in f (i ∷ items))) e (most-after f (heap_of items) (length items) (line_of_newest (i ∷ items)) i (phases_in f items) (most-in f items))
 
 -- .. and there are few
 add-few : (op : Op) (ps : List (List Op)) → length (add_last (Some op) ps) ≤ length ps + 1
@@ -57,16 +57,16 @@ add-few op [] = omega arith
 add-few op (p ∷ []) = omega arith
 add-few op (p ∷ q ∷ ps) = omega (arith, add-few op (q ∷ ps))
 
-few-after : (f : Profile) (line : ℕ) (i : Item) (ps : List (List Op)) → length (phases_after f i line ps) ≤ length ps + 1
-few-after f line Blank ps = omega arith
-few-after f line (Shares a) ps = omega arith
-few-after f line NextPhase ps = omega (arith, length-append ps ([] ∷ []))
-few-after f line (Operates t w) ps = add-few _ ps
-few-after f line (Scavenges c) ps = add-few _ ps
+few-after : (f : Profile) (heaps : ℕ → ℕ) (line : ℕ) (i : Item) (ps : List (List Op)) → length (phases_after f heaps i line ps) ≤ length ps + 1
+few-after f heaps line Blank ps = omega arith
+few-after f heaps line (Shares a) ps = omega arith
+few-after f heaps line NextPhase ps = omega (arith, length-append ps ([] ∷ []))
+few-after f heaps line (Operates t w) ps = add-few _ ps
+few-after f heaps line (Scavenges c) ps = add-few _ ps
 
 few-in : (f : Profile) (items : List Item) → length (phases_in f items) ≤ length items + 1
 few-in f [] = omega arith
-few-in f (i ∷ items) = omega (arith, few-after f (line_of_newest (i ∷ items)) i (phases_in f items), few-in f items)
+few-in f (i ∷ items) = omega (arith, few-after f (heap_of items) (line_of_newest (i ∷ items)) i (phases_in f items), few-in f items)
 
 -- the phases with these operations
 held : Global → (n : ℕ) → n < 2 ^ 63 → (ps : List (List Op)) → AtMost n ps → List Phase

@@ -1,5 +1,6 @@
 -- THE WHOLE: what `pas order` prints for the bytes of a trace.
-use Rattle.std.specs.Prelude.{ℕ, ◌/◌, List, [], map, Option, None, Some, Result, Ok, Err}
+use Rattle.std.specs.Prelude.{ℕ, ◌/◌, Bool, true, false, List, [], map, Option, None, Some, Result, Ok, Err}
+use Rattle.pas_profile.specs.declared.name.Block.{Block}
 use Rattle.pas_profile.specs.Requests.{route_in, room_in}
 use Rattle.pas_profile.specs.declared.directory.Route.{Route}
 use Rattle.pas_profile.specs.declared.profile.Profile.{Profile}
@@ -9,8 +10,10 @@ use Rattle.pas_trace.specs.declared.plan.Op.{Op}
 use Rattle.pas_trace.specs.declared.plan.What.{What}
 use Rattle.pas_trace.specs.Plans.{Parsed, parsed, phases_in, shared_in}
 use Rattle.pas_report.specs.declared.record.Record.{Record}
+use Rattle.pas_report.specs.declared.record.Said.{Said}
 use Rattle.pas_trace.specs.Acts.{Act, numbers_from, acts_of}
-use Rattle.pas_one_text.specs.State.{World, each, no_cache, cache_of, set_cache, says}
+use Rattle.pas_answers.specs.Answers.{standing_for, suits}
+use Rattle.pas_one_text.specs.State.{World, each, no_cache, cache_of, set_cache, says, names_it}
 use Rattle.pas_one_text.specs.Indexes.{settles}
 use Rattle.pas_one_text.specs.Classes.{serves_class}
 use Rattle.pas_one_text.specs.Runs.{serves_bitfit, serves_pages}
@@ -25,6 +28,25 @@ serves f k name heap (Route.Class class) room align w = serves_class f k name he
 serves f k name heap Route.Bitfit room align w = serves_bitfit f k name heap room align w
 serves f k name heap Route.Large room align w = serves_pages f k name heap (room / 4096) w
 
+-- a reallocation gave another block for the name, and the old one is freed; or it was refused
+abbrev pub frees_old : Profile → ℕ → Block → Option (Option Block) → World → World
+frees_old f k old (Some (Some block)) w = frees f k (entry_of old.name) w
+frees_old f k old refused w = w
+
+abbrev pub replaces : Profile → ℕ → ℕ → Block → World → World
+replaces f k name old w = frees_old f k old (standing_for w.names name) w
+
+-- the block is kept, or another one of its heap is asked for
+abbrev pub remakes_block : Bool → Profile → ℕ → ℕ → Block → ℕ → ℕ → World → World
+remakes_block true f k name old size align w = names_it name (Some old) (says (Record.Said k (Said.Kept old.name name)) w)
+remakes_block false f k name old size align w = replaces f k name old (serves f k name old.heap (route_in f size align) (room_in f size align) align w)
+
+-- A REALLOCATION of what a name stands for, under a new name. Where its request was refused, the new name counts as refused too
+abbrev pub remakes : Profile → ℕ → ℕ → Option (Option Block) → ℕ → ℕ → World → World
+remakes f k name (Some (Some old)) size align w = remakes_block (suits old size align) f k name old size align w
+remakes f k name (Some None) size align w = names_it name None (says (Record.Said k (Said.Skipped name)) w)
+remakes f k name None size align w = w
+
 -- AN OPERATION
 abbrev pub operates : Profile → ℕ → What → World → World
 operates f k (What.Alloc name heap size align) w = serves f k name heap (route_in f size align) (room_in f size align) align w
@@ -32,6 +54,7 @@ operates f k (What.Free name) w = frees_named f k name 0 w
 operates f k (What.FreeSized name room) w = frees_named f k name room w
 operates f k (What.Raw block) w = frees f k (entry_of block) w
 operates f k (What.RawSized room block) w = frees f k (sized_entry block room) w
+operates f k (What.Remake name old heap size align) w = remakes f k name (standing_for w.names old) size align w
 operates f k What.Flush w = flushes f k w
 operates f k What.Stop w = stops f k w
 operates f k (What.Tick e) w = w

@@ -21,6 +21,7 @@ ghost use Rattle.pas_replay.specs.Sessions.{Replay, pass_in, hand_of, hand_at, s
 
 use pas_acts::at_desk::SCAVENGER;
 use pas_acts::{at_desk, turns};
+use pas_answers::Remake;
 use pas_answers::names::Names;
 use pas_cache::ThreadCache;
 use pas_large::PlainDoor;
@@ -97,13 +98,14 @@ fn change_seats(desk: &mut PlainDesk, passes: &mut Vec<Option<PlainPass>>, actor
     passes[place] = Some(risen);
 }
 
-/// What the name that the task frees stands for.
+/// What the name that the task frees or reallocates stands for.
 #[inline(always)]
 fn freed(names: &Names, task: Task) -> Option<Block>
     ensures { result ≡ option_and_then (block_named names.now) (freed_of task) }
 {
     match task {
         Task::Free { name, .. } => names.get(name),
+        Task::Remake { old, .. } => names.get(old),
         _ => None,
     }
 }
@@ -118,6 +120,7 @@ fn keep(names: &mut Names, task: Task, came: Option<Block>)
 {
     match task {
         Task::Request { name, .. } => names.set(name, came),
+        Task::Remake { name, .. } => names.set(name, came),
         _ => {}
     }
 }
@@ -136,10 +139,11 @@ pub(crate) fn wake(desk: &mut PlainDesk, actors: &mut Actors, actor: u8)
 }
 
 /// The desk's thread does the task, with the indexes as its door. This answers each operation of the thread that asks for the task.
-fn operate_by(
+fn operate_by<M: Remake>(
     desk: &mut PlainDesk,
     indexes: &mut [LargeIndex],
     cache: &mut ThreadCache,
+    remaker: &M,
     task: Task,
     meant: Option<Block>,
     out: &mut Records,
@@ -150,16 +154,17 @@ fn operate_by(
     ensures stands { MayStand (standing_of desk.old).seat.profile result }
 {
     let mut door = PlainDoor::new(indexes);
-    at_desk::operate(desk, &mut door, cache, task, meant, out)
+    at_desk::operate(desk, &mut door, cache, remaker, task, meant, out)
 }
 
 /// The thread of this number does the task, and its events and what is said come to the records. A request for whole pages asks the indexes, and they take
 /// the runs of large blocks that its cache noted. This answers each operation of the thread that asks for the task.
 #[inline(always)]
-pub(crate) fn operate(
+pub(crate) fn operate<M: Remake>(
     desk: &mut PlainDesk,
     actors: &mut Actors,
     names: &mut Names,
+    remaker: &M,
     actor: u8,
     task: Task,
     out: &mut Records,
@@ -174,7 +179,7 @@ pub(crate) fn operate(
     take_seat(desk, &mut actors.passes, actor);
     let cache = &mut actors.caches[actor as usize - 1];
     let meant = freed(names, task);
-    let came = operate_by(desk, &mut actors.indexes, cache, task, meant, out);
+    let came = operate_by(desk, &mut actors.indexes, cache, remaker, task, meant, out);
     keep(names, task, came);
 }
 

@@ -29,7 +29,7 @@ fn has_fault_after(alloc: Global, before: &[u8], line: &[u8], fault: Fault) -> b
 }
 
 /// First lines, and whether they are headers: the most pages of each version and one more, and versions that there are not.
-const HEADERS: [(&[u8], bool); 12] = [
+const HEADERS: [(&[u8], bool); 14] = [
     (b"pas 2 pages 4096 threads 16 heaps 32 age 1000000", true),
     (b"pas 2 pages 4097 threads 1 heaps 1 age 1", false),
     (b"pas 2 pages 16384 threads 1 heaps 1 age 1", false),
@@ -37,6 +37,8 @@ const HEADERS: [(&[u8], bool); 12] = [
     (b"pas 3 pages 1 threads 1 heaps 1 age 1", true),
     (b"pas 3 pages 16385 threads 1 heaps 1 age 1", false),
     (b"pas 3 pages 4 threads 17 heaps 1 age 1", false),
+    (b"pas 4 pages 16384 threads 16 heaps 32 age 1000000", true),
+    (b"pas 4 pages 16385 threads 1 heaps 1 age 1", false),
     (b"pas 0 pages 4 threads 1 heaps 1 age 1", false),
     (b"pas 5 pages 4 threads 1 heaps 1 age 1", false),
     (b"pas 02 pages 4 threads 1 heaps 1 age 1", false),
@@ -101,6 +103,85 @@ fn sized_frees_have_faults(rt: HostRuntime) {
     for (line, fault) in &SIZED_LINES {
         assert!(rt; has_fault_after(rt.alloc(), SIZED, line, *fault));
     }
+}
+
+/// Two lines of a trace of version 4.
+const MOVED: &[u8] = b"pas 4 pages 4 threads 2 heaps 2 age 2\na 1 1 1 24 16\n";
+
+/// The lines that reallocate, after these two lines, with each of their faults.
+const MOVED_LINES: [(&[u8], Fault); 20] = [
+    (b"m 1 2 1 32 16\n", None),
+    (b"m 1 1000000 1 0 4096\nf 1 1000000\n", None),
+    (b"m 1 2 1 16384 16\nm 1 3 2 16 16\n", None),
+    (b"phase\nm 2 2 1 24 16\n", None),
+    (b"m 1 2 1 24\n", Some((3, Reason::BadWord))),
+    (b"m 1 2 1 24 16 0\n", Some((3, Reason::BadWord))),
+    (b"m 1 0 1 24 16\n", Some((3, Reason::BadNumber))),
+    (b"m 1 2 0 24 16\n", Some((3, Reason::BadNumber))),
+    (b"m 1 2 1000001 24 16\n", Some((3, Reason::BadNumber))),
+    (b"m 3 1 9 16385 8\n", Some((3, Reason::BadThread))),
+    (b"m 1 1 9 16385 8\n", Some((3, Reason::BadSize))),
+    (b"m 1 1 9 24 8\n", Some((3, Reason::BadAlign))),
+    (b"m 1 1 9 24 16\n", Some((3, Reason::NameTaken))),
+    (b"m 2 1 1 24 16\n", Some((3, Reason::NameTaken))),
+    (b"m 1 2 9 24 16\n", Some((3, Reason::NameUnknown))),
+    (b"m 1 2 2 24 16\n", Some((3, Reason::NameUnknown))),
+    (b"m 2 2 1 24 16\n", Some((3, Reason::TooEarly))),
+    (
+        b"m 1 2 1 24 16\na 1 2 0 16 16\n",
+        Some((4, Reason::NameTaken)),
+    ),
+    (
+        b"phase\nm 2 2 1 24 16\nf 1 2\n",
+        Some((5, Reason::TooEarly)),
+    ),
+    (b"phase\nm 2 2 1 24 16\nfs 1 1 24 16\n", None),
+];
+
+#[test]
+fn reallocations_have_faults(rt: HostRuntime) {
+    for (line, fault) in &MOVED_LINES {
+        assert!(rt; has_fault_after(rt.alloc(), MOVED, line, *fault));
+    }
+}
+
+/// A block of heap 1 that is reallocated twice.
+const MOVED_TWICE: &[u8] =
+    b"pas 4 pages 4 threads 1 heaps 2 age 2\na 1 7 1 24 16\nm 1 8 7 40 16\nm 1 9 8 5000 64\n";
+
+/// The second time.
+const AGAIN: What = What::Remake {
+    name: 9,
+    old: 8,
+    heap: 1,
+    size: 5000,
+    align: 64,
+};
+
+/// Whether the plan has the second reallocation in the block's own heap, and the records of an allocation and one more for each.
+fn stays_in_heap(plan: &Plan) -> bool {
+    plan.version == 4
+        && plan.total == 13
+        && match plan.phases.as_slice() {
+            [phase] => match phase.as_slice() {
+                [_, _, op] => op.what == AGAIN,
+                _ => false,
+            },
+            _ => false,
+        }
+}
+
+/// Whether it is read as such.
+fn is_moved(alloc: Global) -> bool {
+    match read_trace(alloc, MOVED_TWICE) {
+        Ok(plan) => stays_in_heap(&plan),
+        Err(_) => false,
+    }
+}
+
+#[test]
+fn a_reallocation_stays_in_its_heap(rt: HostRuntime) {
+    assert!(rt; is_moved(rt.alloc()));
 }
 
 /// Lines of later versions in a text of version 1: a word that begins no line of the version is a bad one, whatever follows.

@@ -1,10 +1,10 @@
 -- What an item that passed its checks may do to the reader.
 use Rattle.std.proofs.Common.{◌≡◌, ℕ, ◌<◌, ◌≤◌, ◌==◌, true, if◌then◌else◌, List, None, Some, inl, inr, sym, ap, ◌∙◌, subst, arith}
 use Rattle.std.proofs.lemmas.Bool.{ltb-true, eq-eqb, ne_eqb, cases_eq}
-use Rattle.pas_trace.specs.Wishes.{name_made, is_name, IsFit}
+use Rattle.pas_trace.specs.Wishes.{name_made, heap_made, is_name, IsFit}
 use Rattle.pas_trace.specs.Reasons.{reason_of, cost_of, is_operation, actor_of}
 use Rattle.pas_trace.specs.Plans.{what_wished}
-use Rattle.pas_trace.specs.Told.{owner_in, Tells, IsReady, IsCounted, IsOperated}
+use Rattle.pas_trace.specs.Told.{owner_in, heap_told, Tells, IsReady, IsCounted, IsOperated}
 use Rattle.pas_trace.specs.declared.item.Item.{Item}
 use Rattle.pas_trace.specs.declared.item.Item.TheVariants.{Shares, Operates}
 use Rattle.pas_trace.specs.declared.item.Wish.{Wish}
@@ -43,19 +43,20 @@ eqb_sym m n = elim (cases_eq m n) [
   | inr other ↦ ne_eqb m n other ∙ sym (ne_eqb n m (λ e. other (sym e)))
 ]
 
-pub named : (old mid new : Reader) (names : Names) (t name : ℕ) (w : Wish) (what : What) (cost : ℕ) → Some name ≡ name_made w → what ≡ what_wished old.header.profile w → mid ≡ record old { names = names }
-    → ((n : ℕ) → owner_in names n ≡ (if n == name then record { thread = t; phase = old.phase } else owner_in old.names n)) → IsCounted mid new t what cost → IsOperated old new t w cost
-named old mid new names t name w what cost made is same given counted = record {
+pub named : (old mid new : Reader) (names : Names) (t name heap : ℕ) (w : Wish) (what : What) (cost : ℕ) → Some name ≡ name_made w → heap ≡ heap_made (heap_told old) w → what ≡ what_wished old.header.profile (heap_told old) w → mid ≡ record old { names = names }
+    → ((n : ℕ) → owner_in names n ≡ (if n == name then record { thread = t; heap = heap; phase = old.phase } else owner_in old.names n)) → IsCounted mid new t what cost → IsOperated old new t w cost
+named old mid new names t name heap w what cost made home is same given counted = record {
   names = names;
   given = λ n.
-      let owner : Owner = record { thread = t; phase = old.phase } in
-      given n ∙ ap (λ b. if b then owner else owner_in old.names n) (eqb_sym n name) ∙ ap (λ o. if is_name o n then owner else owner_in old.names n) made;
-  counted = subst (λ r. IsCounted r new t (what_wished old.header.profile w) cost) same (subst (λ x. IsCounted mid new t x cost) is counted);
+      let owner : Owner = record { thread = t; heap = heap; phase = old.phase } in
+      given n ∙ ap (λ b. if b then owner else owner_in old.names n) (eqb_sym n name) ∙ ap (λ o. if is_name o n then owner else owner_in old.names n) made
+      ∙ ap (λ h. if is_name (name_made w) n then record { thread = t; heap = h; phase = old.phase } else owner_in old.names n) home;
+  counted = subst (λ r. IsCounted r new t (what_wished old.header.profile (heap_told old) w) cost) same (subst (λ x. IsCounted mid new t x cost) is counted);
 }
 
-pub unnamed : (old mid new : Reader) (t : ℕ) (w : Wish) (what : What) (cost : ℕ) → None ≡ name_made w → what ≡ what_wished old.header.profile w → mid ≡ old → IsCounted mid new t what cost → IsOperated old new t w cost
+pub unnamed : (old mid new : Reader) (t : ℕ) (w : Wish) (what : What) (cost : ℕ) → None ≡ name_made w → what ≡ what_wished old.header.profile (heap_told old) w → mid ≡ old → IsCounted mid new t what cost → IsOperated old new t w cost
 unnamed old mid new t w what cost none is same counted = record {
   names = old.names;
-  given = λ n. ap (λ o. if is_name o n then record { thread = t; phase = old.phase } else owner_in old.names n) none;
-  counted = subst (λ r. IsCounted r new t (what_wished old.header.profile w) cost) same (subst (λ x. IsCounted mid new t x cost) is counted);
+  given = λ n. ap (λ o. if is_name o n then record { thread = t; heap = heap_made (heap_told old) w; phase = old.phase } else owner_in old.names n) none;
+  counted = subst (λ r. IsCounted r new t (what_wished old.header.profile (heap_told old) w) cost) same (subst (λ x. IsCounted mid new t x cost) is counted);
 }

@@ -70,8 +70,8 @@ no_header f bad = absurd (cc)
 words_valid : (ws : List (List ℕ)) (f : Header) → header_of_words ws ≡ Some f → IsValid f.profile
 words_valid (a ∷ b ∷ c ∷ d ∷ g ∷ h ∷ i ∷ j ∷ k ∷ m ∷ []) f e =
     let q = if_some (same_bytes a (codes "pas") && same_bytes c (codes "pages") && same_bytes g (codes "threads") && same_bytes i (codes "heaps") && same_bytes k (codes "age"))
-    (header_for (within 1 3 (number_of b)) d h j m) f e in
-    for_valid (within 1 3 (number_of b)) d h j m f q.1
+    (header_for (within 1 4 (number_of b)) d h j m) f e in
+    for_valid (within 1 4 (number_of b)) d h j m f q.1
 words_valid (a ∷ b ∷ c ∷ d ∷ g ∷ h ∷ i ∷ j ∷ k ∷ m ∷ n ∷ ws) f e = no_header f e
 words_valid s f e = no_header f e
 

@@ -9,7 +9,7 @@ use Rattle.pas_trace.specs.Items.{same_bytes, below, trace_name, epoch_word, tur
 use Rattle.pas_trace.specs.declared.fault.Reason.{Reason}
 use Rattle.pas_trace.specs.declared.item.Item.{Item}
 use Rattle.pas_trace.specs.declared.item.Item.TheVariants.{Shares, Operates, Scavenges}
-use Rattle.pas_trace.specs.declared.item.Wish.TheVariants.{Asks, Frees, FreesSized, FreesRaw, FreesRawSized, Flushes, Stops}
+use Rattle.pas_trace.specs.declared.item.Wish.TheVariants.{Asks, Frees, FreesSized, FreesRaw, FreesRawSized, Remakes, Flushes, Stops}
 use Rattle.pas_trace.specs.declared.plan.Chore.{Chore}
 
 -- a turn has a next one, and epochs are below 2^40
@@ -68,7 +68,8 @@ two_range started w a =
 six_range : (w a b c d e : List ℕ) → IfOk (item_of_six w a b c d e) IsInRange
 six_range w a b c d e =
     if_range (same_bytes w (codes "a")) _ _ (range5 (λ t n h s a. Operates t (Asks n h s a)) (number_of a) (trace_name b) (number_of c) (number_of d) (number_of e) (λ v w x y z is. tt))
-    (if_range (same_bytes w (codes "rs")) _ _ (range5 (λ t b n s a. Operates t (FreesRawSized b n s a)) (number_of a) (address_of_word b) (turn_word c) (number_of d) (number_of e) (λ v w x y z is. below_lt (2 ^ 40 - 1) x (number_of c) is)) tt)
+    (if_range (same_bytes w (codes "rs")) _ _ (range5 (λ t b n s a. Operates t (FreesRawSized b n s a)) (number_of a) (address_of_word b) (turn_word c) (number_of d) (number_of e) (λ v w x y z is. below_lt (2 ^ 40 - 1) x (number_of c) is))
+    (if_range (same_bytes w (codes "m")) _ _ (range5 (λ t n o s a. Operates t (Remakes n o s a)) (number_of a) (trace_name b) (trace_name c) (number_of d) (number_of e) (λ v w x y z is. tt)) tt))
 
 count_range : (started : Bool) (w : List ℕ) (more : List (List ℕ)) → IfOk (item_by_count started w more) IsInRange
 count_range started w [] = if_range (same_bytes w (codes "pass")) _ _ tt (if_range (same_bytes w (codes "phase")) _ _ tt tt)

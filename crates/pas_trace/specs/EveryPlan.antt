@@ -63,12 +63,13 @@ IsActorOf f what k = IsActorBy f (work_of what) k
 abbrev pub IsRoomNamed : Profile → Option ℕ → Type 0
 IsRoomNamed f room = MatchOption room (Unit {0}) (λ r. (r % 16 ≡ 0) × (16 ≤ r) × (r ≤ 4096 * f.pages))
 
--- The operation may follow those that asked for these names. A request has a new name, and its heap, size and alignment are of the profile; a
--- free has a name that was asked for; a turn has a next one; a room is one that a block of the region may have; epochs are below 2^40.
+-- The operation may follow those that asked for these names. A request has a new name, and its heap, size and alignment are of the profile, and so
+-- has a reallocation; what is freed or reallocated has a name that was asked for; a turn has a next one; a room is one that a block of the region may have; epochs are below 2^40.
 abbrev pub IsSoundTask : Profile → List ℕ → Task → Type 0
 IsSoundTask f asked (Task.Request name heap size align) = IsAdmitted f size align heap × (is_asked asked name ≡ false)
 IsSoundTask f asked (Task.Free name room) = (is_asked asked name ≡ true) × IsRoomNamed f room
 IsSoundTask f asked (Task.FreeRaw block room) = (block.turn < 2 ^ 40 - 1) × IsRoomNamed f room
+IsSoundTask f asked (Task.Remake name old heap size align) = IsAdmitted f size align heap × (is_asked asked name ≡ false) × (is_asked asked old ≡ true)
 IsSoundTask f asked Task.Flush = Unit {0}
 IsSoundTask f asked Task.Stop = Unit {0}
 

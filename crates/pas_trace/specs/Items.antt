@@ -4,7 +4,7 @@ use Rattle.pas_trace.specs.Texts.{words_of}
 use Rattle.pas_trace.specs.Numbers.{number_of, address_of_word}
 use Rattle.pas_trace.specs.declared.item.Item.{Item}
 use Rattle.pas_trace.specs.declared.item.Item.TheVariants.{Blank, Shares, NextPhase, Operates, Scavenges}
-use Rattle.pas_trace.specs.declared.item.Wish.TheVariants.{Asks, Frees, FreesSized, FreesRaw, FreesRawSized, Flushes, Stops}
+use Rattle.pas_trace.specs.declared.item.Wish.TheVariants.{Asks, Frees, FreesSized, FreesRaw, FreesRawSized, Remakes, Flushes, Stops}
 use Rattle.pas_trace.specs.declared.plan.Chore.{Chore}
 use Rattle.pas_trace.specs.declared.fault.Reason.{Reason}
 
@@ -63,7 +63,7 @@ item5 make (Some a) b c d e = item4 (make a) b c d e
 -- ---- which words begin lines of a version
 -- the version in which the word began a line first, where that isn't the first of all; of a word that begins no line nothing is said here
 abbrev pub since : List ℕ → Option ℕ
-since w = if same_bytes w (codes "fs") || same_bytes w (codes "rs") then Some 2 else None
+since w = if same_bytes w (codes "fs") || same_bytes w (codes "rs") then Some 2 else (if same_bytes w (codes "m") then Some 4 else None)
 
 abbrev pub has_since : ℕ → Option ℕ → Bool
 has_since version None = true
@@ -94,7 +94,8 @@ item_of_five w a b c d = if same_bytes w (codes "fs") then item4 (λ t n s a. Op
 abbrev pub item_of_six : List ℕ → List ℕ → List ℕ → List ℕ → List ℕ → List ℕ → Result Item Reason
 item_of_six w a b c d e =
     if same_bytes w (codes "a") then item5 (λ t n h s a. Operates t (Asks n h s a)) (plain a) (trace_name b) (plain c) (plain d) (plain e) else
-    (if same_bytes w (codes "rs") then item5 (λ t b n s a. Operates t (FreesRawSized b n s a)) (plain a) (address_of_word b) (turn_word c) (plain d) (plain e) else Err Reason.BadWord)
+    (if same_bytes w (codes "rs") then item5 (λ t b n s a. Operates t (FreesRawSized b n s a)) (plain a) (address_of_word b) (turn_word c) (plain d) (plain e) else
+    (if same_bytes w (codes "m") then item5 (λ t n o s a. Operates t (Remakes n o s a)) (plain a) (trace_name b) (trace_name c) (plain d) (plain e) else Err Reason.BadWord))
 
 abbrev pub item_by_count : Bool → List ℕ → List (List ℕ) → Result Item Reason
 item_by_count started w [] = item_of_one w

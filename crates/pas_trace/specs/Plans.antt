@@ -8,15 +8,15 @@ use Rattle.pas_trace.specs.Texts.{lines_of}
 use Rattle.pas_trace.specs.declared.item.Item.{Item}
 use Rattle.pas_trace.specs.declared.item.Item.TheVariants.{Blank, Shares, NextPhase, Operates, Scavenges}
 use Rattle.pas_trace.specs.declared.item.Wish.{Wish}
-use Rattle.pas_trace.specs.declared.item.Wish.TheVariants.{Asks, Frees, FreesSized, FreesRaw, FreesRawSized, Flushes, Stops}
+use Rattle.pas_trace.specs.declared.item.Wish.TheVariants.{Asks, Frees, FreesSized, FreesRaw, FreesRawSized, Remakes, Flushes, Stops}
 use Rattle.pas_trace.specs.declared.plan.Chore.{Chore}
-use Rattle.pas_trace.specs.Reasons.{header_of, line_says, is_named, actor_of, cost_of, record_bound}
+use Rattle.pas_trace.specs.Reasons.{header_of, line_says, is_named, heap_of, actor_of, cost_of, record_bound}
 use Rattle.pas_trace.specs.declared.fault.Reason.{Reason}
 use Rattle.pas_trace.specs.declared.fault.TraceFault.{TraceFault}
 use Rattle.pas_trace.specs.declared.fault.ReadFault.{ReadFault}
 use Rattle.pas_trace.specs.declared.fault.ReadFault.TheVariants.{Trace, NoMemory}
 use Rattle.pas_trace.specs.declared.plan.What.{What}
-use Rattle.pas_trace.specs.declared.plan.What.TheVariants.{Alloc, Free, FreeSized, Raw, RawSized, Flush, Stop, Tick, Pass, Idle}
+use Rattle.pas_trace.specs.declared.plan.What.TheVariants.{Alloc, Free, FreeSized, Raw, RawSized, Remake, Flush, Stop, Tick, Pass, Idle}
 use Rattle.pas_trace.specs.declared.plan.Op.{Op}
 use Rattle.pas_trace.specs.declared.plan.Phase.{Phase}
 use Rattle.pas_trace.specs.declared.plan.Phases.{Phases}
@@ -75,15 +75,17 @@ name_at address turn = record { address = record { 0 = address }; turn = turn }
 abbrev pub operation : ℕ → ℕ → What → Op
 operation line actor what = record { line = line; actor = actor; what = what }
 
--- what a wish and a chore are in a plan. A free that names a size and an alignment names the room that a request for them gets in the region
-abbrev pub what_wished : Profile → Wish → What
-what_wished f (Asks n h s a) = Alloc n h s a
-what_wished f (Frees n) = Free n
-what_wished f (FreesSized n s a) = FreeSized n (room_in f s a)
-what_wished f (FreesRaw b n) = Raw (name_at b n)
-what_wished f (FreesRawSized b n s a) = RawSized (room_in f s a) (name_at b n)
-what_wished f Flushes = Flush
-what_wished f Stops = Stop
+-- what a wish and a chore are in a plan, where earlier names have these heaps. A free that names a size and an alignment names the room that a
+-- request for them gets in the region
+abbrev pub what_wished : Profile → (ℕ → ℕ) → Wish → What
+what_wished f heaps (Asks n h s a) = Alloc n h s a
+what_wished f heaps (Frees n) = Free n
+what_wished f heaps (FreesSized n s a) = FreeSized n (room_in f s a)
+what_wished f heaps (FreesRaw b n) = Raw (name_at b n)
+what_wished f heaps (FreesRawSized b n s a) = RawSized (room_in f s a) (name_at b n)
+what_wished f heaps (Remakes n o s a) = Remake n o (heaps o) s a
+what_wished f heaps Flushes = Flush
+what_wished f heaps Stops = Stop
 
 abbrev pub what_of_chore : Chore → What
 what_of_chore (Chore.Tick epoch) = Tick epoch
@@ -91,12 +93,12 @@ what_of_chore Chore.Pass = Pass
 what_of_chore (Chore.Idle n) = Idle n
 
 -- an item's operation, where it is one
-abbrev pub operation_of : Profile → ℕ → Item → Option Op
-operation_of f line Blank = None
-operation_of f line (Shares h) = None
-operation_of f line NextPhase = None
-operation_of f line (Operates t w) = Some (operation line t (what_wished f w))
-operation_of f line (Scavenges c) = Some (operation line 0 (what_of_chore c))
+abbrev pub operation_of : Profile → (ℕ → ℕ) → ℕ → Item → Option Op
+operation_of f heaps line Blank = None
+operation_of f heaps line (Shares h) = None
+operation_of f heaps line NextPhase = None
+operation_of f heaps line (Operates t w) = Some (operation line t (what_wished f heaps w))
+operation_of f heaps line (Scavenges c) = Some (operation line 0 (what_of_chore c))
 
 -- the phases so far, with their operations in order, from the items (newest first): a `phase` line begins an empty one, and an operation goes
 -- to the end of the last one
@@ -111,16 +113,16 @@ abbrev pub line_of_newest : List Item → ℕ
 line_of_newest [] = 1
 line_of_newest (i ∷ earlier) = line_of_newest earlier + 1
 
-abbrev pub phases_after : Profile → Item → ℕ → List (List Op) → List (List Op)
-phases_after f Blank line phases = phases
-phases_after f (Shares h) line phases = phases
-phases_after f NextPhase line phases = phases ++ [] ∷ []
-phases_after f (Operates t w) line phases = add_last (operation_of f line (Operates t w)) phases
-phases_after f (Scavenges c) line phases = add_last (operation_of f line (Scavenges c)) phases
+abbrev pub phases_after : Profile → (ℕ → ℕ) → Item → ℕ → List (List Op) → List (List Op)
+phases_after f heaps Blank line phases = phases
+phases_after f heaps (Shares h) line phases = phases
+phases_after f heaps NextPhase line phases = phases ++ [] ∷ []
+phases_after f heaps (Operates t w) line phases = add_last (operation_of f heaps line (Operates t w)) phases
+phases_after f heaps (Scavenges c) line phases = add_last (operation_of f heaps line (Scavenges c)) phases
 
 abbrev pub phases_in : Profile → List Item → List (List Op)
 phases_in f [] = [] ∷ []
-phases_in f (i ∷ earlier) = phases_after f i (line_of_newest (i ∷ earlier)) (phases_in f earlier)
+phases_in f (i ∷ earlier) = phases_after f (heap_of earlier) i (line_of_newest (i ∷ earlier)) (phases_in f earlier)
 
 -- the costs of an actor's own operations
 abbrev pub own_costs : Profile → ℕ → List Item → ℕ

@@ -7,9 +7,9 @@ use Rattle.pas_trace.specs.declared.header.Header.{Header}
 use Rattle.pas_trace.specs.declared.item.Item.{Item}
 use Rattle.pas_trace.specs.declared.item.Item.TheVariants.{Blank, Shares, NextPhase, Operates, Scavenges}
 use Rattle.pas_trace.specs.declared.item.Wish.{Wish}
-use Rattle.pas_trace.specs.declared.item.Wish.TheVariants.{Asks, Frees, FreesSized, FreesRaw, FreesRawSized, Flushes, Stops}
+use Rattle.pas_trace.specs.declared.item.Wish.TheVariants.{Asks, Frees, FreesSized, FreesRaw, FreesRawSized, Remakes, Flushes, Stops}
 use Rattle.pas_trace.specs.declared.plan.Chore.{Chore}
-use Rattle.pas_trace.specs.Wishes.{heap_in, sizing_in, name_made, name_freed, holds_of, is_name}
+use Rattle.pas_trace.specs.Wishes.{heap_in, sizing_in, name_made, name_freed, heap_made, holds_of, is_name}
 use Rattle.pas_trace.specs.Items.{same_bytes, item_of_line}
 use Rattle.pas_trace.specs.declared.fault.Reason.{Reason}
 
@@ -42,7 +42,7 @@ header_for (Some version) p t h a =
 abbrev pub header_of_words : List (List ℕ) → Option Header
 header_of_words (w1 ∷ v ∷ w3 ∷ p ∷ w5 ∷ t ∷ w7 ∷ h ∷ w9 ∷ a ∷ []) =
     if same_bytes w1 (codes "pas") && same_bytes w3 (codes "pages") && same_bytes w5 (codes "threads") && same_bytes w7 (codes "heaps") && same_bytes w9 (codes "age")
-    then header_for (within 1 3 (number_of v)) p t h a else None
+    then header_for (within 1 4 (number_of v)) p t h a else None
 header_of_words other = None
 
 -- the first line is no header where it is empty or begins with `#`, as anywhere
@@ -104,6 +104,18 @@ abbrev pub thread_of : List Item → ℕ → ℕ
 thread_of [] name = 0
 thread_of (i ∷ earlier) name = if makes i name then actor_of i else thread_of earlier name
 
+-- the heap of the name, which a request names, and a reallocation has from the name that it reallocates
+abbrev pub heap_of_item : (ℕ → ℕ) → Item → ℕ
+heap_of_item heaps Blank = 0
+heap_of_item heaps (Shares h) = 0
+heap_of_item heaps NextPhase = 0
+heap_of_item heaps (Operates t w) = heap_made heaps w
+heap_of_item heaps (Scavenges c) = 0
+
+abbrev pub heap_of : List Item → ℕ → ℕ
+heap_of [] name = 0
+heap_of (i ∷ earlier) name = if makes i name then heap_of_item (heap_of earlier) i else heap_of earlier name
+
 -- ---- how many records an item may make
 -- whole pages that hold so many bytes
 abbrev pub pages_for : ℕ → ℕ
@@ -120,6 +132,7 @@ cost_of_wish (Frees n) = 1
 cost_of_wish (FreesSized n s a) = 1
 cost_of_wish (FreesRaw b n) = 1
 cost_of_wish (FreesRawSized b n s a) = 1
+cost_of_wish (Remakes n o s a) = cost_of_size s + 1
 cost_of_wish Flushes = 0
 cost_of_wish Stops = 0
 

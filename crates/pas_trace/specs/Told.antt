@@ -2,8 +2,8 @@
 use Rattle.std.specs.Prelude.{if◌then◌else◌, ℕ, ◌+◌, ◌*◌, ◌==◌, ◌≡◌, ◌≤◌, ◌<◌, nat_lt, nat_le, Bool, true, not, ◌&&◌, ◌||◌, List, [], ◌∷◌, ◌++◌, map, length, Option, None, Some, Result, Ok, Err, slice_index, slice_index_or, slice_set}
 use Rattle.pas_profile.specs.Profiles.{IsValid}
 use Rattle.pas_trace.specs.declared.header.Header.{Header}
-use Rattle.pas_trace.specs.Wishes.{name_made, is_name}
-use Rattle.pas_trace.specs.Reasons.{header_of, first_failed, is_thread, is_alignment, few_enough, own_checks, cost_of_wish, records_of_chore, started, operations_in, is_named, is_named_now, thread_of, record_bound, line_says, reason_of}
+use Rattle.pas_trace.specs.Wishes.{name_made, heap_made, is_name}
+use Rattle.pas_trace.specs.Reasons.{header_of, first_failed, is_thread, is_alignment, few_enough, own_checks, cost_of_wish, records_of_chore, started, operations_in, is_named, is_named_now, thread_of, heap_of, record_bound, line_says, reason_of}
 use Rattle.pas_trace.specs.declared.fault.Reason.{Reason}
 use Rattle.pas_trace.specs.declared.item.Item.{Item}
 use Rattle.pas_trace.specs.declared.item.Item.TheVariants.{Blank, Shares, NextPhase, Operates, Scavenges}
@@ -23,11 +23,15 @@ use Rattle.pas_trace.specs.declared.gathered.Gathered.{Gathered}
 
 -- the owner that the names give a name
 abbrev pub owner_in : Names → ℕ → Owner
-owner_in names name = slice_index_or names.owners.items name record { thread = 0; phase = 0 }
+owner_in names name = slice_index_or names.owners.items name record { thread = 0; heap = 0; phase = 0 }
 
 -- the phases that were gathered, in order
 abbrev pub gathered_phases : Gathered → List (List Op)
 gathered_phases gathered = map ops_of gathered.done.items ++ gathered.present.items ∷ []
+
+-- the heap of each name
+abbrev pub heap_told : Reader → ℕ → ℕ
+heap_told r n = (owner_in r.names n).heap
 
 -- ---- the checks, by what the reader keeps
 abbrev pub few_told : Reader → ℕ → List (Bool × Reason)
@@ -77,6 +81,7 @@ AreTested checks (Err r) = first_failed checks ≡ Some r
 pub record NameTold (owner : Owner) (phase : ℕ) (items : List Item) (n : ℕ) : Type 0 where
   pub named : is_named items n ≡ not (owner.thread == 0)
   pub thread : thread_of items n ≡ owner.thread
+  pub heap : heap_of items n ≡ owner.heap
   pub now : is_named_now items n ≡ (not (owner.thread == 0) && (owner.phase == phase))
   pub before : owner.phase ≤ phase
 
@@ -117,8 +122,8 @@ pub record IsCounted (old new : Reader) (actor : ℕ) (what : What) (cost : ℕ)
 -- .. and the name that it makes was given to its thread
 pub record IsOperated (old new : Reader) (actor : ℕ) (wish : Wish) (cost : ℕ) : Type 0 where
   pub names : Names
-  pub given : (n : ℕ) → owner_in names n ≡ (if is_name (name_made wish) n then record { thread = actor; phase = old.phase } else owner_in old.names n)
-  pub counted : IsCounted (record old { names = names }) new actor (what_wished old.header.profile wish) cost
+  pub given : (n : ℕ) → owner_in names n ≡ (if is_name (name_made wish) n then record { thread = actor; heap = heap_made (heap_told old) wish; phase = old.phase } else owner_in old.names n)
+  pub counted : IsCounted (record old { names = names }) new actor (what_wished old.header.profile (heap_told old) wish) cost
 
 -- the next phase was begun
 pub record IsNextPhase (old new : Reader) : Type 0 where

@@ -4,7 +4,7 @@ use Rattle.pas_profile.specs.Classes.{IsAlignment}
 use Rattle.pas_profile.specs.declared.profile.Profile.{Profile}
 use Rattle.pas_trace.specs.declared.item.Request.{Request}
 use Rattle.pas_trace.specs.declared.item.Wish.{Wish}
-use Rattle.pas_trace.specs.declared.item.Wish.TheVariants.{Asks, Frees, FreesSized, FreesRaw, FreesRawSized, Flushes, Stops}
+use Rattle.pas_trace.specs.declared.item.Wish.TheVariants.{Asks, Frees, FreesSized, FreesRaw, FreesRawSized, Remakes, Flushes, Stops}
 
 -- ---- the tables
 -- the heap that it names
@@ -14,6 +14,7 @@ heap_in (Frees n) = None
 heap_in (FreesSized n s a) = None
 heap_in (FreesRaw b n) = None
 heap_in (FreesRawSized b n s a) = None
+heap_in (Remakes n o s a) = None
 heap_in Flushes = None
 heap_in Stops = None
 
@@ -28,6 +29,7 @@ sizing_in (Frees n) = None
 sizing_in (FreesSized n s a) = Some record { size = s; align = a }
 sizing_in (FreesRaw b n) = None
 sizing_in (FreesRawSized b n s a) = Some record { size = s; align = a }
+sizing_in (Remakes n o s a) = Some record { size = s; align = a }
 sizing_in Flushes = None
 sizing_in Stops = None
 
@@ -38,16 +40,18 @@ name_made (Frees n) = None
 name_made (FreesSized n s a) = None
 name_made (FreesRaw b n) = None
 name_made (FreesRawSized b n s a) = None
+name_made (Remakes n o s a) = Some n
 name_made Flushes = None
 name_made Stops = None
 
--- the trace name that it frees
+-- the trace name that it frees or reallocates
 abbrev pub name_freed : Wish → Option ℕ
 name_freed (Asks n h s a) = None
 name_freed (Frees n) = Some n
 name_freed (FreesSized n s a) = Some n
 name_freed (FreesRaw b n) = None
 name_freed (FreesRawSized b n s a) = None
+name_freed (Remakes n o s a) = Some o
 name_freed Flushes = None
 name_freed Stops = None
 
@@ -61,6 +65,15 @@ holds_of test (Some x) = test x
 abbrev pub is_name : Option ℕ → ℕ → Bool
 is_name None name = false
 is_name (Some n) name = n == name
+
+-- the heap of the name that it makes, where earlier names have these heaps: the one that it names, or that of the name which it reallocates
+abbrev pub heap_by : (ℕ → ℕ) → Option ℕ → Option ℕ → ℕ
+heap_by heaps (Some h) freed = h
+heap_by heaps None None = 0
+heap_by heaps None (Some old) = heaps old
+
+abbrev pub heap_made : (ℕ → ℕ) → Wish → ℕ
+heap_made heaps w = heap_by heaps (heap_in w) (name_freed w)
 
 -- the wish of a request
 abbrev pub asking : Request → Wish

@@ -15,7 +15,7 @@ use pas_profile::limits::{
 };
 
 /// The latest version of the format.
-const LATEST: u64 = 3;
+const LATEST: u64 = 4;
 
 /// The first version whose regions have all classes, and may have the most pages.
 const FIRST_LARGE: u64 = 3;

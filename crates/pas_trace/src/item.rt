@@ -44,6 +44,13 @@ pub enum Wish {
         size: u64,
         align: u64,
     },
+    /// The block that has the old trace name with another size and alignment, under the name.
+    Remakes {
+        name: u32,
+        old: u32,
+        size: u64,
+        align: u64,
+    },
     /// That the frees are passed on which the thread has saved.
     Flushes,
     /// That the thread stops.

@@ -4,7 +4,7 @@ ghost use Rattle.pas_trace.specs.Items.{plain, trace_name, epoch_word, turn_word
 ghost use Rattle.pas_trace.specs.Numbers.{address_of_word};
 ghost use Rattle.pas_trace.specs.Texts.{words_of};
 ghost use Rattle.pas_trace.specs.declared.item.Item.TheVariants.{Operates};
-ghost use Rattle.pas_trace.specs.declared.item.Wish.TheVariants.{Asks, FreesRawSized};
+ghost use Rattle.pas_trace.specs.declared.item.Wish.TheVariants.{Asks, FreesRawSized, Remakes};
 
 use crate::fault::Reason;
 use crate::item::{Item, Wish};
@@ -190,6 +190,24 @@ fn item_of_sized_raw(a: &[u8], b: &[u8], c: &[u8], d: &[u8], e: &[u8]) -> Result
     Ok(Item::Operates { thread, wish })
 }
 
+/// .. that begins with `m`.
+fn item_of_remake(a: &[u8], b: &[u8], c: &[u8], d: &[u8], e: &[u8]) -> Result<Item, Reason>
+    ensures { result ≡ item5 (λ t n o s a. Operates t (Remakes n o s a)) (plain a.now) (trace_name b.now) (trace_name c.now) (plain d.now) (plain e.now) }
+{
+    let thread = number_at(a)?;
+    let name = name_at(b)?;
+    let old = name_at(c)?;
+    let size = number_at(d)?;
+    let align = number_at(e)?;
+    let wish = Wish::Remakes {
+        name,
+        old,
+        size,
+        align,
+    };
+    Ok(Item::Operates { thread, wish })
+}
+
 /// What a line of six words says.
 #[inline]
 fn item_of_six_words(
@@ -206,6 +224,8 @@ fn item_of_six_words(
         item_of_request(a, b, c, d, e)
     } else if is_word(word, b"rs") {
         item_of_sized_raw(a, b, c, d, e)
+    } else if is_word(word, b"m") {
+        item_of_remake(a, b, c, d, e)
     } else {
         Err(Reason::BadWord)
     }
@@ -218,6 +238,8 @@ fn has_word(version: u8, word: &[u8]) -> bool
 {
     if is_word(word, b"fs") || is_word(word, b"rs") {
         version >= 2
+    } else if is_word(word, b"m") {
+        version >= 4
     } else {
         true
     }

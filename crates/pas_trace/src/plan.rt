@@ -4,7 +4,8 @@ use pas_profile::{Name, Profile};
 use std::mem::size_of;
 
 /// What an operation asks for, in 24 bytes. Names of allocations are the trace's own numbers, from 1 to 1,000,000; sizes, alignments and rooms
-/// are in bytes. A free that names a room ends the block only where it has this room.
+/// are in bytes. A free that names a room ends the block only where it has this room. A block is
+/// reallocated in its own heap.
 #[derive(Clone, Copy, PartialEq, Eq, Drop)]
 pub enum What {
     Alloc {
@@ -26,6 +27,13 @@ pub enum What {
     RawSized {
         room: u32,
         block: Name,
+    },
+    Remake {
+        name: u32,
+        old: u32,
+        heap: u8,
+        size: u32,
+        align: u32,
     },
     Flush,
     Stop,
@@ -58,6 +66,13 @@ pub enum Task {
     FreeRaw {
         block: Name,
         room: Option<u32>,
+    },
+    Remake {
+        name: u32,
+        old: u32,
+        heap: u8,
+        size: u32,
+        align: u32,
     },
     Flush,
     Stop,
@@ -141,6 +156,19 @@ impl Op {
             What::RawSized { block, room } => Work::Own(Task::FreeRaw {
                 block,
                 room: Some(room),
+            }),
+            What::Remake {
+                name,
+                old,
+                heap,
+                size,
+                align,
+            } => Work::Own(Task::Remake {
+                name,
+                old,
+                heap,
+                size,
+                align,
             }),
             What::Flush => Work::Own(Task::Flush),
             What::Stop => Work::Own(Task::Stop),

@@ -190,6 +190,30 @@ impl Reader {
         self.check_counts(1)
     }
 
+    /// The checks of a reallocation.
+    #[inline(never)]
+    fn check_remake(
+        &self,
+        thread: u64,
+        name: u32,
+        old: u32,
+        size: u64,
+        align: u64,
+    ) -> Result<u32, Reason>
+        requires { IsValid self.now.header.profile }
+        ensures { IsChecked (reason_told self.now thread (Wish.Remakes name old size align)) (cost_of_size size + 1) result }
+    {
+        if !self.has_thread(thread) {
+            return Err(Reason::BadThread);
+        }
+        self.check_sizing(size, align)?;
+        if self.names.owner(name).thread != 0 {
+            return Err(Reason::NameTaken);
+        }
+        self.check_freed(thread, old)?;
+        self.check_counts(cost_of_allocation(size as u32) + 1)
+    }
+
     /// The cost of an operation of a thread that passes its checks, or the first reason that applies.
     #[inline(always)]
     fn check_wish(&self, thread: u64, wish: Wish) -> Result<u32, Reason>
@@ -217,6 +241,12 @@ impl Reader {
             }
             Wish::FreesRaw { .. } => self.check_thread(thread, 1),
             Wish::FreesRawSized { size, align, .. } => { self.check_sized_raw(thread, size, align) }
+            Wish::Remakes {
+                name,
+                old,
+                size,
+                align,
+            } => self.check_remake(thread, name, old, size, align),
             Wish::Flushes => self.check_thread(thread, 0),
             Wish::Stops => self.check_thread(thread, 0),
         }
@@ -284,7 +314,12 @@ impl Reader {
                 align,
             } => {
                 let phase = self.phase;
-                self.names.give(name, Owner { thread, phase })?;
+                let owner = Owner {
+                    thread,
+                    heap: heap as u8,
+                    phase,
+                };
+                self.names.give(name, owner)?;
                 let what = What::Alloc {
                     name,
                     heap: heap as u8,
@@ -313,6 +348,29 @@ impl Reader {
                 let address = Address(address);
                 let block = Name { address, turn };
                 self.count(thread, What::RawSized { block, room }, cost)
+            }
+            Wish::Remakes {
+                name,
+                old,
+                size,
+                align,
+            } => {
+                let phase = self.phase;
+                let heap = self.names.owner(old).heap;
+                let owner = Owner {
+                    thread,
+                    heap,
+                    phase,
+                };
+                self.names.give(name, owner)?;
+                let what = What::Remake {
+                    name,
+                    old,
+                    heap,
+                    size: size as u32,
+                    align: align as u32,
+                };
+                self.count(thread, what, cost)
             }
             Wish::Flushes => self.count(thread, What::Flush, cost),
             Wish::Stops => self.count(thread, What::Stop, cost),

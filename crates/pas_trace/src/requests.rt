@@ -16,7 +16,8 @@ pub fn is_aligning(align: u64) -> bool
 #[inline(always)]
 pub fn cost_of_allocation(size: u32) -> u32
     requires { size ≤ 2 ^ 26 }
-    ensures { result ≡ cost_of_size size }
+    ensures value { result ≡ cost_of_size size }
+    ensures few { result ≤ 16385 }
 {
     if size <= MOST_BITFIT {
         2

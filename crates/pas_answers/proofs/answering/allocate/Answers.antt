@@ -2,7 +2,7 @@ use Rattle.std.proofs.Common.{None, Some, Ok, Err, ap, sym, subst, ◌≡◌}
 use Rattle.pas_trace.specs.declared.plan.What.TheVariants as TheWhat
 use Rattle.pas_cache.specs.Caches.{cached}
 use Rattle.pas_answers.specs.Calls.{PerformsMeant}
-use Rattle.pas_answers.specs.Indexes.{IsNamedFor}
+use Rattle.pas_answers.specs.Indexes.{IsNamedFor, request_made}
 use Rattle.pas_answers.proofs.Kept.{none_stands}
 use Rattle.pas_answers.proofs.Requests.{can_request, serves, performs_request, given_stands}
 use Rattle.pas_answers.proofs.answering.allocate.Goals as goal
@@ -26,7 +26,7 @@ returns-in-Err-clause-performs g c = λ meant.
     let f = (g.D.Desk.standing c.args.desk.now).seat.profile in
     let what = TheWhat.Alloc c.args.name c.args.heap c.args.size c.args.align in
     subst (λ said. (did : PerformsMeant what meant None (cached c.args.cache.now) (cached c.serve.new.self) (g.D.Desk.standing c.args.desk.now) (g.D.Desk.standing c.serve.new.desk) said)
-    × IsNamedFor f (g.O.Door.answers c.args.door.now c.serve.new.door) (c.serve.new.door ≡ c.args.door.now) what did.found) (ap (λ said. Some said) (sym c.refusal.ensures))
+    × IsNamedFor f (g.O.Door.answers c.args.door.now c.serve.new.door) (c.serve.new.door ≡ c.args.door.now) (request_made what meant) did.found) (ap (λ said. Some said) (sym c.refusal.ensures))
     (performs_request _ _ (cached c.args.cache.now) (cached c.serve.new.self) c.args.name c.args.heap c.args.size c.args.align r.found (Err c.in-Err.room) meant (g.O.Door.answers c.args.door.now c.serve.new.door) (c.serve.new.door ≡ c.args.door.now)
     (serves (cached c.args.cache.now) (cached c.serve.new.self) c.args.heap c.args.size c.args.align r) r.named)
 

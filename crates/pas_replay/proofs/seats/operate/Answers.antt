@@ -12,25 +12,25 @@ use Rattle.pas_replay.proofs.Doors.{written_back}
 use Rattle.pas_replay.proofs.seats.operate.Goals as goal
 
 pub take_seat-requires : goal.take_seat-requires
-take_seat-requires c = let so = c.requires.so_far.3.2 in may_take c.args.desk.now c.args.actors.now c.args.actor c.requires.thread so.0 so.1.1
+take_seat-requires g c = let so = c.requires.so_far.3.2 in may_take c.args.desk.now c.args.actors.now c.args.actor c.requires.thread so.0 so.1.1
 
 pub operate_by-came-requires : goal.operate_by-came-requires
-operate_by-came-requires c =
+operate_by-came-requires g c =
     let so0 = c.requires.so_far in
     let so = so0.3.2.1 in
     record { stands = (so0.3.0.profile, so0.0, _, so.0, so0.2, may_operate c.args.actor c.index_mut-cache.result.now so0.1 so0.2 c.requires.some c.requires.thread c.take_seat.ensures c.index_mut-cache.ensures.value (c.freed-meant.ensures ∙ freed_task (block_named c.args.names.now) c.args.task) so.1) }
 
 pub keep-requires : goal.keep-requires
-keep-requires c =
+keep-requires g c =
     let so0 = c.requires.so_far in
     let names = so0.3.2.1.1.names in
     record { fit = (so0.3.0.profile, names.asked, subst (λ (w : What). IsFitWhat so0.3.0.profile (names_held c.args.names.now) names.asked w) so0.2 names.fit.1) }
 
 pub returns-clause-threads : goal.returns-clause-threads
-returns-clause-threads c = length-set c.args.actors.now.caches.items (c.args.actor - 1) c.operate_by-came.new.cache
+returns-clause-threads g c = length-set c.args.actors.now.caches.items (c.args.actor - 1) c.operate_by-came.new.cache
 
 pub returns-clause-so_far : goal.returns-clause-so_far
-returns-clause-so_far c op mine asks r more (taken, (p, at)) =
+returns-clause-so_far g c op mine asks r more (taken, (p, at)) =
     let may = may_operate c.args.actor c.index_mut-cache.result.now mine asks c.requires.some c.requires.thread c.take_seat.ensures c.index_mut-cache.ensures.value (c.freed-meant.ensures ∙ freed_task (block_named c.args.names.now) c.args.task) at in
     let did = c.operate_by-came.ensures.operates r.profile op _ p asks may in
     let came = subst (λ (f : Profile). MayStand f c.operate_by-came.result) may.rests.sits.profile c.operate_by-came.ensures.stands in

@@ -1,6 +1,5 @@
 -- How a block gets another size.
-use Rattle.std.specs.Prelude.{ℕ, ◌+◌, ◌%◌, ◌≤◌, ◌≡◌, max, nat_le, if◌then◌else◌, List, [], ◌++◌, length, Option, Result, Ok, Err}
-use Rattle.pas_profile.specs.Blocks.{address_of}
+use Rattle.std.specs.Prelude.{ℕ, ◌+◌, ◌≤◌, ◌≡◌, true, false, nat_le, if◌then◌else◌, List, [], ◌++◌, length, Option, Result, Ok, Err}
 use Rattle.pas_profile.specs.declared.event.NoRoom.{NoRoom}
 use Rattle.pas_profile.specs.declared.name.Block.{Block}
 use Rattle.pas_profile.specs.declared.profile.Profile.{Profile}
@@ -13,16 +12,13 @@ use Rattle.pas_cache.specs.Caches.{Cached, AtRest}
 use Rattle.pas_free_log.specs.Logs.{entry_of}
 use Rattle.pas_cache.specs.Calls.{Rests, TakesEntry, IsNamed}
 use Rattle.pas_cache.specs.Kinds.{allocating}
-use Rattle.pas_cache.specs.Serves.{Wanted, ServesRequest, IsBlockFor}
+use Rattle.pas_cache.specs.Serves.{Wanted, ServesRequest, IsBlockFor, MakesAtMost}
 use Rattle.pas_cache.specs.declared.moving.Moved.{Moved}
 use Rattle.pas_cache.specs.declared.moving.Moved.TheVariants.{Kept, New}
-use Rattle.pas_answers.specs.Answers.{RefusalEnds}
+use Rattle.pas_trace.specs.Reasons.{cost_of_size}
+use Rattle.pas_answers.specs.Answers.{suits, RefusalEnds}
 use Rattle.pas_steps.specs.Events.{events_by}
 use Rattle.pas_free_log.specs.declared.log.Entry.{Entry}
-
--- the block has room for so many bytes, where none count as one, and stands at a multiple of the alignment
-abbrev pub Suits : Block → ℕ → ℕ → Type 0
-Suits old size align = (max size 1 ≤ old.room) × (address_of old.name % align ≡ 0)
 
 -- how many events the flush of a full log makes
 abbrev pub flush_of_full : List Entry → ℕ
@@ -35,14 +31,14 @@ pub record MayMove (f : Profile) (c : Cached) (cost spare : ℕ) (v : View) : Ty
 
 -- It suits as it is: nothing was done, and no door was asked.
 pub record Keeps (Same : Type 0) (old : Block) (size align : ℕ) (c c' : Cached) (steps : List Made) : Type 0 where
-  pub suits : Suits old size align
+  pub suited : suits old size align ≡ true
   pub no_steps : steps ≡ []
   pub cache : c' ≡ c
   pub door : Same
 
--- It doesn't, and the request for another block in its heap was served. Then the old name was logged, and is the last that is.
+-- It doesn't, and the request for another block in its heap was served, at the cost of a request. Then the old name was logged, and is the last that is.
 pub record Replaces (Answers : Option ℕ → Type 0) (Same : Type 0) (f : Profile) (actor : ℕ) (wanted : Wanted) (old : Block) (size align : ℕ) (c c' : Cached) (steps : List Made) (block : Block) : Type 0 where
-  pub unsuited : Suits old size align → ⊥
+  pub unsuited : suits old size align ≡ false
   pub placed : List Made
   pub freed : List Made
   pub between : Cached
@@ -50,6 +46,7 @@ pub record Replaces (Answers : Option ℕ → Type 0) (Same : Type 0) (f : Profi
   pub named : IsNamed wanted.route Answers Same found
   pub serves : ServesRequest f wanted found c between placed (Ok block)
   pub kinds : Only allocating placed
+  pub few : MakesAtMost f (AtRest f c) (cost_of_size size) placed
   pub block_for : IsBlockFor f wanted (AtRest f c) placed block
   pub same_log : between.log ≡ c.log
   pub logs : TakesEntry f actor between c' (entry_of old.name) freed
@@ -57,11 +54,12 @@ pub record Replaces (Answers : Option ℕ → Type 0) (Same : Type 0) (f : Profi
 
 -- .. or was refused, and nothing was logged
 pub record CannotMove (Answers : Option ℕ → Type 0) (Same : Type 0) (f : Profile) (wanted : Wanted) (old : Block) (size align : ℕ) (c c' : Cached) (steps : List Made) (room : NoRoom) : Type 0 where
-  pub unsuited : Suits old size align → ⊥
+  pub unsuited : suits old size align ≡ false
   pub found : Option ℕ
   pub named : IsNamed wanted.route Answers Same found
   pub serves : ServesRequest f wanted found c c' steps (Err room)
   pub kinds : Only allocating steps
+  pub few : MakesAtMost f (AtRest f c) 0 steps
   pub ends : (k : ℕ) (v : View) → RefusalEnds wanted.route wanted.directory (events_by k v steps)
   pub same_log : c'.log ≡ c.log
 
