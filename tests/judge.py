@@ -7,12 +7,9 @@ import re
 from collections import defaultdict
 from typing import NamedTuple
 
-PAGE, GRAIN = 4096, 16
-GRAINS = PAGE // GRAIN
-CLASSES = [16, 32, 48, 64, 80, 96, 112, 128, 160, 192, 224, 256, 320, 384, 448, 512]
-LATER_CLASSES = [640, 768, 896, 1024]
-MOST_BITFIT = 2048
-MOST_LOGGED = 64
+from orders import GRAIN, GRAINS, PAGE
+from transcripts import CLASSES, CLASSES_OF, MOST_BITFIT, MOST_LOGGED
+
 ALL_ONES = 2**64 - 1
 
 NUMBER = "(0|[1-9][0-9]*)"
@@ -71,7 +68,7 @@ class Trace:
         first, *lines = text.split("\n")
         words = first.split()
         version, self.pages, self.threads, self.heaps, self.age = (int(words[at]) for at in (1, 3, 5, 7, 9))
-        self.classes = CLASSES + LATER_CLASSES if version >= 3 else CLASSES
+        self.classes = CLASSES[:CLASSES_OF[version]]
         self.shared, self.phases = set(), [[]]
         for line in lines:
             word, *rest = line.split() or ["#"]
