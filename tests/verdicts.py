@@ -70,15 +70,14 @@ def other_actors(line, threads):
         yield from (f"{other} {rest}" for other in range(threads + 2) if other != int(actor))
 
 
-def edits_at(lines, at, threads):
-    """The edits of one line."""
+def kinds_of_edits(lines, at, threads):
+    """The edits of one line, by their kinds."""
     line = lines[at]
-    yield Edit(at, 1, ())
-    yield Edit(at, 1, (line, line))
-    if at + 1 < len(lines):
-        yield Edit(at, 2, (lines[at + 1], line))
-    for kind in (off_by_one(line), other_words(line), other_actors(line, threads)):
-        yield from (Edit(at, 1, (other,)) for other in kind)
+    moved = [Edit(at, 1, ()), Edit(at, 1, (line, line))]
+    if at + 1 < len(lines) and lines[at + 1] != line:
+        moved.append(Edit(at, 2, (lines[at + 1], line)))
+    others = [off_by_one(line), other_words(line), other_actors(line, threads)]
+    return [moved] + [[Edit(at, 1, (other,)) for other in kind if other != line] for kind in others]
 
 
 def byte_edit(lines, draw):
@@ -89,16 +88,18 @@ def byte_edit(lines, draw):
 
 
 def draw_edits(lines, threads, count, draw):
-    """So many edits, all unlike, in the order of their lines."""
+    """So many edits, all unlike, in the order of their lines: of each kind alike, as long as there are more; then of bytes."""
     edits = set()
-    if len(lines) * 40 <= count * 4:
-        every = sorted({edit for at in range(len(lines)) for edit in edits_at(lines, at, threads) if "".join(edit.lines) != "".join(lines[at:at + edit.count])})
-        edits.update(draw.sample(every, min(count, len(every))))
-        while len(edits) < count:
-            edits.add(byte_edit(lines, draw))
+    for _ in range(8 * count):
+        if len(edits) == count:
+            break
+        kinds = kinds_of_edits(lines, draw.randrange(len(lines)), threads)
+        edits.add(draw.choice(draw.choice([kind for kind in kinds if kind])))
     while len(edits) < count:
-        edits.add(draw.choice(list(edits_at(lines, draw.randrange(len(lines)), threads))))
-    return sorted(edit for edit in edits if "".join(edit.lines) != "".join(lines[edit.at:edit.at + edit.count]))
+        edit = byte_edit(lines, draw)
+        if edit.lines != (lines[edit.at],):
+            edits.add(edit)
+    return sorted(edits)
 
 
 class EditedLines(Lines):
