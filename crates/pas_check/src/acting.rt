@@ -367,6 +367,6 @@ pub(crate) fn operate(
             free_entry(judge, text, cursor, k, Entry { name, room })
         }
         What::Flush | What::Stop => flush(judge, text, cursor, k),
-        What::Tick(_) | What::Pass | What::Idle(_) | What::Remake { .. } => Ok(true),
+        What::Tick(_) | What::Pass | What::Idle(_) => Ok(true),
     }
 }
