@@ -12,6 +12,7 @@ mod Passes
 mod Requests
 mod Stopping
 mod Frees
+mod Remakes
 mod Operations
 mod Acts
 mod Order

@@ -57,6 +57,7 @@ module _ (k : ℕ) (few : k < 2 ^ 8) where
   said_spaced (Said.Outside block) = (_, refl)
   said_spaced (Said.Unaligned block) = (_, refl)
   said_spaced (Said.Skipped name) = (_, refl)
+  said_spaced (Said.Kept block name) = (_, refl)
   said_spaced (Said.Tick epoch) = (_, refl)
   said_spaced (Said.Pass epoch) = (_, refl)
   said_spaced (Said.Bare page) = (_, refl)
@@ -153,11 +154,11 @@ module _ (f : Profile) (s : Stand) (small : IsSmall f s) (last : ℕ) (rest : Li
   outcome_apart t new [] fits no_pass b y = y
   outcome_apart t new (Writes item ∷ more) fits no_pass b y = no_writing item fits y.0
   outcome_apart t new (Frees k entry ∷ more) fits no_pass b y = no_entry_of t k entry y.event new.epoch fits y.of_entry y.line_is
-  outcome_apart t new (Serves k r ∷ more) fits no_pass b (inl y) =
+  outcome_apart t new (Serves k r old ∷ more) fits no_pass b (inl y) =
       no_record (Record.Event y.event) (prepares_fits f t new k r fits y.event y.prepares y.admitted) (no_preparing f t k r y.event y.prepares) y.line_is
-  outcome_apart t new (Serves k r ∷ more) fits no_pass b (inr (inl y)) =
+  outcome_apart t new (Serves k r old ∷ more) fits no_pass b (inr (inl y)) =
       no_record (Record.Event (Event.Give k y.block)) (gives_fits f t new k r fits y.block y.is_for y.admitted) (no_give k (Event.Give k y.block) y.block refl) y.line_is
-  outcome_apart t new (Serves k r ∷ more) fits no_pass b (inr (inr y)) =
+  outcome_apart t new (Serves k r old ∷ more) fits no_pass b (inr (inr y)) =
       no_record (Record.Said k y.said) (fits.actor, refusal_fits f t new k r fits y.said y.refuses) (no_refusal f t k r y.said y.refuses) y.line_is
   outcome_apart t new (Examines page ∷ more) fits no_pass b y = let e : length more ≡ suc (length more) = ap length no_pass in absurd (omega (arith, e))
   outcome_apart t new (Heads ∷ more) fits no_pass b y = no_text _ (λ e. omega (arith, e)) y.0
@@ -169,7 +170,7 @@ fits_first : (f : Profile) (due : List Due) → FitsNext f due → FitsFirst f d
 fits_first f [] fits = fits
 fits_first f (Writes item ∷ more) fits = tt
 fits_first f (Frees k entry ∷ more) fits = tt
-fits_first f (Serves k r ∷ more) fits = fits
+fits_first f (Serves k r old ∷ more) fits = fits
 fits_first f (Examines page ∷ more) fits = fits
 fits_first f (Heads ∷ more) fits = fits
 fits_first f (Shows page d ∷ more) fits = fits
@@ -180,7 +181,7 @@ module _ (f : Profile) (s : Stand) (small : IsSmall f s) where
   one_first [] line a b x y = absurd x
   one_first (Writes item ∷ more) line a b x y = absurd x
   one_first (Frees k entry ∷ more) line a b x y = absurd x
-  one_first (Serves k r ∷ more) line a b x y = absurd x
+  one_first (Serves k r old ∷ more) line a b x y = absurd x
   one_first (Examines page ∷ more) line a b x y = one_outcome f s small page more line a b x y
   one_first (Heads ∷ more) line a b x y = absurd x
   one_first (Shows page d ∷ more) line a b x y = absurd x
@@ -191,7 +192,7 @@ module _ (f : Profile) (s : Stand) (small : IsSmall f s) where
     first_apart [] line a b x y = x
     first_apart (Writes item ∷ more) line a b x y = x
     first_apart (Frees k entry ∷ more) line a b x y = x
-    first_apart (Serves k r ∷ more) line a b x y = x
+    first_apart (Serves k r old ∷ more) line a b x y = x
     first_apart (Examines page ∷ more) line a b x y = outcome_apart f s small page more line a x (ready f s) new (ready f s).due fits no_pass b y
     first_apart (Heads ∷ more) line a b x y = x
     first_apart (Shows page d ∷ more) line a b x y = x

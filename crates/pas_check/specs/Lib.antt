@@ -1,4 +1,6 @@
 pub mod Lines
+pub mod Named
+pub mod Meanings
 pub mod States
 pub mod Begins
 pub mod Takes

@@ -42,6 +42,7 @@ FitsSaid (Said.Held page name) = (page < 2 ^ 32) × (name < 2 ^ 32)
 FitsSaid (Said.Outside block) = FitsName block
 FitsSaid (Said.Unaligned block) = FitsName block
 FitsSaid (Said.Skipped name) = name < 2 ^ 32
+FitsSaid (Said.Kept block name) = FitsName block × (name < 2 ^ 32)
 FitsSaid (Said.Tick epoch) = epoch < 2 ^ 64
 FitsSaid (Said.Pass epoch) = epoch < 2 ^ 64
 FitsSaid (Said.Bare page) = page < 2 ^ 32

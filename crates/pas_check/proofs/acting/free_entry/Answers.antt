@@ -1,10 +1,8 @@
-use Rattle.std.proofs.Common.{Bool, [], ◌∷◌, length, sym}
-use Rattle.std.proofs.lemmas.Bool.{leb-false}
+use Rattle.std.proofs.Common.{Bool}
 use Rattle.pas_profile.specs.declared.profile.Profile.{Profile}
 use Rattle.pas_trace.specs.Acts.{Act}
-use Rattle.pas_check.specs.Tables.{logged}
-use Rattle.pas_check.specs.Tasks.{ActTaken, FreesEntry, LogEmptied}
-use Rattle.pas_check.proofs.Actings.{freed_full, freed_logged, freed_outside, freed_unaligned}
+use Rattle.pas_check.specs.Tasks.{ActTaken, EntryLogged, FreesEntry}
+use Rattle.pas_check.proofs.Actings.{freed_logged, freed_outside, freed_unaligned}
 use Rattle.pas_check.proofs.Takings.{if_ok}
 use Rattle.pas_check.proofs.acting.free_entry.Goals as goal
 
@@ -18,21 +16,11 @@ returns-then-not-is_at_grain-clause-taken c = λ f act frees.
     freed_unaligned f c.args.text.now c.args.judge.now c.args.cursor.now c.args.k c.args.entry c.requires.within act frees c.if-not-has_page.ensures c.if-not-is_at_grain.ensures
     c.take_record-unaligned.new.cursor c.take_record-unaligned.result (c.take_record-unaligned.ensures.led f)
 
-pub returns-then-is_full-clause-taken : goal.returns-then-is_full-clause-taken
-returns-then-is_full-clause-taken c =
-    if_ok c.refill_log.result (λ (taken : Bool). (f : Profile)
-    → LogEmptied f c.args.text.now c.args.judge.now c.args.cursor.now c.refill_log.new.judge c.refill_log.new.cursor c.args.k (c.args.entry ∷ []) taken)
-    (λ (taken : Bool). (f : Profile) (act : Act) → FreesEntry f c.args.judge.now c.args.cursor.now act c.args.k c.args.entry
-    → ActTaken f c.args.text.now c.args.judge.now c.args.cursor.now c.refill_log.new.judge c.refill_log.new.cursor act taken)
-    (λ taken emptied f act frees. freed_full f c.args.text.now c.args.judge.now c.args.cursor.now c.args.k c.args.entry c.requires.within act frees
-    c.if-not-has_page.ensures c.if-not-is_at_grain.ensures c.requires.held
-    c.if-is_full.ensures c.refill_log.new.judge c.refill_log.new.cursor taken (emptied f)) c.refill_log.ensures.taken
-
 pub returns-clause-taken : goal.returns-clause-taken
-returns-clause-taken c = λ f act frees.
-    freed_logged f c.args.text.now c.args.judge.now c.args.cursor.now c.args.k c.args.entry c.requires.within act frees c.if-not-has_page.ensures
-    c.if-not-is_at_grain.ensures c.requires.held
-    c.if-is_full.ensures c.add.new.self c.add.ensures.added c.add.ensures.others c.add.ensures.held
-
-pub add-requires-clause-room : goal.add-requires-clause-room
-add-requires-clause-room c = leb-false 64 (length (logged c.args.judge.now.logs c.args.k)) (sym c.if-is_full.ensures)
+returns-clause-taken c =
+    if_ok c.log_entry.result
+    (λ (taken : Bool). (f : Profile) → EntryLogged f c.args.text.now c.args.judge.now c.args.cursor.now c.log_entry.new.judge c.log_entry.new.cursor c.args.k c.args.entry taken)
+    (λ (taken : Bool). (f : Profile) (act : Act) → FreesEntry f c.args.judge.now c.args.cursor.now act c.args.k c.args.entry
+    → ActTaken f c.args.text.now c.args.judge.now c.args.cursor.now c.log_entry.new.judge c.log_entry.new.cursor act taken)
+    (λ taken logged f act frees. freed_logged f c.args.text.now c.args.judge.now c.args.cursor.now c.args.k c.args.entry c.requires.within act frees
+    c.if-not-has_page.ensures c.if-not-is_at_grain.ensures c.log_entry.new.judge c.log_entry.new.cursor taken (logged f)) c.log_entry.ensures.taken

@@ -1,4 +1,4 @@
-use Rattle.std.proofs.Common.{◌≡◌, ◌⊎◌, ◌∙◌, ℕ, Bool, inl, inr, ap, subst}
+use Rattle.std.proofs.Common.{◌≡◌, ◌⊎◌, ◌∙◌, ℕ, Bool, None, inl, inr, ap, subst}
 use Rattle.pas_profile.specs.declared.profile.Profile.{Profile}
 use Rattle.pas_trace.specs.Acts.{Act, Operates}
 use Rattle.pas_trace.specs.declared.item.Request.{Request}
@@ -7,7 +7,7 @@ use Rattle.pas_trace.specs.declared.plan.What.TheVariants.{Tick, Pass, Idle}
 use Rattle.pas_check.specs.Begins.{begun_what, entry_of, unsized}
 use Rattle.pas_check.specs.Calls.{IsWanted, asked_for}
 use Rattle.pas_check.specs.States.{Stand}
-use Rattle.pas_check.specs.Tasks.{ActTaken, Asks, FreesEntry, FreesNamed}
+use Rattle.pas_check.specs.Tasks.{ActTaken, Asks, FreesEntry, FreesNamed, Remakes}
 use Rattle.pas_check.proofs.Actings.{nothing_begun, of_profile}
 use Rattle.pas_check.proofs.Takings.{if_ok}
 use Rattle.pas_check.proofs.acting.operate.Goals as goal
@@ -21,12 +21,12 @@ chore_begun f s k what (inr (inr is)) = ap (λ (w : What). begun_what f s k w) i
 pub returns-in-Alloc-clause-taken : goal.returns-in-Alloc-clause-taken
 returns-in-Alloc-clause-taken c =
     if_ok c.request.result
-    (λ (taken : Bool). (f : Profile) (act : Act) (r : Request) → Asks f act c.args.op.actor r → IsWanted f r c.wanted_for-wanted.result
+    (λ (taken : Bool). (f : Profile) (act : Act) (r : Request) → Asks f c.args.judge.now c.args.cursor.now act c.args.op.actor r None → IsWanted f r c.wanted_for-wanted.result
     → ActTaken f c.args.text.now c.args.judge.now c.args.cursor.now c.request.new.judge c.request.new.cursor act taken)
     (λ (taken : Bool). (f : Profile) → ActTaken f c.args.text.now c.args.judge.now c.args.cursor.now c.request.new.judge c.request.new.cursor (Operates c.args.op) taken)
     (λ taken asked f. of_profile f c.args.text.now c.args.judge.now c.request.new.judge c.args.cursor.now c.request.new.cursor (Operates c.args.op) taken
     (λ same. asked f (Operates c.args.op) (asked_for c.in-Alloc.name c.in-Alloc.heap c.in-Alloc.size c.in-Alloc.align)
-    (λ s. ap (λ (w : What). begun_what f s c.args.op.actor w) c.in-Alloc.is)
+    (λ s stands. ap (λ (w : What). begun_what f s c.args.op.actor w) c.in-Alloc.is)
     (subst (λ g. IsWanted g (asked_for c.in-Alloc.name c.in-Alloc.heap c.in-Alloc.size c.in-Alloc.align) c.wanted_for-wanted.result)
     (c.profile.ensures ∙ same) c.wanted_for-wanted.ensures.wanted)))
     c.request.ensures.taken
@@ -62,6 +62,14 @@ returns-in-RawSized-clause-taken c =
     → ActTaken f c.args.text.now c.args.judge.now c.args.cursor.now c.free_entry-in-RawSized.new.judge c.free_entry-in-RawSized.new.cursor act taken)
     (λ (taken : Bool). (f : Profile) → ActTaken f c.args.text.now c.args.judge.now c.args.cursor.now c.free_entry-in-RawSized.new.judge c.free_entry-in-RawSized.new.cursor (Operates c.args.op) taken)
     (λ taken freed f. freed f (Operates c.args.op) (λ s stands. ap (λ (w : What). begun_what f s c.args.op.actor w) c.in-RawSized.is)) c.free_entry-in-RawSized.ensures.taken
+
+pub returns-in-Remake-clause-taken : goal.returns-in-Remake-clause-taken
+returns-in-Remake-clause-taken c =
+    if_ok c.remake.result
+    (λ (taken : Bool). (f : Profile) (act : Act) → Remakes f act c.args.op.actor c.in-Remake.name c.in-Remake.old c.in-Remake.size c.in-Remake.align
+    → ActTaken f c.args.text.now c.args.judge.now c.args.cursor.now c.remake.new.judge c.remake.new.cursor act taken)
+    (λ (taken : Bool). (f : Profile) → ActTaken f c.args.text.now c.args.judge.now c.args.cursor.now c.remake.new.judge c.remake.new.cursor (Operates c.args.op) taken)
+    (λ taken remade f. remade f (Operates c.args.op) (λ s. ap (λ (w : What). begun_what f s c.args.op.actor w) c.in-Remake.is)) c.remake.ensures.taken
 
 pub returns-in-Tick-clause-taken : goal.returns-in-Tick-clause-taken
 returns-in-Tick-clause-taken c = λ f.
