@@ -539,6 +539,6 @@ pub(crate) fn operate(
             ..
         } => remake(judge, text, cursor, k, name, old, size, align),
         What::Flush | What::Stop => flush(judge, text, cursor, k),
-        What::Tick(_) | What::Pass | What::Idle(_) | What::Remake { .. } => Ok(true),
+        What::Tick(_) | What::Pass | What::Idle(_) => Ok(true),
     }
 }

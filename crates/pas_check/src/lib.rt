@@ -17,10 +17,12 @@ pub mod reading;
 mod reporting;
 mod requesting;
 mod serving;
+mod splitting;
 mod taking;
 pub mod verdict;
 pub mod whole;
 
 pub use reading::read_record;
+pub use splitting::{Parts, split};
 pub use verdict::Verdict;
 pub use whole::check;

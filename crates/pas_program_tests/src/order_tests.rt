@@ -35,10 +35,10 @@ fn replays_a_trace(rt: HostRuntime) -> Result<(), Fail> {
     Ok(())
 }
 
-const USAGE: &str = "usage: pas order | pas run | pas gen SEED OPS THREADS PAGES\n";
+const USAGE: &str = "usage: pas order | pas run | pas check | pas gen SEED OPS THREADS PAGES\n";
 
 /// Lists of words that aren't accepted.
-const OTHERS: [&[&str]; 20] = [
+const OTHERS: [&[&str]; 24] = [
     &[],
     &["order", "--"],
     &["order", "order"],
@@ -50,6 +50,10 @@ const OTHERS: [&[&str]; 20] = [
     &["run", "run"],
     &["order", "run"],
     &["Run"],
+    &["check", "check"],
+    &["check", "--"],
+    &["check", "order"],
+    &["Check"],
     &["help"],
     &["gen", "7", "12", "4", "1024", "1"],
     &["gen", "07", "12", "4", "1024"],
@@ -72,7 +76,7 @@ fn is_misread<R: AllocGlobal + Threads + Wait + Sync>(
 
 #[test]
 fn other_words_read_nothing(rt: HostRuntime) -> Result<(), Fail> {
-    for at in 0..20 {
+    for at in 0..24 {
         assert!(rt; is_misread(&rt, OTHERS[at])?);
     }
     assert!(rt; may_be_cut_off(&rt, &["gen", "7"], "", 2, USAGE.as_bytes())?);
