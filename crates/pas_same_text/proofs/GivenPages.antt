@@ -106,8 +106,8 @@ module _ (f : Profile) (p : Progress) (w : World) (valid : IsValid f) (between :
   page_idle page e =
       let backed : backed_in (visible p.list) page ≡ true = one_backed (backed_in (visible p.list) page) (sym e.backed ∙ (agrees f p.list valid between.legal).backed page) in
       let empty : is_empty w page ≡ true = each_all 256 0 (is_free w page) (λ b low high.
-          let of : (256 * page + b) / 256 ≡ page = omega (arith, high) in
-          free_same f p w valid between same page b high ∙ e.free (256 * page + b) of) in
+      let of : (256 * page + b) / 256 ≡ page = omega (arith, high) in
+      free_same f p w valid between same page b high ∙ e.free (256 * page + b) of) in
       both (backed_in w.events page) (is_empty w page) (backed_is page ∙ backed) empty
     where
       both : (x y : Bool) → x ≡ true → y ≡ true → (x && y) ≡ true
@@ -129,7 +129,6 @@ pub record IsGivenBack (f : Profile) (k : ℕ) (l : Whole) (w : World) (steps : 
 
 module _ (f : Profile) (k : ℕ) (l : Whole) (p' : Progress) (w v : World) (steps : List Made) (valid : IsValid f) (was : ArePagesSame f l w) (list : p'.list ≡ triples k steps ++ l) (between : IsBetween f p') (same : HasSame f p' v)
     (given : IsGivenBack f k l w steps v) where
-
   legal : Legal f (triples k steps ++ l)
   legal = subst (Legal f) list between.legal
 

@@ -73,7 +73,7 @@ IsMarked q = Once (λ m before. is_mark q m.step ≡ true)
 once_parts : (P : Made → Type 0) (ys xs : List Made) → Once (λ m before. P m) (ys ++ xs) → Once (λ m before. P m) ys ⊎ Once (λ m before. P m) xs
 once_parts P [] xs h = inr h
 once_parts P (y ∷ ys) xs (inl h) = inl (inl h)
-once_parts P (y ∷ ys) xs (inr h) = elim (once_parts P ys xs h) [ | inl first ↦ inl (inr first) | inr later ↦ inr later ]
+once_parts P (y ∷ ys) xs (inr h) = elim (once_parts P ys xs h) [ inl first ↦ inl (inr first) | inr later ↦ inr later ]
 
 pub marked_parts : (q : ℕ) (ys xs : List Made) → IsMarked q (ys ++ xs) → IsMarked q ys ⊎ IsMarked q xs
 marked_parts q ys xs h = once_parts (λ m. is_mark q m.step ≡ true) ys xs h
@@ -123,7 +123,7 @@ hint_one e s p old h = inl h
 pub hinted_by : (k : ℕ) (xs : List Made) (l : Whole) (p : ℕ) → empty_bit (triples k xs ++ l) p ≡ true → (empty_bit l p ≡ true) ⊎ HintsPage p xs
 hinted_by k [] l p h = inl h
 hinted_by k (m ∷ xs) l p h = elim (hint_one (epoch_of (part k (triples k xs ++ l))) m.step p (word_after (triples k xs ++ l) (Word.Empty (p / 64))) h) [
-  | inl was ↦ elim (hinted_by k xs l p was) [ | inl old ↦ inl old | inr later ↦ inr (inr later) ]
+  | inl was ↦ elim (hinted_by k xs l p was) [ inl old ↦ inl old | inr later ↦ inr (inr later) ]
   | inr here ↦ inr (inl here)
 ]
 
@@ -150,7 +150,7 @@ offer_one e s n p old h = inl h
 pub offered_by : (k : ℕ) (xs : List Made) (l : Whole) (n p : ℕ) → eligible_bit (triples k xs ++ l) n p ≡ true → (eligible_bit l n p ≡ true) ⊎ OffersPage p xs
 offered_by k [] l n p h = inl h
 offered_by k (m ∷ xs) l n p h = elim (offer_one (epoch_of (part k (triples k xs ++ l))) m.step n p (word_after (triples k xs ++ l) (Word.Eligible n (p / 64))) h) [
-  | inl was ↦ elim (offered_by k xs l n p was) [ | inl old ↦ inl old | inr later ↦ inr (inr later) ]
+  | inl was ↦ elim (offered_by k xs l n p was) [ inl old ↦ inl old | inr later ↦ inr (inr later) ]
   | inr here ↦ inr (inl here)
 ]
 
