@@ -9,18 +9,17 @@ use Rattle.pas_report.specs.Lines.{lines_of}
 use Rattle.pas_report.specs.Marks.{marks_after}
 use Rattle.pas_report.specs.Reports.{report_text}
 use Rattle.pas_report.specs.Rests.{AreTrueMarks}
-use Rattle.pas_trace.specs.Acts.{Act, acts_of}
+use Rattle.pas_trace.specs.Acts.{Act}
 use Rattle.pas_trace.specs.EveryPlan.{IsThread}
-use Rattle.pas_trace.specs.declared.plan.Op.{Op}
 use Rattle.pas_trace.specs.declared.plan.What.{What}
 use Rattle.pas_answers.specs.Answers.{Progress}
-use Rattle.pas_answers.specs.Reaching.{Advances, Reaches}
+use Rattle.pas_answers.specs.Reaching.{Reaches}
 use Rattle.pas_answers.specs.Replays.{at_start}
 use Rattle.pas_one_text.specs.State.{World, each}
-use Rattle.pas_one_text.specs.Order.{acts_on, opened, replayed}
+use Rattle.pas_one_text.specs.Order.{acts_on, opened}
 use Rattle.pas_one_text.specs.Reports.{text_of}
 use Rattle.pas_same_text.specs.Same.{IsSame}
-use Rattle.pas_same_text.specs.Acts.{IsBetween, IsTaken, HasUsableBlocks, StaysSame, StaysSameWhere}
+use Rattle.pas_same_text.specs.Acts.{IsBetween, IsTaken, HasUsableBlocks}
 use Rattle.pas_same_text.specs.Plans.{AllBetween, AllProved, IsCachedBy, IsProvedWhat, IsProvedAct}
 use Rattle.pas_same_text.proofs.BackActs.{flush_act, stop_act, end_act, idle_act, raw_act, raw_sized_act, free_act, free_sized_act, remake_act}
 use Rattle.pas_same_text.proofs.CachedSlots.{cached_same}

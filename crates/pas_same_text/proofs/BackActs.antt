@@ -1,12 +1,10 @@
 -- THE ACTS THAT GIVE BACK: flushes, stops, stops of idle threads, the close, and frees into any log.
-use Rattle.std.proofs.Common.{◌≡◌, ℕ, ◌+◌, ◌%◌, ◌≤◌, ◌<◌, ◌==◌, nat_le, Bool, true, false, if◌then◌else◌, List, [], ◌∷◌, ◌++◌, length, Option, None, Some, ◌⊎◌, inl, inr, refl, ap, sym, ◌∙◌, subst, append_assoc, arith}
-use Rattle.std.specs.Prelude.{All}
+use Rattle.std.proofs.Common.{◌≡◌, ℕ, ◌+◌, ◌%◌, ◌≤◌, ◌==◌, nat_le, Bool, true, false, if◌then◌else◌, List, [], ◌∷◌, ◌++◌, length, Option, None, Some, inl, inr, refl, ap, sym, ◌∙◌, subst, append_assoc, arith}
 use Rattle.std.proofs.lemmas.Bool.{false≢true, eq-eqb}
 use Rattle.std.proofs.lemmas.Bool.Decides.{nat_tests}
 use Rattle.std.proofs.lemmas.List.Elements.{All-nil}
 use Rattle.pas_profile.specs.Blocks.{address_of}
 use Rattle.pas_profile.specs.Profiles.{IsValid}
-use Rattle.pas_profile.specs.declared.event.Event.{Event}
 use Rattle.pas_profile.specs.declared.name.Block.{Block}
 use Rattle.pas_profile.specs.declared.name.Name.{Name}
 use Rattle.pas_profile.specs.declared.profile.Profile.{Profile}
@@ -20,7 +18,7 @@ use Rattle.pas_free_log.specs.declared.log.Entry.{Entry}
 use Rattle.pas_free_log.specs.declared.noting.EndedRun.{EndedRun}
 use Rattle.pas_cache.specs.Caches.{AtRest}
 use Rattle.pas_cache.specs.Calls.{TakesEntry}
-use Rattle.pas_cache.specs.Changes.{LogsEntry, EmptiesLog, EmptiesFull}
+use Rattle.pas_cache.specs.Changes.{LogsEntry, EmptiesFull}
 use Rattle.pas_cache.specs.Contents.{Cached}
 use Rattle.pas_cache.specs.Locals.{RestsWith}
 use Rattle.pas_segregated.specs.declared.slots.Slots.{Slots}
@@ -30,13 +28,13 @@ use Rattle.pas_report.specs.declared.record.Said.TheVariants as Said
 use Rattle.pas_trace.specs.Acts.{Act}
 use Rattle.pas_trace.specs.EveryPlan.{IsThread}
 use Rattle.pas_trace.specs.declared.plan.What.TheVariants.{Free, FreeSized, Raw, RawSized, Remake, Flush, Stop}
-use Rattle.pas_answers.specs.Answers.{Progress, Named, named, Answer, having, IsRemadeBy, IsFreed, IsFreedBy, IsFlushed, IsStopped, IsIdleFor, standing_for, records_of, said_by, with_records, with_steps, after_answer, after_stop, room_noted, stopped}
+use Rattle.pas_answers.specs.Answers.{Progress, Named, named, Answer, having, IsRemadeBy, IsFreed, IsFreedBy, IsFlushed, IsStopped, standing_for, records_of, said_by, with_records, with_steps, after_answer, after_stop, room_noted}
 use Rattle.pas_answers.specs.Answers.{with_cache as with_cached}
 use Rattle.pas_one_text.specs.State.{World, Cache, cache_of, set_cache, log_of, says, names_it}
 use Rattle.pas_one_text.specs.Order.{keeps_block, replaces, remakes}
-use Rattle.pas_one_text.specs.Frees.{adds, logs, frees, frees_what, frees_named, flushes, stops}
+use Rattle.pas_one_text.specs.Frees.{adds, frees, frees_what, frees_named, flushes, stops}
 use Rattle.pas_one_text.specs.Passes.{stops_idle}
-use Rattle.pas_same_text.specs.Same.{IsSame, IsSameCache, AreSameCaches}
+use Rattle.pas_same_text.specs.Same.{IsSame, IsSameCache}
 use Rattle.pas_same_text.specs.Acts.{IsBetween, IsTaken, AreBlocksUsable, HasUsableBlocks, StaysSameWhere}
 use Rattle.pas_same_text.proofs.CacheLists.{same_own, same_with, same_again}
 use Rattle.pas_same_text.proofs.FlushActs.{flush_same}

@@ -1,5 +1,5 @@
 -- A request of a class for which the thread's cache has a slot.
-use Rattle.std.proofs.Common.{◌≡◌, ℕ, zero, suc, ◌+◌, ◌*◌, ◌<◌, ◌==◌, Bool, true, false, not, ◌&&◌, if◌then◌else◌, List, [], ◌∷◌, ◌++◌, Option, None, Some, Result, Ok, Err, inl, inr, refl, ap, sym, ◌∙◌, subst, arith}
+use Rattle.std.proofs.Common.{◌≡◌, ℕ, ◌+◌, ◌*◌, ◌<◌, ◌==◌, Bool, true, false, not, ◌&&◌, if◌then◌else◌, List, [], ◌∷◌, ◌++◌, Option, None, Some, Result, Ok, Err, inl, inr, refl, ap, sym, ◌∙◌, subst, arith}
 use Rattle.std.proofs.lemmas.Bool.{eqb-true, false≢true}
 use Rattle.std.specs.List.{find}
 use Rattle.pas_bits.specs.Masks.{is_set, HasMember, IsLowestSet}
@@ -39,7 +39,7 @@ use Rattle.pas_answers.specs.Answers.{Progress, Named, named, Answer, having, Is
 use Rattle.pas_answers.specs.Answers.{block_of as block_answered}
 use Rattle.pas_one_text.specs.State.{Local, World, cache_of, locals_of}
 use Rattle.pas_one_text.specs.Classes.{is_for, others, gives_first, gives_up, fetches, serves_class, serves_class_by}
-use Rattle.pas_one_text.specs.Pages.{each_of, is_free, is_kept, is_of, has_room, is_offered}
+use Rattle.pas_one_text.specs.Pages.{is_free, is_kept, is_of, has_room, is_offered}
 use Rattle.pas_one_text.specs.Searches.{some_of, address_on}
 use Rattle.pas_same_text.specs.Same.{IsSame, HasSame, IsSameCache, IsSameLocal, AreSameLocals, IsRising, has_number}
 use Rattle.pas_one_text.specs.Order.{serves}

@@ -1,6 +1,6 @@
 -- What the text does where a block ends: its grains come back to its pages, and no other page changes.
-use Rattle.std.proofs.Common.{◌≡◌, ℕ, ◌+◌, ◌*◌, ◌<◌, ◌==◌, nat_lt, Bool, true, false, not, ◌&&◌, ◌||◌, if◌then◌else◌, List, [], ◌∷◌, ◌++◌, length, Some, None, Option, inl, inr, refl, ap, sym, ◌∙◌, subst}
-use Rattle.std.proofs.lemmas.Bool.{true≢false, false≢true, eqb-true, eq-eqb, false_from_ne_true}
+use Rattle.std.proofs.Common.{◌≡◌, ℕ, ◌+◌, ◌*◌, ◌==◌, nat_lt, Bool, true, false, not, ◌&&◌, ◌||◌, if◌then◌else◌, List, [], ◌∷◌, ◌++◌, length, Some, None, Option, inl, inr, refl, ap, sym, ◌∙◌}
+use Rattle.std.proofs.lemmas.Bool.{false≢true, eqb-true, eq-eqb}
 use Rattle.std.specs.List.{list_any, filter}
 use Rattle.pas_bits.specs.Runs.{in_run, meets_page}
 use Rattle.pas_profile.specs.Blocks.{address_of, grain_of, length_of}
@@ -11,12 +11,12 @@ use Rattle.pas_profile.specs.declared.name.Block.{Block}
 use Rattle.pas_profile.specs.declared.name.Name.{Name}
 use Rattle.pas_profile.specs.declared.profile.Profile.{Profile}
 use Rattle.pas_machine.specs.Machine.{Run}
-use Rattle.pas_machine.specs.State.{Live, live_in, backed_in}
+use Rattle.pas_machine.specs.State.{Live, live_in}
 use Rattle.pas_steps.proofs.Sets.{same_truth}
 use Rattle.pas_free_log.specs.declared.noting.EndedRun.{EndedRun}
-use Rattle.pas_one_text.specs.State.{Local, Cache, World, is_at, shows, cache_of, noted_of, with_cache}
+use Rattle.pas_one_text.specs.State.{Local, World, is_at, shows, cache_of, noted_of, with_cache}
 use Rattle.pas_one_text.specs.Indexes.{notes, run_of}
-use Rattle.pas_one_text.specs.Pages.{is_free, is_covered, is_cached, is_hinted, blocks_on, locals_on, page_numbers}
+use Rattle.pas_one_text.specs.Pages.{is_covered, is_cached, is_hinted, blocks_on, locals_on, page_numbers}
 use Rattle.pas_one_text.specs.Frees.{pages_of, ends_block, rejects}
 use Rattle.pas_same_text.specs.Same.{lives_in, has_number}
 use Rattle.pas_same_text.proofs.CacheLists.{all_locals, locals_with}

@@ -1,12 +1,12 @@
 -- One logged free by its steps: the event that they make, the block that ended, and what is noted, marked and hinted.
-use Rattle.std.proofs.Common.{◌≡◌, ℕ, zero, suc, ◌+◌, ◌-◌, ◌*◌, ◌/◌, ◌%◌, ◌^◌, ◌<◌, ◌≤◌, ◌≢◌, ◌==◌, nat_lt, Bool, true, false, not, ◌&&◌, if◌then◌else◌, List, [], ◌∷◌, ◌++◌, Option, None, Some, ◌⊎◌, inl, inr, refl, ap, sym, ◌∙◌, subst, arith}
+use Rattle.std.proofs.Common.{◌≡◌, ℕ, zero, suc, ◌+◌, ◌*◌, ◌/◌, ◌%◌, ◌^◌, ◌<◌, ◌≤◌, ◌==◌, nat_lt, Bool, true, false, not, ◌&&◌, if◌then◌else◌, List, [], ◌∷◌, ◌++◌, Option, None, Some, inl, inr, refl, ap, sym, ◌∙◌, subst, arith}
 use Rattle.std.proofs.lemmas.Bool.{eq-eqb, true≢false}
 use Rattle.pas_bits.specs.Runs.{meets_page}
 use Rattle.pas_bits.proofs.Runs.{to_meet}
 use Rattle.pas_profile.specs.Blocks.{address_of, grain_of, length_of}
 use Rattle.pas_profile.specs.Directories.{directory_read, deed_word_of}
 use Rattle.pas_profile.specs.Lives.{live_word, is_live, turn_of}
-use Rattle.pas_profile.specs.Profiles.{IsValid, IsPage}
+use Rattle.pas_profile.specs.Profiles.{IsValid}
 use Rattle.pas_profile.specs.declared.directory.Directory.{Directory}
 use Rattle.pas_profile.specs.declared.event.Event.{Event}
 use Rattle.pas_profile.specs.declared.event.Why.{Why}
@@ -16,13 +16,13 @@ use Rattle.pas_profile.specs.declared.word.Word.TheVariants as Word
 use Rattle.pas_profile.proofs.Codecs.{read-deed_word_of, directory_from_profile}
 use Rattle.pas_machine.specs.State.{Live, live_in, deed_in, gives_in, ends_in}
 use Rattle.pas_steps.specs.Allowed.{IsStepOf, IsEndIn}
-use Rattle.pas_steps.specs.Desks.{made, triple, triples}
+use Rattle.pas_steps.specs.Desks.{made, triples}
 use Rattle.pas_steps.specs.Effects.{target, life_word_at}
 use Rattle.pas_steps.specs.Events.{event_of, events_by, with_event}
-use Rattle.pas_steps.specs.Kinds.{Kinds, Only, kind_of, is_in, LookDeed, Putting, Stamping, returning}
+use Rattle.pas_steps.specs.Kinds.{Only, kind_of, is_in, LookDeed, Putting, Stamping, returning}
 use Rattle.pas_steps.specs.Lists.{Whole, part, word_after, visible, Legal}
 use Rattle.pas_steps.specs.Past.{Always}
-use Rattle.pas_steps.specs.Views.{View, epoch_of, or_zero}
+use Rattle.pas_steps.specs.Views.{epoch_of, or_zero}
 use Rattle.pas_steps.specs.declared.step.Made.{Made}
 use Rattle.pas_steps.specs.declared.step.Step.TheVariants.{Look, Stamp}
 use Rattle.pas_steps.proofs.Apart.{only_both, only_within, epoch_same, events_same}
@@ -35,7 +35,7 @@ use Rattle.pas_core.proofs.OneActor.{legal_earlier}
 use Rattle.pas_rights.specs.Looks.{HintsEmpty}
 use Rattle.pas_rights.proofs.Orders.{return_returns}
 use Rattle.pas_rights.proofs.Puts.{puts_kinds}
-use Rattle.pas_free_log.specs.Endings.{guess_by, TriesBy, last_step, IsRefusedBy, IsEndOf, EndSteps, reason_by, reason_for}
+use Rattle.pas_free_log.specs.Endings.{guess_by, TriesBy, last_step, IsEndOf, EndSteps, reason_by, reason_for}
 use Rattle.pas_free_log.specs.Flushes.{Settled, EntrySteps, AfterEnd, event_for}
 use Rattle.pas_free_log.specs.Frames.{ending, putting_back}
 use Rattle.pas_free_log.specs.Logs.{is_sized}

@@ -1,9 +1,8 @@
 -- FLUSHES as acts: all entries of a log take effect.
-use Rattle.std.proofs.Common.{◌≡◌, ℕ, ◌+◌, ◌*◌, ◌/◌, ◌%◌, ◌<◌, ◌≤◌, ◌==◌, Bool, true, false, if◌then◌else◌, List, [], ◌∷◌, ◌++◌, map, reverse, Option, None, Some, refl, ap, sym, ◌∙◌, subst, append_assoc, arith}
+use Rattle.std.proofs.Common.{◌≡◌, ℕ, ◌+◌, ◌*◌, ◌/◌, ◌%◌, ◌<◌, ◌==◌, Bool, true, false, if◌then◌else◌, List, [], ◌∷◌, ◌++◌, map, reverse, Option, None, Some, refl, ap, sym, ◌∙◌, subst, arith}
 use Rattle.std.proofs.lemmas.Bool.{true≢false, false≢true, eqb-true, eqb-false}
 use Rattle.std.proofs.lemmas.Grind.{reverse_onto}
 use Rattle.std.proofs.lemmas.List.{reverse-append}
-use Rattle.pas_bits.specs.Runs.{in_run}
 use Rattle.pas_bits.proofs.Runs.{IsMet, met}
 use Rattle.pas_profile.specs.Blocks.{length_of}
 use Rattle.pas_profile.specs.Profiles.{IsValid, IsPage, IsDirectoryOf}
@@ -14,17 +13,17 @@ use Rattle.pas_profile.specs.declared.word.Word.TheVariants as Word
 use Rattle.pas_machine.specs.Machine.{Run}
 use Rattle.pas_machine.specs.State.{Live, live_in, deed_in}
 use Rattle.pas_machine.proofs.LiveBlocks.{live_apart, live_long}
-use Rattle.pas_steps.specs.Desks.{made, triple, triples}
+use Rattle.pas_steps.specs.Desks.{made, triples}
 use Rattle.pas_steps.specs.Events.{events_by}
-use Rattle.pas_steps.specs.Lists.{Whole, part, word_after, visible, Legal}
+use Rattle.pas_steps.specs.Lists.{part, visible, Legal}
 use Rattle.pas_steps.specs.Views.{holds, usable_by_kind}
 use Rattle.pas_steps.specs.declared.step.Made.{Made}
 use Rattle.pas_steps.specs.declared.step.Step.TheVariants.{Look}
 use Rattle.pas_core.specs.Good.{IsPartOf}
 use Rattle.pas_core.proofs.MachineRuns.{runs}
-use Rattle.pas_core.proofs.OneActor.{legal_before, legal_earlier}
+use Rattle.pas_core.proofs.OneActor.{legal_earlier}
 use Rattle.pas_free_log.specs.Frames.{freeing}
-use Rattle.pas_free_log.specs.Flushes.{Settled, shown_for, noted_after}
+use Rattle.pas_free_log.specs.Flushes.{Settled, noted_after}
 use Rattle.pas_free_log.specs.declared.log.Entry.{Entry}
 use Rattle.pas_free_log.specs.declared.noting.EndedRun.{EndedRun}
 use Rattle.pas_segregated.specs.declared.slots.Slots.{Slots}
@@ -35,18 +34,16 @@ use Rattle.pas_report.specs.declared.record.Record.{Record}
 use Rattle.pas_trace.specs.EveryPlan.{IsThread}
 use Rattle.pas_answers.specs.Answers.{Progress, records_of, with_steps, with_records}
 use Rattle.pas_answers.specs.Answers.{with_cache as with_cached}
-use Rattle.pas_one_text.specs.State.{World, each, log_of, set_log}
+use Rattle.pas_one_text.specs.State.{World, each, set_log}
 use Rattle.pas_one_text.specs.Frees.{ends, flushes}
-use Rattle.pas_one_text.specs.Pages.{is_of, is_free, has_room}
+use Rattle.pas_one_text.specs.Pages.{is_of, has_room}
 use Rattle.pas_same_text.specs.Same.{IsSame, HasSame, AreSameCaches}
 use Rattle.pas_same_text.specs.Acts.{IsBetween, AreBlocksUsable}
 use Rattle.pas_same_text.specs.Words.{free_bit}
-use Rattle.pas_same_text.proofs.CacheLists.{same_own, same_other}
 use Rattle.pas_same_text.proofs.FlushedLogs.{IsFlushedTo, IsEndedOn, OnlyFewer, flushed_start, flushed_all}
 use Rattle.pas_same_text.proofs.FreeGrains.{free_same, holder_is}
-use Rattle.pas_same_text.proofs.GivenBack.{Returns}
 use Rattle.pas_same_text.proofs.GivenPages.{IsGivenBack, room_from, covered_not_held, free_left, given_pages}
-use Rattle.pas_same_text.proofs.GivingBack.{OffersPage, HintsPage, hint_marks, offer_marks, offered_of_region, epoch_stays_by}
+use Rattle.pas_same_text.proofs.GivingBack.{OffersPage, hint_marks, offer_marks, offered_of_region, epoch_stays_by}
 use Rattle.pas_same_text.proofs.RestingPages.{deed_now}
 
 -- ---- records

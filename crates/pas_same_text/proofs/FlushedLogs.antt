@@ -1,7 +1,7 @@
 -- A FLUSH, entry by entry: its steps beside what the text does.
-use Rattle.std.proofs.Common.{◌≡◌, ℕ, zero, suc, ◌+◌, ◌-◌, ◌*◌, ◌/◌, ◌<◌, ◌≤◌, ◌==◌, nat_lt, Bool, true, false, not, ◌&&◌, ◌||◌, if◌then◌else◌, List, [], ◌∷◌, ◌++◌, length, map, reverse, take, Option, None, Some, ◌⊎◌, inl, inr, refl, ap, sym, ◌∙◌, subst, append_assoc, length-append, arith}
+use Rattle.std.proofs.Common.{◌≡◌, ℕ, zero, suc, ◌-◌, ◌/◌, ◌<◌, ◌≤◌, ◌==◌, nat_lt, Bool, true, false, ◌||◌, if◌then◌else◌, List, [], ◌∷◌, ◌++◌, length, map, reverse, take, Option, None, Some, inl, inr, refl, ap, sym, ◌∙◌, subst, append_assoc, length-append, arith}
 use Rattle.std.specs.Prelude.{option_to_list}
-use Rattle.std.proofs.lemmas.Bool.{eq-eqb, true≢false, false≢true, eqb-true, ne_eqb, eqb-false}
+use Rattle.std.proofs.lemmas.Bool.{eq-eqb, false≢true}
 use Rattle.std.proofs.lemmas.Bool.Decides.{nat_tests}
 use Rattle.std.proofs.lemmas.Grind.{reverse_onto}
 use Rattle.std.specs.List.{flat_map}
@@ -10,14 +10,13 @@ use Rattle.pas_profile.specs.Blocks.{address_of, grain_of, length_of}
 use Rattle.pas_profile.specs.Profiles.{IsValid, IsPage}
 use Rattle.pas_profile.specs.declared.directory.Directory.{Directory}
 use Rattle.pas_profile.specs.declared.event.Event.{Event}
-use Rattle.pas_profile.specs.declared.name.Block.{Block}
 use Rattle.pas_profile.specs.declared.name.Name.{Name}
 use Rattle.pas_profile.specs.declared.profile.Profile.{Profile}
 use Rattle.pas_profile.specs.declared.word.Word.TheVariants as Word
 use Rattle.pas_machine.specs.Machine.{Run}
 use Rattle.pas_machine.specs.State.{Live, live_in, deed_in}
 use Rattle.pas_machine.proofs.LiveBlocks.{lives_where}
-use Rattle.pas_steps.specs.Desks.{made, triple, triples}
+use Rattle.pas_steps.specs.Desks.{made, triples}
 use Rattle.pas_steps.specs.Kinds.{Only, LookEpoch}
 use Rattle.pas_steps.specs.Lists.{Whole, part, visible, Legal}
 use Rattle.pas_steps.specs.Past.{Always}
@@ -43,14 +42,13 @@ use Rattle.pas_report.specs.declared.record.Record.{Record}
 use Rattle.pas_trace.specs.EveryPlan.{IsThread}
 use Rattle.pas_answers.specs.Answers.{Caches}
 use Rattle.pas_answers.specs.Answers.{with_cache as with_cached}
-use Rattle.pas_one_text.specs.State.{World, Cache, each, cache_in, cache_of, with_cache, shows, noted_of, set_log, live_after}
-use Rattle.pas_one_text.specs.Indexes.{run_of}
+use Rattle.pas_one_text.specs.State.{World, Cache, each, cache_of, with_cache, noted_of, set_log, live_after}
 use Rattle.pas_one_text.specs.Frees.{ends, ends_block, is_other_room, rejects, pages_of}
 use Rattle.pas_one_text.specs.Pages.{page_numbers}
 use Rattle.pas_same_text.specs.Entries.{IsShown}
 use Rattle.pas_same_text.specs.Same.{AreSameCaches, IsSameCache, lives_in, has_number}
 use Rattle.pas_same_text.proofs.CacheLists.{all_locals, locals_with, same_with, same_own, same_again, with_own}
-use Rattle.pas_same_text.proofs.EndedBlocks.{rejected_returns, ended_returns, ended_gone, ended_caches, ended_locals, noted_then}
+use Rattle.pas_same_text.proofs.EndedBlocks.{rejected_returns, ended_returns, ended_caches, ended_locals, noted_then}
 use Rattle.pas_same_text.proofs.EntryEvents.{reject_text, end_text, reject_shown, end_shown}
 use Rattle.pas_same_text.proofs.EntrySteps.{IsEndOfBlock, found_block, block_marked, name_same, entry_kinds, entry_events, entry_hints, after_marked, read_directory, reason_is}
 use Rattle.pas_same_text.proofs.GivenBack.{Returns, returns_nothing, returns_then, returns_like, has_both, page_there}

@@ -1,9 +1,9 @@
 -- What the text does where grains come back to pages: which grains are free then, and which pages are hinted.
-use Rattle.std.proofs.Common.{◌≡◌, ℕ, zero, suc, ◌+◌, ◌*◌, ◌<◌, ◌≤◌, ◌≢◌, ◌==◌, Bool, true, false, not, ◌&&◌, ◌||◌, if◌then◌else◌, List, [], ◌∷◌, ◌++◌, inl, inr, refl, ap, sym, ◌∙◌, subst, arith}
+use Rattle.std.proofs.Common.{◌≡◌, ℕ, zero, suc, ◌+◌, ◌<◌, ◌≤◌, ◌≢◌, ◌==◌, Bool, true, false, ◌&&◌, ◌||◌, if◌then◌else◌, List, [], ◌∷◌, ◌++◌, inl, inr, refl, ap, sym, ◌∙◌, arith}
 use Rattle.std.proofs.lemmas.Bool.{false≢true, true≢false, eqb-true, eq-eqb, or_cases, cases_eq}
 use Rattle.std.proofs.lemmas.List.Folds.{list_any-append}
 use Rattle.std.specs.List.{list_any, filter}
-use Rattle.pas_bits.specs.Runs.{in_run, meets_page}
+use Rattle.pas_bits.specs.Runs.{meets_page}
 use Rattle.pas_profile.specs.Blocks.{grain_of, length_of}
 use Rattle.pas_profile.specs.Profiles.{IsPage}
 use Rattle.pas_profile.specs.declared.name.Block.{Block}
@@ -11,7 +11,7 @@ use Rattle.pas_profile.specs.declared.profile.Profile.{Profile}
 use Rattle.pas_profile.specs.declared.event.Event.{Event}
 use Rattle.pas_machine.specs.State.{backed_in}
 use Rattle.pas_trace.specs.Acts.{numbers_from}
-use Rattle.pas_one_text.specs.State.{Local, Cache, World, each}
+use Rattle.pas_one_text.specs.State.{Local, World, each}
 use Rattle.pas_one_text.specs.Pages.{each_of, is_free, is_free_of, is_empty, is_hinted, hints, minds, page_numbers}
 use Rattle.pas_same_text.specs.Same.{has_number}
 use Rattle.pas_same_text.proofs.CacheLists.{all_locals}

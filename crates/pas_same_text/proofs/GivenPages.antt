@@ -1,18 +1,15 @@
 -- Pages after an act that only gives back: which are hinted, and which are offered.
-use Rattle.std.proofs.Common.{◌≡◌, ℕ, ◌+◌, ◌*◌, ◌/◌, ◌%◌, ◌<◌, ◌≤◌, ◌==◌, Bool, true, false, not, ◌&&◌, ◌||◌, List, ◌++◌, Option, None, Some, ◌⊎◌, inl, inr, refl, ap, sym, ◌∙◌, subst, arith}
+use Rattle.std.proofs.Common.{◌≡◌, ℕ, ◌+◌, ◌*◌, ◌/◌, ◌%◌, ◌<◌, Bool, true, false, not, ◌&&◌, ◌||◌, List, ◌++◌, Some, ◌⊎◌, inl, inr, refl, ap, sym, ◌∙◌, subst, arith}
 use Rattle.std.proofs.lemmas.Bool.{true≢false, false≢true, or_cases, false_from_ne_true, eq-eqb}
-use Rattle.pas_bits.specs.Bits.{has_bit}
 use Rattle.pas_profile.specs.Directories.{number_of}
 use Rattle.pas_profile.specs.Profiles.{IsValid, IsPage, IsDirectoryOf}
 use Rattle.pas_profile.specs.declared.directory.Directory.{Directory}
 use Rattle.pas_profile.specs.declared.event.Event.{Event}
 use Rattle.pas_profile.specs.declared.profile.Profile.{Profile}
-use Rattle.pas_profile.specs.declared.word.Word.TheVariants as Word
-use Rattle.pas_machine.specs.State.{Live, live_in, backed_in, deed_in}
+use Rattle.pas_machine.specs.State.{Live, live_in, backed_in}
 use Rattle.pas_steps.specs.Desks.{triples}
-use Rattle.pas_steps.specs.Effects.{free_word_at}
 use Rattle.pas_steps.specs.Kinds.{Only}
-use Rattle.pas_steps.specs.Lists.{Whole, part, word_after, visible, Legal}
+use Rattle.pas_steps.specs.Lists.{Whole, part, visible, Legal}
 use Rattle.pas_steps.specs.Past.{Always}
 use Rattle.pas_steps.specs.Views.{holds, usable_by_kind}
 use Rattle.pas_steps.specs.declared.step.Made.{Made}
@@ -32,9 +29,9 @@ use Rattle.pas_same_text.specs.Same.{HasSame, ArePagesSame, has_number}
 use Rattle.pas_same_text.specs.Acts.{IsBetween}
 use Rattle.pas_same_text.specs.Words.{free_bit}
 use Rattle.pas_same_text.proofs.FreeGrains.{free_same}
-use Rattle.pas_same_text.proofs.GivenBack.{Returns, is_idle, each_at, each_all, each_more}
-use Rattle.pas_same_text.proofs.GivingBack.{IsMarked, OffersPage, HintsPage, hinted_stays, hinted_by, offered_by, hint_marks, offer_marks, hinted_empty}
-use Rattle.pas_same_text.proofs.RestingPages.{Fails, some_fails, clear_of, deed_now, bit_tells, bit_offered, offered_bit}
+use Rattle.pas_same_text.proofs.GivenBack.{Returns, is_idle, each_at, each_all}
+use Rattle.pas_same_text.proofs.GivingBack.{OffersPage, HintsPage, hinted_stays, hinted_by, offered_by, hinted_empty}
+use Rattle.pas_same_text.proofs.RestingPages.{Fails, some_fails, clear_of, bit_tells, bit_offered, offered_bit}
 use Rattle.pas_same_text.proofs.Tests.{and_first, and_second}
 
 -- ---- room

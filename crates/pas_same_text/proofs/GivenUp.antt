@@ -1,14 +1,13 @@
 -- What the text does where the local allocators of a cache go: their slots come back to their pages.
-use Rattle.std.proofs.Common.{◌≡◌, ℕ, suc, ◌+◌, ◌-◌, ◌*◌, ◌<◌, ◌≤◌, ◌≢◌, ◌==◌, Bool, true, false, not, ◌&&◌, ◌||◌, if◌then◌else◌, cond, List, [], ◌∷◌, ◌++◌, length, map, refl, ap, sym, ◌∙◌, subst, arith}
-use Rattle.std.proofs.lemmas.Bool.{eq-eqb, eqb-true, eqb-false, false≢true, true≢false}
+use Rattle.std.proofs.Common.{◌≡◌, ℕ, ◌+◌, ◌-◌, ◌*◌, ◌≤◌, ◌==◌, Bool, true, false, not, ◌&&◌, ◌||◌, if◌then◌else◌, cond, List, [], ◌∷◌, ◌++◌, length, map, refl, ap, sym, ◌∙◌, subst, arith}
+use Rattle.std.proofs.lemmas.Bool.{eq-eqb, eqb-true, false≢true}
 use Rattle.std.proofs.lemmas.List.Folds.{list_any-append}
 use Rattle.std.proofs.lemmas.List.Sums.{sum_by-cons}
-use Rattle.std.specs.List.{list_any, filter, count_by}
+use Rattle.std.specs.List.{list_any, count_by}
 use Rattle.pas_bits.specs.Runs.{in_run}
 use Rattle.pas_profile.specs.Classes.{class_grains}
 use Rattle.pas_profile.specs.Profiles.{IsPage}
 use Rattle.pas_profile.specs.declared.profile.Profile.{Profile}
-use Rattle.pas_machine.specs.State.{backed_in}
 use Rattle.pas_steps.proofs.Sets.{same_truth}
 use Rattle.pas_segregated.specs.declared.slots.Slots.{Slots}
 use Rattle.pas_cache.specs.Locals.{HasOneEach}
@@ -16,8 +15,8 @@ use Rattle.pas_cache.specs.Locals.{is_for as is_for_slots}
 use Rattle.pas_one_text.specs.State.{Local, Cache, World, each, cache_in, cache_of, with_cache, locals_of, set_locals}
 use Rattle.pas_one_text.specs.Classes.{is_for, others, gives_up}
 use Rattle.pas_one_text.specs.Frees.{gives_up_all}
-use Rattle.pas_one_text.specs.Pages.{is_free, is_covered, is_cached, blocks_on, locals_on}
-use Rattle.pas_same_text.specs.Same.{AreSameLocals, has_number}
+use Rattle.pas_one_text.specs.Pages.{is_covered, is_cached, blocks_on, locals_on}
+use Rattle.pas_same_text.specs.Same.{AreSameLocals}
 use Rattle.pas_same_text.proofs.CacheLists.{all_locals, own_with, many_with, with_own}
 use Rattle.pas_same_text.proofs.GivenBack.{Returns, OnlyHints, minded_last, all_only_hints, returns_nothing, returns_then}
 use Rattle.pas_same_text.proofs.SameLocals.{for_same}

@@ -1,5 +1,5 @@
 -- What steps that only give back leave of the words: free grains, offers, hints and backed pages stay; and which step sets a bit.
-use Rattle.std.proofs.Common.{◌≡◌, ℕ, ◌+◌, ◌*◌, ◌/◌, ◌%◌, ◌<◌, ◌==◌, Bool, true, false, ◌&&◌, if◌then◌else◌, List, [], ◌∷◌, ◌++◌, ◌⊎◌, inl, inr, refl, ap, sym, ◌∙◌, subst, arith}
+use Rattle.std.proofs.Common.{◌≡◌, ℕ, ◌/◌, ◌%◌, ◌<◌, ◌==◌, Bool, true, false, ◌&&◌, if◌then◌else◌, List, [], ◌∷◌, ◌++◌, ◌⊎◌, inl, inr, refl, ap, sym, ◌∙◌, subst, arith}
 use Rattle.std.proofs.lemmas.Bool.{true≢false, false≢true, eqb-true, eq-eqb}
 use Rattle.pas_bits.specs.Bits.{has_bit}
 use Rattle.pas_bits.proofs.PageVectors.{page_bit-set, page_bit-clear}
@@ -10,18 +10,18 @@ use Rattle.pas_profile.specs.declared.directory.Directory.{Directory}
 use Rattle.pas_profile.specs.declared.profile.Profile.{Profile}
 use Rattle.pas_profile.specs.declared.word.Word.{Word}
 use Rattle.pas_steps.specs.Allowed.{IsStepOf}
-use Rattle.pas_steps.specs.Desks.{made, triple, triples}
+use Rattle.pas_steps.specs.Desks.{triples}
 use Rattle.pas_steps.specs.Effects.{target, new_value, free_word_at}
 use Rattle.pas_steps.specs.Frames.{OnlyReturns, IsReturn}
-use Rattle.pas_steps.specs.Kinds.{Kinds, kind_of, place_of, is_in, apart, Only, Taking, Putting, Backing, Unbacking, Hinting, Unhinting, Offering, Claiming, Ticking}
+use Rattle.pas_steps.specs.Kinds.{Kinds, kind_of, place_of, is_in, apart, Only, Taking, Backing, Unbacking, Hinting, Unhinting, Offering, Ticking}
 use Rattle.pas_steps.specs.Lists.{Whole, part, word_after, Legal}
-use Rattle.pas_steps.specs.Past.{Once, Always, Since}
+use Rattle.pas_steps.specs.Past.{Once, Always}
 use Rattle.pas_steps.specs.Views.{epoch_of}
 use Rattle.pas_steps.specs.declared.step.Made.{Made}
 use Rattle.pas_steps.specs.declared.step.Step.{Step}
-use Rattle.pas_steps.specs.declared.step.Step.TheVariants.{Look, Back, Put, TakeRight, Offer, Park, Unpark, Hint, Tick, Unback, Unhint}
+use Rattle.pas_steps.specs.declared.step.Step.TheVariants.{Look, Back, Put, TakeRight, Offer, Hint, Tick, Unback, Unhint}
 use Rattle.pas_steps.proofs.Apart.{in_apart}
-use Rattle.pas_steps.proofs.Past.{since_once, once_later}
+use Rattle.pas_steps.proofs.Past.{since_once}
 use Rattle.pas_core.specs.Rights.{empty_bit, eligible_bit}
 use Rattle.pas_core.specs.Hints.{IsEmptyBacked}
 use Rattle.pas_core.proofs.Deeds.{looked}

@@ -1,22 +1,20 @@
 -- THE PAGE that a search finds is the one that the text finds.
-use Rattle.std.proofs.Common.{◌≡◌, ◌≢◌, ℕ, zero, suc, ◌+◌, ◌<◌, ◌≤◌, ◌==◌, Bool, true, false, ◌&&◌, if◌then◌else◌, List, [], ◌∷◌, ◌++◌, Option, None, Some, Result, Ok, Err, ◌⊎◌, inl, inr, refl, ap, sym, ◌∙◌, subst, arith}
-use Rattle.std.proofs.lemmas.Bool.{true≢false, false≢true, cases_Bool, cases_eq}
+use Rattle.std.proofs.Common.{◌≡◌, ◌≢◌, ℕ, zero, suc, ◌+◌, ◌<◌, ◌≤◌, Bool, true, false, ◌&&◌, if◌then◌else◌, List, [], ◌∷◌, ◌++◌, Option, None, Some, Ok, Err, inl, inr, refl, ap, sym, ◌∙◌, arith}
+use Rattle.std.proofs.lemmas.Bool.{true≢false, cases_Bool, cases_eq}
 use Rattle.std.specs.List.{find}
 use Rattle.pas_profile.specs.Directories.{number_of}
 use Rattle.pas_profile.specs.Profiles.{IsPage}
 use Rattle.pas_profile.specs.declared.directory.Directory.{Directory}
 use Rattle.pas_profile.specs.declared.event.Event.{Event}
-use Rattle.pas_profile.specs.declared.event.NoRoom.{NoRoom}
 use Rattle.pas_profile.specs.declared.profile.Profile.{Profile}
 use Rattle.pas_profile.specs.declared.word.Word.TheVariants as Word
 use Rattle.pas_profile.proofs.Codecs.{deed_word_of-positive}
 use Rattle.pas_machine.specs.State.{deed_in}
 use Rattle.pas_steps.specs.Desks.{triples}
 use Rattle.pas_steps.specs.Effects.{target}
-use Rattle.pas_steps.specs.Evidence.{Readings, Searched, AllDeeds}
-use Rattle.pas_steps.specs.Kinds.{kind_of, is_in, lending}
-use Rattle.pas_steps.specs.Lists.{Whole, part, word_after, visible, Legal}
-use Rattle.pas_steps.specs.Past.{Once, Always}
+use Rattle.pas_steps.specs.Evidence.{Readings, Searched}
+use Rattle.pas_steps.specs.Lists.{Whole, part, word_after, Legal}
+use Rattle.pas_steps.specs.Past.{Once}
 use Rattle.pas_steps.specs.Views.{has_right}
 use Rattle.pas_steps.specs.declared.step.Made.{Made}
 use Rattle.pas_core.specs.Good.{word_of_deed}

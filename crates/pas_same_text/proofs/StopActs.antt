@@ -1,7 +1,7 @@
 -- STOPS: a flush, and then all local allocators of the cache go.
-use Rattle.std.proofs.Common.{◌≡◌, ℕ, ◌+◌, ◌*◌, ◌/◌, ◌%◌, ◌<◌, ◌≤◌, ◌==◌, nat_lt, Bool, true, false, not, ◌&&◌, ◌||◌, if◌then◌else◌, List, [], ◌∷◌, ◌++◌, length, map, Option, None, Some, ◌⊎◌, inl, inr, refl, ap, sym, ◌∙◌, subst, arith}
+use Rattle.std.proofs.Common.{◌≡◌, ℕ, ◌+◌, ◌*◌, ◌/◌, ◌%◌, ◌<◌, ◌≤◌, ◌==◌, Bool, true, false, not, ◌&&◌, if◌then◌else◌, List, [], ◌∷◌, ◌++◌, map, ◌⊎◌, inl, inr, refl, ap, sym, ◌∙◌, subst, arith}
 use Rattle.std.specs.Prelude.{All}
-use Rattle.std.proofs.lemmas.Bool.{true≢false, false≢true, eq-eqb, or_left, or_right}
+use Rattle.std.proofs.lemmas.Bool.{false≢true, eq-eqb, or_left, or_right}
 use Rattle.std.proofs.lemmas.Bool.Decides.{nat_tests}
 use Rattle.std.proofs.lemmas.List.Elements.{All-head, All-tail}
 use Rattle.pas_bits.specs.Masks.{is_set, HasMember}
@@ -15,11 +15,10 @@ use Rattle.pas_profile.specs.declared.profile.Profile.{Profile}
 use Rattle.pas_profile.specs.declared.word.Word.TheVariants as Word
 use Rattle.pas_profile.proofs.ClassFacts.{class_grains_positive}
 use Rattle.pas_profile.proofs.Codecs.{deed_word_of-positive, same_from_deed_word}
-use Rattle.pas_machine.specs.State.{deed_in}
 use Rattle.pas_steps.specs.Desks.{triples}
 use Rattle.pas_steps.specs.Events.{events_by}
 use Rattle.pas_steps.specs.Kinds.{Only}
-use Rattle.pas_steps.specs.Lists.{Whole, part, word_after, visible, Legal}
+use Rattle.pas_steps.specs.Lists.{part, word_after, visible, Legal}
 use Rattle.pas_steps.specs.Views.{View, holds, known_deed, usable_by_kind}
 use Rattle.pas_steps.specs.declared.step.Made.{Made}
 use Rattle.pas_steps.proofs.Adding.{triples_append}
@@ -32,7 +31,6 @@ use Rattle.pas_core.proofs.OneActor.{legal_earlier, deed_same}
 use Rattle.pas_core.proofs.Rights.{deeds_known}
 use Rattle.pas_free_log.specs.Flushes.{noted_after}
 use Rattle.pas_free_log.specs.Frames.{freeing}
-use Rattle.pas_free_log.specs.declared.noting.EndedRun.{EndedRun}
 use Rattle.pas_segregated.specs.Masks.{start_of}
 use Rattle.pas_segregated.specs.Stops.{home_of}
 use Rattle.pas_segregated.specs.declared.slots.Slots.{Slots}
@@ -45,9 +43,9 @@ use Rattle.pas_report.specs.declared.record.Record.{Record}
 use Rattle.pas_trace.specs.EveryPlan.{IsThread}
 use Rattle.pas_answers.specs.Answers.{Progress, records_of, with_steps, with_records}
 use Rattle.pas_answers.specs.Answers.{with_cache as with_cached}
-use Rattle.pas_one_text.specs.State.{Local, Cache, World, cache_of, locals_of, with_cache}
+use Rattle.pas_one_text.specs.State.{Local, World, cache_of, locals_of}
 use Rattle.pas_one_text.specs.Frees.{flushes, gives_up_all, stops}
-use Rattle.pas_one_text.specs.Pages.{is_of, is_free, has_room}
+use Rattle.pas_one_text.specs.Pages.{is_of, has_room}
 use Rattle.pas_same_text.specs.Same.{IsSame, HasSame, IsSameCache, AreSameLocals, AreSameCaches, lives_in, has_number}
 use Rattle.pas_same_text.specs.Acts.{IsBetween, AreBlocksUsable}
 use Rattle.pas_same_text.specs.Words.{free_bit}
@@ -56,10 +54,10 @@ use Rattle.pas_same_text.proofs.FlushActs.{flush_to, flush_records, events_recor
 use Rattle.pas_same_text.proofs.FlushedLogs.{IsFlushedTo, IsEndedOn, OnlyFewer}
 use Rattle.pas_same_text.proofs.Flushes.{visible_steps}
 use Rattle.pas_same_text.proofs.FreeGrains.{free_same, holder_is}
-use Rattle.pas_same_text.proofs.GivenBack.{Returns, returns_then, has_both}
+use Rattle.pas_same_text.proofs.GivenBack.{returns_then, has_both}
 use Rattle.pas_same_text.proofs.GivenPages.{IsGivenBack, room_from, covered_not_held, free_left, given_pages}
 use Rattle.pas_same_text.proofs.GivenUp.{IsGivenUp, AllOfRegion, unique_of, all_up}
-use Rattle.pas_same_text.proofs.GivingBack.{IsMarked, OffersPage, HintsPage, marked_parts, hint_marks, offer_marks, offered_of_region, hints_both, epoch_stays_by}
+use Rattle.pas_same_text.proofs.GivingBack.{IsMarked, marked_parts, hint_marks, offer_marks, offered_of_region, hints_both, epoch_stays_by}
 use Rattle.pas_same_text.proofs.RestingPages.{deed_now, free_at}
 use Rattle.pas_same_text.proofs.StopSteps.{IsMarkedBy, IsMarkedIn, AllClasses, ReadsRoom, room_earlier, grain_read, all_marked, all_hints}
 

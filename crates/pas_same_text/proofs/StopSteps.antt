@@ -1,26 +1,25 @@
 -- The steps by which local allocators are stopped: which pages they mark, what a hint rests on, and why a page is offered.
-use Rattle.std.proofs.Common.{◌≡◌, ℕ, zero, suc, ◌+◌, ◌*◌, ◌/◌, ◌%◌, ◌<◌, ◌≤◌, ◌==◌, Bool, true, false, List, [], ◌∷◌, ◌++◌, map, ◌⊎◌, inl, inr, refl, ap, sym, ◌∙◌, subst, arith, MatchBool}
-use Rattle.std.proofs.lemmas.Bool.{cases_eq, true≢false, false≢true, eq-eqb, or_left, or_right}
+use Rattle.std.proofs.Common.{◌≡◌, ℕ, zero, suc, ◌/◌, ◌%◌, ◌<◌, Bool, true, false, List, [], ◌∷◌, ◌++◌, ◌⊎◌, inl, inr, refl, ap, sym, ◌∙◌, subst, arith, MatchBool}
+use Rattle.std.proofs.lemmas.Bool.{cases_eq, true≢false}
 use Rattle.pas_bits.specs.Bits.{has_bit}
-use Rattle.pas_bits.specs.Masks.{is_set, HasMember}
+use Rattle.pas_bits.specs.Masks.{HasMember}
 use Rattle.pas_bits.specs.declared.mask.Mask4.{Mask4}
 use Rattle.pas_profile.specs.Classes.{IsClass}
 use Rattle.pas_profile.specs.declared.directory.Directory.{Directory}
 use Rattle.pas_profile.specs.declared.profile.Profile.{Profile}
 use Rattle.pas_profile.specs.declared.word.Word.TheVariants as Word
-use Rattle.pas_steps.specs.Desks.{made, triple, triples}
+use Rattle.pas_steps.specs.Desks.{made, triples}
 use Rattle.pas_steps.specs.Effects.{target}
-use Rattle.pas_steps.specs.Kinds.{Kinds, Only, apart, Taking, LookFree, Putting, Parking, Hinting, LookBacked}
+use Rattle.pas_steps.specs.Kinds.{Kinds, Only, apart, Taking, LookFree, Putting, Parking}
 use Rattle.pas_steps.specs.Lists.{Whole, word_after, Legal}
 use Rattle.pas_steps.specs.Past.{Once, Always}
 use Rattle.pas_steps.specs.Views.{usable_by_kind}
 use Rattle.pas_steps.specs.declared.step.Made.{Made}
-use Rattle.pas_steps.specs.declared.step.Step.TheVariants.{Look, Offer, Park}
-use Rattle.pas_steps.proofs.Apart.{only_both, only_within}
+use Rattle.pas_steps.specs.declared.step.Step.TheVariants.{Look, Park}
 use Rattle.pas_steps.proofs.Past.{once_later}
 use Rattle.pas_core.proofs.OneActor.{free_stays}
-use Rattle.pas_rights.specs.Leaves.{LeaveSteps, EndsLeave, OfferSteps, ParkSteps, ReoffersWhere}
-use Rattle.pas_rights.specs.Looks.{looks, HasUsable, HasNoUsable, HintsWhere, HintsEmpty}
+use Rattle.pas_rights.specs.Leaves.{LeaveSteps, EndsLeave, ReoffersWhere}
+use Rattle.pas_rights.specs.Looks.{looks, HasUsable, HasNoUsable, HintsEmpty}
 use Rattle.pas_rights.specs.PutsBack.{BackSteps}
 use Rattle.pas_rights.specs.Words.{words}
 use Rattle.pas_rights.proofs.Hints.{leave_due}
@@ -32,8 +31,7 @@ use Rattle.pas_segregated.specs.Stops.{home_of, StopStepsAt, LeavesWhere, AreGra
 use Rattle.pas_segregated.specs.declared.slots.Slots.{Slots}
 use Rattle.pas_segregated.proofs.Starts.{start_below}
 use Rattle.pas_cache.specs.Changes.{StopsAll}
-use Rattle.pas_same_text.specs.Same.{has_number}
-use Rattle.pas_same_text.proofs.GivingBack.{IsMarked, OffersPage, marked_parts, none_marked, offer_marks, returns_marked, hints_none, hints_both, hints_of}
+use Rattle.pas_same_text.proofs.GivingBack.{IsMarked, marked_parts, none_marked, returns_marked, hints_none, hints_both, hints_of}
 use Rattle.pas_same_text.proofs.ReturnHints.{return_hints}
 
 -- ---- a grain that blocks of the directory may cover was read as free
