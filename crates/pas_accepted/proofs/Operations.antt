@@ -27,7 +27,6 @@ use Rattle.pas_check.specs.Begins.{begun_what, entry_of as known_entry, freeing_
 use Rattle.pas_check.specs.Named.{standing_for as stands_for}
 use Rattle.pas_check.specs.States.{Serves, Stand, Task}
 use Rattle.pas_check.specs.Tasks.{emptying}
-use Rattle.pas_check.proofs.Actings.{after_plain}
 use Rattle.pas_check.proofs.Ticks.{epoch_kept}
 use Rattle.pas_accepted.proofs.FlushKinds.{flush_only}
 use Rattle.pas_accepted.proofs.Flushing.{flush_leads}
@@ -36,7 +35,7 @@ use Rattle.pas_accepted.proofs.Going.{LeadsOn, on_as, on_both}
 use Rattle.pas_accepted.proofs.NamesOfBlocks.{known, known_stands}
 use Rattle.pas_accepted.proofs.Pieces.{lines_by, table_same}
 use Rattle.pas_accepted.proofs.Remakes.{asked_tells, asked_then, remade_comes}
-use Rattle.pas_accepted.proofs.Requests.{request_leads, served}
+use Rattle.pas_accepted.proofs.Requests.{request_leads, served, served_plain}
 use Rattle.pas_accepted.proofs.Stopping.{emptied, logs_with, stop_leads, stop_tells}
 use Rattle.pas_accepted.proofs.Telling.{Comes, Tells, piece_of, told_after}
 
@@ -65,7 +64,7 @@ module _ (f : Profile) (valid : IsValid f) (p : Progress) (s : Stand) (ts : List
       let rs : List Record = records_of (events_by k (part k p.list) a.steps) in
       record {
         end = end;
-        leads = on_as f s there end _ _ (ap (λ o. lines_by (rs ++ said_by k o)) is.said_is) (sym (after_plain (record w { events = visible (triples k a.steps ++ p.list) }) k r (block_of is.answer)))
+        leads = on_as f s there end _ _ (ap (λ o. lines_by (rs ++ said_by k o)) is.said_is) (sym (served_plain w k r is.answer (visible (triples k a.steps ++ p.list))))
             (on_both f s u there [] _ begun (request_leads f valid w k r None p.list a.steps tells.events legal (p.caches k).locals is.answer is.ends truly));
         tells = asked_tells f p s ts tells k r a is legal _;
         due = refl;

@@ -41,8 +41,10 @@ use Rattle.pas_report.specs.declared.record.Record.{Record}
 use Rattle.pas_report.specs.declared.record.Said.{Said}
 use Rattle.pas_trace.specs.declared.item.Request.{Request}
 use Rattle.pas_answers.specs.Answers.{IsGiven, RefusalEnds, RequestEnds, block_of, records_of, said_by, said_of_request, said_of_room, wanted_by}
+use Rattle.pas_check.specs.Begins.{is_full, logging, replacing, unsized}
 use Rattle.pas_check.specs.Calls.{after_request}
-use Rattle.pas_check.specs.States.{Serves, Stand}
+use Rattle.pas_check.specs.States.{Due, Serves, Stand, with_due, with_name}
+use Rattle.pas_check.specs.declared.entry.Entry.{Entry}
 use Rattle.pas_check.specs.Takes.{IsPreparing, IsRefusal, directory_of}
 use Rattle.pas_accepted.proofs.Going.{LeadsOn, on_as, on_both, on_line, on_same}
 use Rattle.pas_accepted.proofs.Pieces.{lines_both, lines_by, lines_more, visible_piece}
@@ -113,6 +115,21 @@ reason_by Route.Large f w locals entry exit room h = h.2
 abbrev pub served : Stand → ℕ → Request → Option Name → Result Block NoRoom → List Event → Stand
 served w k r replaced answer es = after_request (record w { events = es }) k r replaced (block_of answer) []
 
+-- where nothing is replaced, its name stands for the block, or for nothing
+pub served_plain : (w : Stand) (k : ℕ) (r : Request) (answer : Result Block NoRoom) (es : List Event)
+    → served w k r None answer es ≡ record w { events = es; names = record { name = r.name; block = block_of answer } ∷ w.names; due = [] }
+served_plain w k r (Ok block) es = refl
+served_plain w k r (Err room) es = refl
+
+-- what was due before doesn't matter then
+logged_apart : (full : Bool) (v : Stand) (k : ℕ) (entry : Entry) (due : List Due) → logging full (with_due v due) k entry [] ≡ logging full v k entry []
+logged_apart true v k entry due = refl
+logged_apart false v k entry due = refl
+
+due_apart : (replaced : Option Name) (v : Stand) (k : ℕ) (due : List Due) → replacing replaced (with_due v due) k [] ≡ replacing replaced v k []
+due_apart None v k due = refl
+due_apart (Some old) v k due = logged_apart (is_full v k) v k (unsized old) due
+
 module _ (f : Profile) (valid : IsValid f) (w : Stand) (k : ℕ) (r : Request) (replaced : Option Name) (l : Whole) (steps : List Made) (events : w.events ≡ visible l) (legal : Legal f (triples k steps ++ l)) where
   run : Run f (visible (triples k steps ++ l))
   run = runs f (triples k steps ++ l) valid legal
@@ -133,10 +150,11 @@ module _ (f : Profile) (valid : IsValid f) (w : Stand) (k : ℕ) (r : Request) (
       let deeds : (x : ℕ) → in_run (grain_of block.name) (length_of block) x ≡ true → deed_in (before ++ w.events) (x / 256) ≡ Some (directory_of f r)
       = λ x inside. subst (λ es. deed_in es (x / 256) ≡ Some (directory_of f r)) shown
       (deed_known f (triples k steps ++ l) k (x / 256) (directory_of f r) legal (kind_asked f r) (subst (KnowsDeed (x / 256) (directory_of f r)) (sym (part_of_own k steps l)) (h.of_directory x inside))) in
+      let next_is = sym (due_apart replaced (with_name (record w { events = (give ∷ before) ++ w.events }) r.name (Some block)) k (Serves k r replaced ∷ [])) in
       on_as f (serving w k r replaced w.events) new (served w k r replaced (Ok block) (visible (triples k steps ++ l))) _ _ (ap lines_by (append-nil (records_of (events_by k (part k l) steps))) ∙ ap (λ es. lines_by (records_of es)) h.events ∙ lines_more give before)
       (ap (served w k r replaced (Ok block)) shown)
       (on_both f (serving w k r replaced w.events) old new _ _ (prepares_lead f w k r replaced before (all_prepared k (directory_of f r) before h.prepared own.1) all.1)
-      (on_line f old new (line_of_event give) (inr (inr (inl record { block = block; is_for = record { heap = h.of_heap; room = h.room; aligned = h.aligned; deeds = deeds }; admitted = all.0; line_is = refl; next_is = refl })))))
+      (on_line f old new (line_of_event give) (inr (inr (inl record { block = block; is_for = record { heap = h.of_heap; room = h.room; aligned = h.aligned; deeds = deeds }; admitted = all.0; line_is = refl; next_is = next_is })))))
 
   refuses : (room : NoRoom) → IsTrueReason f (directory_of f r) (triples k steps ++ l) room → (es : List Event) → visible (triples k steps ++ l) ≡ es → IsRefusal f (serving w k r replaced es) r (said_of_room r.name room)
   refuses NoSpace true_reason es shown = inl refl
