@@ -70,7 +70,7 @@ remade_same f k name size align (Some (Some old)) many few names v c a sub (inl 
   Some old,
   kept.names_are,
   subst (λ (o : Option (Option Block)). IsRemadeBy f k name size align o (having names v c) (answer_of a.steps a.said a.found (named name (Some old) ∷ names) a.cache)) (sym (sub (Some old) refl))
-  (inl record { suited = kept.suited; no_steps = kept.no_steps; cache = kept.cache; said_is = kept.said_is; names_are = refl }),
+      (inl record { suited = kept.suited; no_steps = kept.no_steps; cache = kept.cache; said_is = kept.said_is; names_are = refl }),
 )
 remade_same f k name size align (Some (Some old)) many few names v c a sub (inr moved) =
     let served = moved.served in
