@@ -15,7 +15,7 @@ MOST_RECORDS = 2_000_000
 MOST_OPERATIONS = 1_000_000
 HEADER = b"pas 1 pages 4 threads 2 heaps 2 age 2\n"
 
-# The words behind the first one of each kind of line, by what they are.
+# The words behind the first one of each kind of line, by what they are, and in which version a line came first, where that isn't the first.
 SHAPES = {
     b"shared": ["heap"],
     b"a": ["thread", "name", "heap", "size", "align"],
@@ -27,7 +27,14 @@ SHAPES = {
     b"pass": [],
     b"idle": ["epoch"],
     b"phase": [],
+    b"fs": ["thread", "name", "size", "align"],
+    b"rs": ["thread", "address", "turn", "size", "align"],
+    b"m": ["thread", "name", "old", "size", "align"],
 }
+SINCE = {b"fs": 2, b"rs": 2, b"m": 4}
+
+# The most pages of each version.
+PAGES = {1: 4096, 2: 4096, 3: 16384, 4: 16384}
 
 
 def number_of(word):
@@ -42,42 +49,46 @@ def value_of(shape, word):
     if shape == "address":
         return int(word, 16) if re.fullmatch(rb"0x[0-9a-f]{8}", word) else None
     number = number_of(word)
-    limits = {"name": range(1, 1_000_001), "epoch": range(1 << 40), "turn": range((1 << 40) - 1)}
+    limits = {"name": range(1, 1_000_001), "old": range(1, 1_000_001), "epoch": range(1 << 40), "turn": range((1 << 40) - 1)}
     return number if number is not None and (shape not in limits or number in limits[shape]) else None
 
 
 def header_of(line):
-    """Pages, threads and heaps, or None."""
+    """Version, pages, threads and heaps, or None."""
     words = [word for word in line.split(b" ") if word]
-    if len(words) != 10 or [words[at] for at in (0, 1, 2, 4, 6, 8)] != [b"pas", b"1", b"pages", b"threads", b"heaps", b"age"]:
+    if len(words) != 10 or [words[at] for at in (0, 2, 4, 6, 8)] != [b"pas", b"pages", b"threads", b"heaps", b"age"]:
+        return None
+    version = number_of(words[1])
+    if version not in PAGES:
         return None
     values = [number_of(words[at]) for at in (3, 5, 7, 9)]
-    limits = (4096, 16, 32, 1_000_000)
+    limits = (PAGES[version], 16, 32, 1_000_000)
     if any(value is None or not 1 <= value <= most for value, most in zip(values, limits)):
         return None
-    return values[:3]
+    return [version, *values[:3]]
 
 
 class Reader:
     """What earlier lines said, as far as later ones need it."""
 
-    def __init__(self, pages, threads, heaps):
-        self.pages, self.threads, self.heaps = pages, threads, heaps
+    def __init__(self, version, pages, threads, heaps):
+        self.version, self.pages, self.threads, self.heaps = version, pages, threads, heaps
         self.asked, self.phase, self.operations, self.begun = {}, 1, 0, False
         self.records = threads * pages
 
     def cost(self, kind, has):
-        if kind == b"a":
-            return 2 if has["size"] <= 2048 else 1 + -(-has["size"] // 4096)
-        return {b"f": 1, b"r": 1, b"tick": 1, b"pass": 1 + self.pages, b"idle": self.threads}.get(kind, 0)
+        if kind in (b"a", b"m"):
+            return (2 if has["size"] <= 2048 else 1 + -(-has["size"] // 4096)) + (kind == b"m")
+        return {b"f": 1, b"r": 1, b"fs": 1, b"rs": 1, b"tick": 1, b"pass": 1 + self.pages, b"idle": self.threads}.get(kind, 0)
 
     def name_fault(self, kind, has):
-        if kind == b"a" and has["name"] in self.asked:
+        if kind in (b"a", b"m") and has["name"] in self.asked:
             return "NameTaken"
-        if kind == b"f":
-            if has["name"] not in self.asked:
+        if kind in (b"f", b"fs", b"m"):
+            freed = has["old" if kind == b"m" else "name"]
+            if freed not in self.asked:
                 return "NameUnknown"
-            thread, phase = self.asked[has["name"]]
+            thread, phase = self.asked[freed]
             if thread != has["thread"] and phase == self.phase:
                 return "TooEarly"
         return None
@@ -88,7 +99,7 @@ class Reader:
         if not words or line.startswith(b"#"):
             return None
         kind = words[0]
-        if kind not in SHAPES or len(words) != 1 + len(SHAPES[kind]) or (kind == b"shared" and self.begun):
+        if kind not in SHAPES or self.version < SINCE.get(kind, 1) or len(words) != 1 + len(SHAPES[kind]) or (kind == b"shared" and self.begun):
             return "BadWord"
         has = {shape: value_of(shape, word) for shape, word in zip(SHAPES[kind], words[1:])}
         if None in has.values():
@@ -110,7 +121,7 @@ class Reader:
             return None
         self.operations += 1
         self.records += self.cost(kind, has)
-        if kind == b"a":
+        if kind in (b"a", b"m"):
             self.asked[has["name"]] = (has["thread"], self.phase)
         if self.operations > MOST_OPERATIONS:
             return "TooManyOps"
@@ -168,62 +179,110 @@ BAD = {
     "TooEarly": [b"f 2 3"],
 }
 
+# .. and for lines of later versions, by the version in which they came. In an earlier one each of them is a bad word.
+LATER_BAD = {
+    2: {
+        "BadWord": [b"fs 1 3 24", b"fs 1 3", b"fs 1 3 24 16 0", b"rs 1 0x00001000 0 24", b"rs 1 0x00001000 0 24 16 0", b"fs\t1 3 24 16", b"Fs 1 3 24 16"],
+        "BadNumber": [
+            b"fs 1 3 024 16", b"fs 1 0 24 16", b"fs 1 1000001 24 16", b"fs x 9 16385 8", b"fs 1 3 24 16\r", b"rs 1 0x1000 0 24 16",
+            b"rs 1 0x00001000 1099511627775 24 16", b"rs 1 0x00001000 0 18446744073709551616 16",
+        ],
+        "BadThread": [b"fs 3 9 16385 8", b"fs 0 3 24 16", b"rs 0 0x00001000 0 16385 8", b"rs 17 0x00001000 0 24 16"],
+        "BadSize": [b"fs 1 9 16385 8", b"fs 2 3 18446744073709551615 16", b"rs 1 0x00001000 0 16385 8"],
+        "BadAlign": [b"fs 1 9 24 8", b"fs 2 3 24 48", b"rs 1 0x00001000 0 24 8192", b"rs 1 0x00001000 0 24 0"],
+        "NameUnknown": [b"fs 1 9 24 16", b"fs 2 1000000 24 16"],
+        "TooEarly": [b"fs 2 3 24 16"],
+    },
+    4: {
+        "BadWord": [b"m 1 9 3 24", b"m 1 9 3 24 16 0", b"M 1 9 3 24 16"],
+        "BadNumber": [b"m 1 0 3 24 16", b"m 1 9 0 24 16", b"m 1 9 1000001 24 16", b"m 1 09 3 24 16", b"m x 3 9 16385 8", b"m 1 9 3 24 18446744073709551616"],
+        "BadThread": [b"m 0 3 9 16385 8", b"m 3 9 3 24 16"],
+        "BadSize": [b"m 1 3 9 16385 8", b"m 2 9 3 18446744073709551615 16"],
+        "BadAlign": [b"m 1 3 9 24 8", b"m 2 9 3 24 8192"],
+        "NameTaken": [b"m 1 3 9 24 16", b"m 2 1 3 24 16", b"m 1 3 3 24 16"],
+        "NameUnknown": [b"m 1 9 8 24 16", b"m 2 9 9 24 16"],
+        "TooEarly": [b"m 2 9 3 24 16"],
+    },
+}
+
 # Lines at the border of a limit, all of them good behind GOOD.
 BORDER = [
     b"a 1 1000000 0 0 16", b"a 1 9 1 16384 4096", b"a 2 9 0 2048 4096", b"tick 1099511627775", b"idle 1099511627775", b"idle 0",
     b"r 1 0xffffffff 1099511627774", b"  flush   1  ", b"", b"   ", b"#\xff", b"# a 1 1", b"f 2 1", b"f 1 1",
 ]
 
+LATER_BORDER = {
+    2: [
+        b"fs 1 3 0 16", b"fs 1 3 16384 4096", b"fs 2 1 24 16", b"rs 1 0xffffffff 1099511627774 16384 4096", b"rs 2 0x00001000 0 0 16", b" fs  1 1 40 16 ",
+    ],
+    4: [b"m 1 1000000 3 0 16", b"m 1 9 3 16384 4096", b"m 2 8 1 2049 16", b" m  2 7 2 24 16 "],
+}
+
 HEADERS = {
     True: [(1, 1, 1, 1), (4096, 16, 32, 1_000_000), (4096, 1, 1, 2), (1, 16, 32, 1)],
-    False: [(0, 1, 1, 1), (4097, 1, 1, 1), (4, 0, 1, 1), (4, 17, 1, 1), (4, 1, 0, 1), (4, 1, 33, 1), (4, 1, 1, 0), (4, 1, 1, 1_000_001)],
+    False: [(0, 1, 1, 1), (16385, 1, 1, 1), (4, 0, 1, 1), (4, 17, 1, 1), (4, 1, 0, 1), (4, 1, 33, 1), (4, 1, 1, 0), (4, 1, 1, 1_000_001)],
 }
+
+
+def header(version):
+    """The header of the version, for all lines of the tables."""
+    return b"pas %d" % version + HEADER[5:]
 
 
 def faults():
     """Each bad line and each border line as the first one, in the middle and as the last one, with and without a line feed at the end."""
     good = b"\n".join(GOOD) + b"\n"
-    for line in [line for lines in BAD.values() for line in lines] + BORDER:
-        for text in (HEADER + line + b"\n" + good, HEADER + good + line + b"\n" + good[-7:], HEADER + good + line, HEADER + good + line + b"\n"):
-            yield text
+    older = [line for lines in BAD.values() for line in lines] + BORDER
+    later = [line for table in LATER_BAD.values() for lines in table.values() for line in lines] + [line for lines in LATER_BORDER.values() for line in lines]
+    for version, lines in [(1, older), *((version, later) for version in PAGES)]:
+        first = header(version)
+        for line in lines:
+            for text in (first + line + b"\n" + good, first + good + line + b"\n" + good[-7:], first + good + line, first + good + line + b"\n"):
+                yield text
 
 
 def reasons():
-    """Each reason comes where its table says it."""
-    good = HEADER + b"\n".join(GOOD) + b"\n"
-    for reason, lines in BAD.items():
-        for line in lines:
+    """Each reason comes where its table says it: in each version, of its own lines and of those before; a later one begins with a bad word."""
+    for version in PAGES:
+        good = header(version) + b"\n".join(GOOD) + b"\n"
+        bad = [(reason, line) for reason, lines in BAD.items() for line in lines]
+        bad += [(reason if since <= version else "BadWord", line) for since, table in LATER_BAD.items() for reason, lines in table.items() for line in lines]
+        bad += [("BadWord", line) for since, lines in LATER_BORDER.items() if since > version for line in lines]
+        for reason, line in bad:
             if first_fault(good + line) != (len(GOOD) + 2, reason):
-                sys.exit(f"the table of bad lines is wrong at {line!r}")
+                sys.exit(f"the table of bad lines is wrong at {line!r} in version {version}")
             yield good + line
-    for line in BORDER:
-        if first_fault(good + line) is not None:
-            sys.exit(f"the table of border lines is wrong at {line!r}")
-        yield good + line
+        for line in BORDER + [line for since, lines in LATER_BORDER.items() if since <= version for line in lines]:
+            if first_fault(good + line) is not None:
+                sys.exit(f"the table of border lines is wrong at {line!r} in version {version}")
+            yield good + line
 
 
 def headers():
     for is_good, values in HEADERS.items():
         for pages, threads, heaps, age in values:
-            text = b"pas 1 pages %d threads %d heaps %d age %d\n" % (pages, threads, heaps, age)
-            if (first_fault(text) is None) != is_good:
-                sys.exit(f"the table of headers is wrong at {text!r}")
-            yield text
-            yield text + b"pass"
-    for line in (b"", b"\n", b"\n" + HEADER, b"# a trace\n" + HEADER, b"pas 2" + HEADER[5:], b" pas  1 pages 4 threads 2 heaps 2 age 2 ", HEADER[:-1] + b" 1"):
+            for version in PAGES:
+                text = b"pas %d pages %d threads %d heaps %d age %d\n" % (version, pages, threads, heaps, age)
+                if (first_fault(text) is None) != is_good:
+                    sys.exit(f"the table of headers is wrong at {text!r}")
+                yield text
+                yield text + b"pass"
+    for version, pages in [(1, 4097), (2, 4097), (3, 4097), (3, 16384), (0, 4), (max(PAGES) + 1, 4), (257, 4)]:
+        yield b"pas %d pages %d threads 1 heaps 1 age 2\n" % (version, pages)
+    for line in (b"", b"\n", b"\n" + HEADER, b"# a trace\n" + HEADER, b"pas 02" + HEADER[5:], b" pas  1 pages 4 threads 2 heaps 2 age 2 ", HEADER[:-1] + b" 1"):
         yield line
 
 
 def cuts():
     """A trace that is cut at each byte."""
-    text = HEADER + b"\n".join(GOOD) + b"\n"
+    text = header(max(PAGES)) + b"\n".join(GOOD + [line for lines in LATER_BORDER.values() for line in lines]) + b"\n"
     for length in range(len(text) + 1):
         yield text[:length]
 
 
 def changes():
     """A trace in which one byte is another, is missing or comes twice: each byte above 127 among them."""
-    text = HEADER + b"\n".join(GOOD) + b"\n"
+    text = header(max(PAGES)) + b"\n".join(GOOD + [line for lines in LATER_BORDER.values() for line in lines]) + b"\n"
     draws = random.Random(1)
     for at in range(len(text)):
         for byte in (draws.randrange(256), draws.randrange(128, 256), draws.choice(b" \n#0x9a")):
@@ -248,6 +307,14 @@ def long_texts():
     ticks = (MOST_RECORDS - 4096 - 4097 * 487) % 4097
     yield whole + b"pass\n" * 487 + b"tick 1\n" * ticks
     yield whole + b"pass\n" * 487 + b"tick 1\n" * (ticks + 1)
+    sized = b"pas 2" + whole[5:] + b"pass\n" * 487
+    yield sized + b"rs 1 0x00001000 0 24 16\n" * ticks
+    yield sized + b"rs 1 0x00001000 0 24 16\n" * (ticks + 1)
+    yield header(2) + b"flush 1\n" * MOST_OPERATIONS + b"rs 1 0x00001000 0 24 16\n"
+    moved = b"pas 4" + whole[5:] + b"a 1 1 0 24 16\n" + b"pass\n" * 487
+    for left in (3, 2):
+        yield moved + b"tick 1\n" * (ticks - 2 - left) + b"m 1 2 1 24 16\n"
+    yield header(4) + b"a 1 1 0 24 16\n" + b"flush 1\n" * (MOST_OPERATIONS - 1) + b"m 1 2 1 24 16\n"
 
 
 def main():

@@ -56,7 +56,7 @@ class Ahead:
     """What of a phase is still to come, as far as another actor's event may have to wait for it."""
 
     def __init__(self):
-        self.reads, self.unborn = Counter(), Counter()
+        self.reads, self.unborn, self.differing = Counter(), Counter(), Counter()
         self.backs, self.backs_by, self.gives_on = Counter(), Counter(), Counter()
         self.watches = defaultdict(list)
         self.passing = defaultdict(lambda: defaultdict(list))
@@ -195,14 +195,18 @@ class Give(Event):
 
 
 class End(Event):
-    """A live block ends. It is safe: what needs it to live can't be ahead, and what needs the page empty waits for it."""
+    """A live block ends, which has the room that its free names, if any. Of what needs it to live only a free that names
+    another room can be ahead; what needs the page empty waits for it."""
 
-    def __init__(self, address, turn, epoch):
-        self.address, self.turn, self.epoch = address, turn, epoch
+    def __init__(self, address, turn, room, epoch):
+        self.address, self.turn, self.room, self.epoch = address, turn, room, epoch
 
     def fits(self, machine):
         block = machine.live.get(self.address)
-        return block is not None and block.turn == self.turn
+        return block is not None and block.turn == self.turn and self.room in (None, block.room)
+
+    def standing(self, machine, ahead):
+        return TOO_EARLY if ahead.differing[self.address, self.turn] else SAFE
 
     def do(self, machine):
         block = machine.live[self.address]
@@ -243,6 +247,20 @@ class NoBlock(Event):
     def fits(self, machine):
         block = machine.live.get(self.address)
         return machine.ends[self.address] <= self.turn and (block is None or block.turn != self.turn)
+
+
+class SizeDiffers(Event):
+    """A free that names another room than its block has, which lives on."""
+
+    def __init__(self, address, turn, room):
+        self.address, self.turn, self.room = address, turn, room
+
+    def note(self, ahead, by):
+        ahead.differing[self.address, self.turn] += by
+
+    def fits(self, machine):
+        block = machine.live.get(self.address)
+        return block is not None and block.turn == self.turn and block.room != self.room
 
 
 class Read(Event):

@@ -114,7 +114,11 @@ TRACES = {
     "a fault": b"pas 1 pages 4 threads 1 heaps 1 age 2\nf 1 1\n",
 }
 
+TRANSCRIPT = pathlib.Path(__file__).resolve().parent.parent.joinpath("examples/first.transcript").read_bytes()
+
 RUNS = {f"{word}, {what}": ([word], text) for word in ("order", "run") for what, text in TRACES.items()} | {
+    "a check of a right transcript": (["check"], TRACES["a small trace"] + b"transcript\n" + TRANSCRIPT),
+    "a check of an empty one": (["check"], TRACES["a small trace"]),
     "a generated trace": (["gen", "7", "2000", "4", "64"], b""),
     "other words": (["replay", "it"], b""),
 }
@@ -147,9 +151,11 @@ def is_right(words, text, wanted, found):
 
 
 def wanted_status(words, text):
-    """The status of a run without a refusal: other words get 2, a fault 1."""
-    if words[0] not in ("order", "run", "gen"):
+    """The status of a run without a refusal: other words get 2, a fault 1, a transcript that isn't right 8."""
+    if words[0] not in ("order", "run", "check", "gen"):
         return 2
+    if words == ["check"]:
+        return 0 if TRANSCRIPT in text else 8
     return 1 if text == TRACES["a fault"] else 0
 
 

@@ -36,9 +36,9 @@ def in_turn(*lists):
     return [line for at in range(max(map(len, lists))) for lines in lists for line in lines[at:at + 1]]
 
 
-def trace(pages, threads, heaps, age, *phases, shared=()):
+def trace(pages, threads, heaps, age, *phases, shared=(), version=1):
     """The text of a trace with these lines in its phases."""
-    head = [f"pas 1 pages {pages} threads {threads} heaps {heaps} age {age}"] + [f"shared {heap}" for heap in shared]
+    head = [f"pas {version} pages {pages} threads {threads} heaps {heaps} age {age}"] + [f"shared {heap}" for heap in shared]
     return "\n".join(head + [line for at, phase in enumerate(phases) for line in (["phase"] if at else []) + phase]) + "\n"
 
 
@@ -136,6 +136,41 @@ def raw_frees():
     return trace(1, 3, 1, 2, in_turn(turns, *frees), others)
 
 
+def sized_frees():
+    """Each of two threads frees the other's blocks, of classes, bit-fit ones and whole pages, by the sizes that were asked for,
+    some by larger ones too, and its own blocks by others; and blocks by address and turn."""
+    sizes = {name: (24, 600, 1000, 4097)[name % 4] for name in range(1, 321)}
+    names = {thread: [name for name in sizes if name % 2 == thread - 1] for thread in (1, 2)}
+    asks = [[line for name in names[thread] for line in asked(thread, [name], thread - 1, sizes[name])] for thread in (1, 2)]
+    frees = []
+    for thread in (1, 2):
+        others, own = ([f"fs {thread} {name} {size} 16" for name in names[which] for size in rooms(sizes[name])]
+                       for which, rooms in ((3 - thread, lambda size: (size, 2 * size)[:1 + (size > 600)]), (thread, lambda size: (size + 40,))))
+        raw = [f"rs {thread} {4096 * page:#010x} 0 {size} 16" for page in range(1, 40) for size in (24, 4097)]
+        frees.append(in_turn(others, own, raw, [""] * 20 + [f"flush {thread}"] * 40))
+    return trace(400, 2, 2, 2, in_turn(*asks), [line for line in in_turn(*frees) if line], version=2)
+
+
+def four_more_classes():
+    """Three threads fill and empty pages of the classes that came with version 3, by frees that name a size between two."""
+    turns = [[line for name in range(1000 * thread, 1000 * thread + 120)
+              for line in asked(thread, [name], 0, size, align) + [f"fs {thread} {name} {size - 17} {align}"] + [f"stop {thread}"] * (name % 3 == 0)]
+             for thread, size, align in ((1, 640, 128), (2, 896, 16), (3, 1024, 512))]
+    return trace(6, 3, 1, 2, in_turn(*turns), version=3)
+
+
+def reallocations():
+    """Two threads give their own blocks other sizes, and then each the blocks that both have, so that each block is freed twice or kept for
+    two names; some want whole pages, and some find no room."""
+    sizes = (24, 600, 4097, 100)
+    first = {thread: range(1000 * thread, 1000 * thread + 80) for thread in (1, 2)}
+    own = [[line for name in first[thread] for line in asked(thread, [name], thread - 1, sizes[name % 4]) +
+            [f"m {thread} {name + 100} {name} {sizes[name // 4 % 4]} {16 << name % 3}"]] for thread in (1, 2)]
+    again = [[line for name in (*first[1], *first[2]) for line in [f"m {thread} {name + 100 * thread + 300} {name + 100} {sizes[name // 16 % 4] + thread} 16"] +
+              [f"flush {thread}"] * (name % 7 == 0)] for thread in (1, 2)]
+    return trace(40, 2, 2, 2, in_turn(*own), in_turn(*again), version=4)
+
+
 def one_thread():
     """One thread, so there is no race."""
     names = range(1, 91)
@@ -144,7 +179,7 @@ def one_thread():
 
 
 OWN = [two_frees, the_one_page, whose_page, shared_pages, bit_fit, large_blocks, large_and_small, full_logs, ticks_beside, passes_beside,
-       idle_threads, raw_frees, one_thread]
+       idle_threads, raw_frees, sized_frees, four_more_classes, reallocations, one_thread]
 
 
 def named(path):

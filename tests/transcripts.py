@@ -11,10 +11,12 @@ import re
 import sys
 from typing import NamedTuple
 
-from orders import (GRAIN, GRAINS, PAGE, Back, Bare, Deed, End, Ended, Give, InUse, Machine, NoBlock, NotOffered, Read, Refused, Tick, Unback,
-                    Undecided, Young, find_order)
+from orders import (GRAIN, GRAINS, PAGE, Back, Bare, Deed, End, Ended, Give, InUse, Machine, NoBlock, NotOffered, Read, Refused, SizeDiffers, Tick,
+                    Unback, Undecided, Young, find_order)
 
-CLASSES = [16, 32, 48, 64, 80, 96, 112, 128, 160, 192, 224, 256, 320, 384, 448, 512]
+CLASSES = [16, 32, 48, 64, 80, 96, 112, 128, 160, 192, 224, 256, 320, 384, 448, 512, 640, 768, 896, 1024]
+# How many of them traces of a version have.
+CLASSES_OF = {1: 16, 2: 16, 3: 20, 4: 20}
 MOST_BITFIT = 2048
 MOST_LOGGED = 64
 MARKS = ["backed", "offered", "parked", "hinted"]
@@ -27,11 +29,13 @@ SHAPES = {
     "freed": "A turn N epoch N",
     "ended": "A turn N",
     "no-block": "A turn N",
+    "size-differs": "A turn N asked N",
     "no-space": "name N",
     "held": "N name N",
     "outside": "A turn N",
     "unaligned": "A turn N",
     "skipped": "name N",
+    "kept": "A turn N name N",
     "tick": "N",
     "pass": "N",
     "unback": "page N epoch N",
@@ -42,6 +46,8 @@ SHAPES = {
     "stopped": "N",
 }
 OUTCOMES = ("unback", "bare", "young", "in-use", "not-offered")
+CHORES = ("tick", "pass", "idle")
+ENDS = {"freed": End, "ended": Ended, "no-block": NoBlock, "size-differs": SizeDiffers}
 NUMBER = "(0|[1-9][0-9]*)"
 WORDS = {"N": NUMBER, "A": "(0x[0-9a-f]{8})", "V": "(0x[0-9a-f]{16})", "KIND": "(class (?:%s)|bitfit|shared|large)" % "|".join(map(str, CLASSES))}
 PATTERNS = {word: re.compile(" ".join([NUMBER, word] + [WORDS.get(part, part) for part in shape.split()])) for word, shape in SHAPES.items()}
@@ -76,9 +82,27 @@ class Wanted(NamedTuple):
         return offset % self.step == 0 and (self.directory[1] == "large" or offset + self.room <= self.most)
 
 
+class Block(NamedTuple):
+    """A block that was given."""
+
+    address: int
+    turn: int
+    room: int
+    heap: int
+
+
+class Logged(NamedTuple):
+    """A free that waits in a log: the name of a block, and the room that it names, or None."""
+
+    address: int
+    turn: int
+    room: int | None
+
+
 class Trace(NamedTuple):
     """A trace without a fault."""
 
+    version: int
     pages: int
     threads: int
     age: int
@@ -87,7 +111,7 @@ class Trace(NamedTuple):
 
     def wanted(self, name, heap, size, align):
         """By the route of the request: the smallest class that suits, else a bit-fit page, else whole pages."""
-        for bytes_ in CLASSES:
+        for bytes_ in CLASSES[:CLASSES_OF[self.version]]:
             if bytes_ >= size and bytes_ % align == 0:
                 kind = "shared" if heap in self.shared else f"class {bytes_}"
                 return Wanted(name, (heap, kind), bytes_, bytes_, PAGE // bytes_ * bytes_)
@@ -95,9 +119,13 @@ class Trace(NamedTuple):
             return Wanted(name, (heap, "bitfit"), -(-max(size, 1) // GRAIN) * GRAIN, align, PAGE)
         return Wanted(name, (heap, "large"), -(-size // PAGE) * PAGE, PAGE, PAGE)
 
+    def room(self, size, align):
+        """That of a request for so many bytes at a multiple of the alignment."""
+        return self.wanted(None, None, size, align).room
+
     def acting(self, phase):
         """The threads that have an operation in the phase; and 0 where the scavenger has one."""
-        return {operation[1] if operation[0] in ("a", "f", "r", "flush", "stop") else 0 for operation in self.phases[phase]}
+        return {0 if operation[0] in CHORES else operation[1] for operation in self.phases[phase]}
 
     def is_in_order(self):
         """Whether at most one actor works in each phase. Then all runs say the same."""
@@ -119,7 +147,7 @@ def read_trace(text):
             shared.add(int(rest[0]))
         else:
             phases[-1].append((word, *(int(value, 0) for value in rest)))
-    return Trace(int(words[3]), int(words[5]), int(words[9]), shared, phases)
+    return Trace(int(words[1]), int(words[3]), int(words[5]), int(words[9]), shared, phases)
 
 
 def line_of(text, threads):
@@ -201,11 +229,11 @@ class Accounts:
         operations, acting = self.trace.phases[phase], self.trace.acting(phase)
         self.since.update(dict.fromkeys(acting - {0}, self.epoch))
         idle = [thread for thread in self.logs if thread not in acting]
-        sequences = [self.scavenged([each for each in operations if each[0] in ("tick", "pass", "idle")], idle, lines)]
+        sequences = [self.scavenged([each for each in operations if each[0] in CHORES], idle, lines)]
         for thread in sorted(acting - {0}):
             sequences.append([])
             for operation in operations:
-                if operation[0] not in ("tick", "pass", "idle") and operation[1] == thread:
+                if operation[0] not in CHORES and operation[1] == thread:
                     sequences[-1] += self.answered(operation, lines[thread])
         for actor, rest in enumerate(lines):
             rest.end(f"nothing that actor {actor} does in phase {phase + 1} says this")
@@ -216,14 +244,30 @@ class Accounts:
         word, thread, *values = operation
         if word == "a":
             return self.requested(self.trace.wanted(*values), lines)
-        if word == "f":
-            if self.named[values[0]] is None:
-                lines.take_exactly(f"name {values[0]} has no block", "skipped", values[0])
+        if word in ("f", "fs"):
+            name, *sizing = values
+            if self.named[name] is None:
+                lines.take_exactly(f"name {name} has no block", "skipped", name)
                 return []
-            return self.freed(thread, self.named[values[0]], lines)
-        if word == "r":
-            return self.freed(thread, tuple(values), lines)
+            return self.freed(thread, *self.named[name][:2], sizing, lines)
+        if word == "m":
+            return self.reallocated(thread, *values, lines)
+        if word in ("r", "rs"):
+            address, turn, *sizing = values
+            return self.freed(thread, address, turn, sizing, lines)
         return self.flushed(thread, lines)
+
+    def reallocated(self, thread, name, old, size, align, lines):
+        """A block that suits is kept; for another one its heap is asked, and where that gives one the old one is freed then, as any
+        free is. A block that was refused has no other size."""
+        block = self.named[old]
+        if block is None or (max(size, 1) <= block.room and block.address % align == 0):
+            said = ("skipped", name) if block is None else ("kept", block.address, block.turn, name)
+            lines.take_exactly(f"the reallocation of name {old} asks for nothing", *said)
+            self.named[name] = block
+            return []
+        events = self.requested(self.trace.wanted(name, block.heap, size, align), lines)
+        return events + (self.freed(thread, *block[:2], [], lines) if self.named[name] else [])
 
     def requested(self, wanted, lines):
         """The deeds and backs of a request, and then its block or its refusal."""
@@ -253,7 +297,7 @@ class Accounts:
         is_large = wanted.directory[1] == "large"
         if not are_rising(deeds) or not are_rising(backs) or not set(backs if is_large else deeds + backs) <= set(give.pages):
             raise Wrong(f"no pages for the request of name {wanted.name}: deeds {deeds}, backs {backs}, {line.text}")
-        self.named[wanted.name] = address, turn
+        self.named[wanted.name] = Block(address, turn, room, heap)
         return give
 
     def refused(self, wanted, line, deeds, backs):
@@ -265,28 +309,30 @@ class Accounts:
         self.named[wanted.name] = None
         return Refused(wanted.directory, wanted.room // PAGE if is_large else 1, *(page or [None]))
 
-    def freed(self, thread, name, lines):
-        """A free is refused at once, or logged; a full log is flushed before."""
-        address, turn = name
+    def freed(self, thread, address, turn, sizing, lines):
+        """A free is refused at once, or logged, with the room of the size and alignment that it names, if any; a full log is
+        flushed before."""
         if not PAGE <= address < PAGE * (self.trace.pages + 1):
-            lines.take_exactly("a free outside the region", "outside", *name)
+            lines.take_exactly("a free outside the region", "outside", address, turn)
             return []
         if address % GRAIN:
-            lines.take_exactly("an unaligned free", "unaligned", *name)
+            lines.take_exactly("an unaligned free", "unaligned", address, turn)
             return []
         events = self.flushed(thread, lines) if len(self.logs[thread]) == MOST_LOGGED else []
-        self.logs[thread].append(name)
+        self.logs[thread].append(Logged(address, turn, self.trace.room(*sizing) if sizing else None))
         return events
 
     def flushed(self, thread, lines):
         """The log's names in order, each ended or refused. The epoch is read once and before; it is told where one ended."""
         events, epochs = [], set()
-        for address, turn in self.logs[thread]:
-            line = lines.take(f"no answer to the free of {address:#010x} turn {turn}", "freed", "ended", "no-block")
-            if line.values[:2] != (address, turn):
-                raise Wrong(f"not the free of {address:#010x} turn {turn}: {line.text}")
-            epochs.update(line.values[2:])
-            events.append({"freed": End, "ended": Ended, "no-block": NoBlock}[line.word](*line.values))
+        for logged in self.logs[thread]:
+            free = f"the free of {logged.address:#010x} turn {logged.turn}"
+            line = lines.take(f"no answer to {free}", *ENDS)
+            told = line.values[2:]
+            if line.values[:2] != (logged.address, logged.turn) or (line.word == "size-differs" and told != (logged.room,)):
+                raise Wrong(f"not {free}: {line.text}")
+            epochs.update(told if line.word == "freed" else ())
+            events.append(ENDS[line.word](*logged, *told) if line.word == "freed" else ENDS[line.word](*line.values))
         if len(epochs) > 1:
             raise Wrong(f"epochs {sorted(epochs)} in one flush of thread {thread}")
         self.logs[thread] = []

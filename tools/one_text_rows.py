@@ -18,7 +18,7 @@ import subprocess
 import sys
 from pathlib import Path
 
-CLASSES = [16, 32, 48, 64, 80, 96, 112, 128, 160, 192, 224, 256, 320, 384, 448, 512]
+CLASSES = [16, 32, 48, 64, 80, 96, 112, 128, 160, 192, 224, 256, 320, 384, 448, 512, 640, 768, 896, 1024]
 
 HEADER = """use Rattle.std.specs.Prelude.{◌≡◌, %scodes}
 use Rattle.std.proofs.Common.{refl}
@@ -48,11 +48,13 @@ LINES = [
     (r"(\d+) freed (0x\w+) turn (\d+) epoch (\d+)", "freed_of"),
     (r"(\d+) ended (0x\w+) turn (\d+)", "ended_of"),
     (r"(\d+) no-block (0x\w+) turn (\d+)", "no_block_of"),
+    (r"(\d+) size-differs (0x\w+) turn (\d+) asked (\d+)", "size_differs_of"),
     (r"(\d+) outside (0x\w+) turn (\d+)", "outside_of"),
     (r"(\d+) unaligned (0x\w+) turn (\d+)", "unaligned_of"),
     (r"(\d+) no-space name (\d+)", "no_space_of"),
     (r"(\d+) held (\d+) name (\d+)", "held_of"),
     (r"(\d+) skipped name (\d+)", "skipped_of"),
+    (r"(\d+) kept (0x\w+) turn (\d+) name (\d+)", "kept_of"),
     (r"0 tick (\d+)", "tick_of"),
     (r"0 pass (\d+)", "pass_of"),
     (r"0 bare page (\d+)", "bare_of"),
@@ -152,14 +154,15 @@ class Trace:
         "threads": (36, 24, 3, 8, 8, 6, 6, 14, 16),
         "ranges": (40, 30, 0, 14, 6, 1, 2, 10, 8),
     }
-    # the sorts that the seeds up to 1,000 choose from, and how often each comes; the later seeds are all of whole pages
+    # the sorts that the seeds up to 1,000 choose from, and how often each comes; the seeds from there to 2,000 are of whole pages,
+    # and the later ones of the second and third version of the format
     CHANCES = {"even": 4, "requests": 4, "frees": 4, "scavenger": 4, "threads": 4, "log": 1, "caches": 1, "drain": 6, "kept": 6}
     ACTS = ("request", "free", "raw", "flush", "stop", "tick", "pass", "idle", "phase")
 
     def __init__(self, seed: int):
         self.dice = random.Random(seed)
         dice = self.dice
-        self.sort = "ranges" if seed > 1000 else dice.choices(list(self.CHANCES), list(self.CHANCES.values()))[0]
+        self.sort = "ranges" if 1000 < seed <= 2000 else dice.choices(list(self.CHANCES), list(self.CHANCES.values()))[0]
         self.pages = dice.choices((1, 2, 3, 4, 5, 8, 12, 16), (8, 10, 8, 8, 4, 2, 1, 1))[0]
         self.threads = dice.choice((1, 1, 2, 2, 3, 4))
         self.heaps = dice.choice((1, 1, 2, 3))
@@ -169,12 +172,14 @@ class Trace:
             self.pages, self.threads = min(self.pages, 3), max(self.threads, 2)
         if self.sort == "ranges":
             self.pages, self.heaps, self.threads = dice.choice((8, 10, 12, 16)), dice.choice((1, 1, 1, 2)), 2
-        self.lines = ["pas 1 pages %d threads %d heaps %d age %d" % (self.pages, self.threads, self.heaps, dice.choice((1, 1, 2, 3)))]
+        self.version = dice.choice((2, 3)) if seed > 2000 else 1
+        self.lines = ["pas %d pages %d threads %d heaps %d age %d" % (self.version, self.pages, self.threads, self.heaps, dice.choice((1, 1, 2, 3)))]
         shares = {"caches": 1.0, "kept": 0.2}.get(self.sort, dice.choice((0.0, 0.3, 0.6)))
         for heap in range(self.heaps):
             if dice.random() < shares:
                 self.lines.append("shared %d" % heap)
         self.names = 0
+        self.sizes: dict[int, tuple[int, int]] = {}  # size and alignment of each name
         self.epoch = 0
         self.old: list[int] = []                    # names of earlier phases
         self.freed: set[int] = set()
@@ -205,7 +210,7 @@ class Trace:
     def fill_caches(self) -> None:
         """More local allocators than a cache has room for."""
         k = self.thread()
-        pairs = [(heap, size) for heap in range(self.heaps) for size in CLASSES]
+        pairs = [(heap, size) for heap in range(self.heaps) for size in CLASSES[:16]]
         self.dice.shuffle(pairs)
         for heap, size in pairs[: self.dice.randint(30, 38)]:
             self.ask(k, heap, size, 16)
@@ -264,6 +269,7 @@ class Trace:
 
     def ask(self, k: int, heap: int, size: int, align: int) -> None:
         self.names += 1
+        self.sizes[self.names] = (size, align)
         self.own[k].append(self.names)
         self.lines.append("a %d %d %d %d %d" % (k, self.names, heap, size, align))
 
@@ -271,7 +277,7 @@ class Trace:
         dice = self.dice
         sort = dice.random()
         if sort < 0.55:
-            return dice.choice((0, 1, 16, 24, 48, 100, 128, 200, 256, 300, 320, 400, 448, 500, 512, 512))
+            return dice.choice((0, 1, 16, 24, 100, 256, 512, 513, 640, 700, 768, 896, 1000, 1024) if self.version == 3 else (0, 1, 16, 24, 48, 100, 128, 200, 256, 300, 320, 400, 448, 500, 512, 512))
         if sort < 0.8:
             return dice.choice((513, 600, 800, 1000, 1024, 1500, 2000, 2048))
         return min(dice.choice((2049, 4096, 4096, 5000, 8192, 12000, 16384)), 4096 * self.pages)
@@ -287,14 +293,22 @@ class Trace:
         if names:
             name = self.dice.choice(live if live and self.dice.random() < 0.8 else names)
             self.freed.add(name)
+            self.free_named(k, name)
+
+    def free_named(self, k: int, name: int) -> None:
+        """From the second version on, most frees name a size and an alignment: mostly those that were asked for."""
+        if self.version == 1 or self.dice.random() < 0.3:
             self.lines.append("f %d %d" % (k, name))
+        else:
+            self.lines.append("fs %d %d %d %d" % ((k, name) + (self.sizes[name] if self.dice.random() < 0.7 else (self.size(), 16))))
 
     def raw(self) -> None:
         dice = self.dice
         page = dice.randint(0, self.pages + 1) if dice.random() < 0.3 else dice.randint(1, min(self.pages, 3))
         grain = dice.choice((0, 0, 0, 32, 64, 128, dice.randrange(256)))
         address = 4096 * page + 16 * grain + dice.choice((0, 0, 0, 0, 0, 8))
-        self.lines.append("r %d 0x%08x %d" % (self.thread(), address, dice.choice((0, 0, 0, 1, 2))))
+        line = "r %d 0x%08x %d" % (self.thread(), address, dice.choice((0, 0, 0, 1, 2)))
+        self.lines.append(line if self.version == 1 or dice.random() < 0.3 else "rs%s %d 16" % (line[1:], self.size()))
 
     def flush(self) -> None:
         self.lines.append("flush %d" % self.thread())

@@ -4,7 +4,7 @@
 Each request becomes a line `a` and each free a line `f`, in the log's order. A realloc becomes an `a` and then an `f`,
 or, from version 4 on, a line `m`. Where a thread frees a block that another asked for in the same phase, the next phase
 begins before it; so no line comes too early. A thread that ends gets a line `stop`, and its number goes to a thread
-that begins later. The program of today reads version 1.
+that begins later. The program reads versions 1 to 4.
 
 What doesn't fit the format's limits is cut, and said on standard error: a request of more than the region, with its
 free; an alignment above a page; threads beyond the most at once, which share numbers; and all that comes after the most

@@ -10,7 +10,6 @@ use Rattle.pas_steps.specs.Events.{events_by}
 use Rattle.pas_steps.specs.Lists.{Legal, part, word_after}
 use Rattle.pas_steps.specs.declared.step.Made.{Made}
 use Rattle.pas_steps.specs.declared.step.Step.TheVariants.{Tick}
-use Rattle.pas_free_log.specs.Logs.{entry_of}
 use Rattle.pas_cache.specs.Caches.{Cached}
 use Rattle.pas_report.specs.Lines.{line_of}
 use Rattle.pas_report.specs.declared.record.Record.{Record}
@@ -25,6 +24,7 @@ use Rattle.pas_check.specs.Begins.{stopping}
 use Rattle.pas_check.specs.States.{Does, Due, Stand, Task, Writes, with_at}
 use Rattle.pas_check.specs.Tasks.{emptying}
 use Rattle.pas_accepted.proofs.Going.{LeadsOn, on_as, on_both, on_line, on_task}
+use Rattle.pas_accepted.proofs.LogEntries.{logged_as}
 use Rattle.pas_accepted.proofs.Operations.{what_comes}
 use Rattle.pas_accepted.proofs.Passes.{pass_comes}
 use Rattle.pas_accepted.proofs.Pieces.{lines_both, lines_by, table_at, table_same}
@@ -42,7 +42,7 @@ ReadsWell act p = Unit {0}
 
 module _ (f : Profile) (valid : IsValid f) (p : Progress) (s : Stand) (ts : List Task) (tells : Tells p s) (due : s.due ≡ []) where
   -- ---- one look at the epoch
-  look_tells : (k epoch : ℕ) (t : Stand) (caches : ℕ → Cached) (read : ℕ) → t.events ≡ s.events → t.names ≡ s.names → ((j : ℕ) → (caches j).log ≡ map entry_of (t.logs j)) → ((j : ℕ) → t.idle_since j ≡ (caches j).idle_since) → t.epoch ≡ s.epoch
+  look_tells : (k epoch : ℕ) (t : Stand) (caches : ℕ → Cached) (read : ℕ) → t.events ≡ s.events → t.names ≡ s.names → ((j : ℕ) → (caches j).log ≡ map logged_as (t.logs j)) → ((j : ℕ) → t.idle_since j ≡ (caches j).idle_since) → t.epoch ≡ s.epoch
       → Tells record { names = p.names; caches = caches; epoch = read; list = triples k (epoch_look epoch) ++ p.list; records = p.records } t
   look_tells k epoch t caches read events names logs awake same = record {
     events = events ∙ tells.events;
@@ -92,7 +92,7 @@ module _ (f : Profile) (valid : IsValid f) (p : Progress) (s : Stand) (ts : List
   same_tells t records events names logs awake epoch = record {
     events = events ∙ tells.events;
     names = names ∙ tells.names;
-    logs = λ j. tells.logs j ∙ ap (λ table. map entry_of (table j)) (sym logs);
+    logs = λ j. tells.logs j ∙ ap (λ table. map logged_as (table j)) (sym logs);
     awake = λ j. ap (λ (table : ℕ → ℕ). table j) awake ∙ tells.awake j;
     epoch = epoch ∙ tells.epoch;
     tidy = tells.tidy;

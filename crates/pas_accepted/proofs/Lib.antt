@@ -1,7 +1,10 @@
 mod Going
 mod Pieces
+mod NamesOfBlocks
+mod LogEntries
 mod Telling
 mod FlushKinds
+mod SizedEnds
 mod Flushing
 mod Outcomes
 mod Tries
@@ -9,6 +12,7 @@ mod Passes
 mod Requests
 mod Stopping
 mod Frees
+mod Remakes
 mod Operations
 mod Acts
 mod Order

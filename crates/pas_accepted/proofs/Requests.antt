@@ -13,6 +13,7 @@ use Rattle.pas_profile.specs.declared.event.Event.{Event}
 use Rattle.pas_profile.specs.declared.event.NoRoom.{NoRoom}
 use Rattle.pas_profile.specs.declared.event.NoRoom.TheVariants.{Held, NoSpace}
 use Rattle.pas_profile.specs.declared.name.Block.{Block}
+use Rattle.pas_profile.specs.declared.name.Name.{Name}
 use Rattle.pas_profile.specs.declared.profile.Profile.{Profile}
 use Rattle.pas_profile.specs.declared.word.Word.TheVariants as Word
 use Rattle.pas_profile.proofs.ClassFacts.{class_known, class_suits}
@@ -38,10 +39,12 @@ use Rattle.pas_segregated.specs.declared.slots.Slots.{Slots}
 use Rattle.pas_report.specs.Lines.{line_of_answer, line_of_event}
 use Rattle.pas_report.specs.declared.record.Record.{Record}
 use Rattle.pas_report.specs.declared.record.Said.{Said}
-use Rattle.pas_trace.specs.Named.{named}
 use Rattle.pas_trace.specs.declared.item.Request.{Request}
-use Rattle.pas_answers.specs.Answers.{IsGiven, RefusalEnds, RequestEnds, name_of, records_of, said_by, said_of_request, said_of_room, wanted_by}
-use Rattle.pas_check.specs.States.{Serves, Stand}
+use Rattle.pas_answers.specs.Answers.{IsGiven, RefusalEnds, RequestEnds, block_of, records_of, said_by, said_of_request, said_of_room, wanted_by}
+use Rattle.pas_check.specs.Begins.{is_full, logging, replacing, unsized}
+use Rattle.pas_check.specs.Calls.{after_request}
+use Rattle.pas_check.specs.States.{Due, Serves, Stand, with_due, with_name}
+use Rattle.pas_check.specs.declared.entry.Entry.{Entry}
 use Rattle.pas_check.specs.Takes.{IsPreparing, IsRefusal, directory_of}
 use Rattle.pas_accepted.proofs.Going.{LeadsOn, on_as, on_both, on_line, on_same}
 use Rattle.pas_accepted.proofs.Pieces.{lines_both, lines_by, lines_more, visible_piece}
@@ -71,8 +74,8 @@ deed_known f l k page d legal is knows =
 
 -- ---- deeds and backs
 -- where the request goes on, after these events
-abbrev pub serving : Stand → ℕ → Request → List Event → Stand
-serving w k r es = record w { events = es; due = Serves k r ∷ [] }
+abbrev pub serving : Stand → ℕ → Request → Option Name → List Event → Stand
+serving w k r replaced es = record w { events = es; due = Serves k r replaced ∷ [] }
 
 prepared_by : (k : ℕ) (d : Directory) (e : Event) → Prepares d e → actor_of e ≡ k → IsPreparing k d e
 prepared_by k d e (Prepares.Deeds j page) own = inl (page, ap (λ i. Event.Deed i page d) own)
@@ -82,13 +85,13 @@ all_prepared : (k : ℕ) (d : Directory) (es : List Event) → AllByRecursion (P
 all_prepared k d [] all own = tt
 all_prepared k d (e ∷ es) all own = (prepared_by k d e all.0 own.0, all_prepared k d es all.1 own.1)
 
-prepares_lead : (f : Profile) (w : Stand) (k : ℕ) (r : Request) (es : List Event) → AllByRecursion (IsPreparing k (directory_of f r)) es → Run f (es ++ w.events) → LeadsOn f (serving w k r w.events) (lines_by (records_of es)) (serving w k r (es ++ w.events))
-prepares_lead f w k r [] all run = on_same f (serving w k r w.events) (serving w k r w.events) refl
-prepares_lead f w k r (e ∷ es) all run =
-    let old : Stand = serving w k r (es ++ w.events) in
-    let new : Stand = serving w k r (e ∷ (es ++ w.events)) in
-    on_as f (serving w k r w.events) new new _ _ (lines_more e es) refl
-    (on_both f (serving w k r w.events) old new _ _ (prepares_lead f w k r es all.1 run.1) (on_line f old new (line_of_event e) (inr (inl record { event = e; prepares = all.0; admitted = run.0; line_is = refl; next_is = refl }))))
+prepares_lead : (f : Profile) (w : Stand) (k : ℕ) (r : Request) (replaced : Option Name) (es : List Event) → AllByRecursion (IsPreparing k (directory_of f r)) es → Run f (es ++ w.events) → LeadsOn f (serving w k r replaced w.events) (lines_by (records_of es)) (serving w k r replaced (es ++ w.events))
+prepares_lead f w k r replaced [] all run = on_same f (serving w k r replaced w.events) (serving w k r replaced w.events) refl
+prepares_lead f w k r replaced (e ∷ es) all run =
+    let old : Stand = serving w k r replaced (es ++ w.events) in
+    let new : Stand = serving w k r replaced (e ∷ (es ++ w.events)) in
+    on_as f (serving w k r replaced w.events) new new _ _ (lines_more e es) refl
+    (on_both f (serving w k r replaced w.events) old new _ _ (prepares_lead f w k r replaced es all.1 run.1) (on_line f old new (line_of_event e) (inr (inl record { event = e; prepares = all.0; admitted = run.0; line_is = refl; next_is = refl }))))
 
 -- ---- the end
 deeds_prepare : (d : Directory) (e : Event) → IsDeedOf d e → Prepares d e
@@ -109,10 +112,25 @@ reason_by Route.Bitfit f w locals entry exit room h = h.reason
 reason_by Route.Large f w locals entry exit room h = h.2
 
 -- after the request
-abbrev pub served : Stand → Request → Result Block NoRoom → List Event → Stand
-served w r answer es = record w { events = es; names = named r.name (name_of answer) ∷ w.names; due = [] }
+abbrev pub served : Stand → ℕ → Request → Option Name → Result Block NoRoom → List Event → Stand
+served w k r replaced answer es = after_request (record w { events = es }) k r replaced (block_of answer) []
 
-module _ (f : Profile) (valid : IsValid f) (w : Stand) (k : ℕ) (r : Request) (l : Whole) (steps : List Made) (events : w.events ≡ visible l) (legal : Legal f (triples k steps ++ l)) where
+-- where nothing is replaced, its name stands for the block, or for nothing
+pub served_plain : (w : Stand) (k : ℕ) (r : Request) (answer : Result Block NoRoom) (es : List Event)
+    → served w k r None answer es ≡ record w { events = es; names = record { name = r.name; block = block_of answer } ∷ w.names; due = [] }
+served_plain w k r (Ok block) es = refl
+served_plain w k r (Err room) es = refl
+
+-- what was due before doesn't matter then
+logged_apart : (full : Bool) (v : Stand) (k : ℕ) (entry : Entry) (due : List Due) → logging full (with_due v due) k entry [] ≡ logging full v k entry []
+logged_apart true v k entry due = refl
+logged_apart false v k entry due = refl
+
+due_apart : (replaced : Option Name) (v : Stand) (k : ℕ) (due : List Due) → replacing replaced (with_due v due) k [] ≡ replacing replaced v k []
+due_apart None v k due = refl
+due_apart (Some old) v k due = logged_apart (is_full v k) v k (unsized old) due
+
+module _ (f : Profile) (valid : IsValid f) (w : Stand) (k : ℕ) (r : Request) (replaced : Option Name) (l : Whole) (steps : List Made) (events : w.events ≡ visible l) (legal : Legal f (triples k steps ++ l)) where
   run : Run f (visible (triples k steps ++ l))
   run = runs f (triples k steps ++ l) valid legal
 
@@ -120,43 +138,44 @@ module _ (f : Profile) (valid : IsValid f) (w : Stand) (k : ℕ) (r : Request) (
   visible_is es is = visible_piece k steps l ∙ ap (λ xs. xs ++ visible l) is ∙ ap (λ xs. es ++ xs) (sym events)
 
   given_leads : (block : Block) → IsGiven k (wanted_by f r) (part k l) steps block
-      → LeadsOn f (serving w k r w.events) (lines_by (records_of (events_by k (part k l) steps) ++ [])) (served w r (Ok block) (visible (triples k steps ++ l)))
+      → LeadsOn f (serving w k r replaced w.events) (lines_by (records_of (events_by k (part k l) steps) ++ [])) (served w k r replaced (Ok block) (visible (triples k steps ++ l)))
   given_leads block h =
       let give : Event = Event.Give k block in
       let before : List Event = h.before in
       let shown : visible (triples k steps ++ l) ≡ (give ∷ before) ++ w.events = visible_is (give ∷ before) h.events in
       let all : Run f ((give ∷ before) ++ w.events) = subst (Run f) shown run in
       let own : AllByRecursion (λ e. actor_of e ≡ k) (give ∷ before) = subst (AllByRecursion (λ e. actor_of e ≡ k)) h.events (events_own k (part k l) steps) in
-      let old : Stand = serving w k r (before ++ w.events) in
-      let new : Stand = served w r (Ok block) ((give ∷ before) ++ w.events) in
+      let old : Stand = serving w k r replaced (before ++ w.events) in
+      let new : Stand = served w k r replaced (Ok block) ((give ∷ before) ++ w.events) in
       let deeds : (x : ℕ) → in_run (grain_of block.name) (length_of block) x ≡ true → deed_in (before ++ w.events) (x / 256) ≡ Some (directory_of f r)
       = λ x inside. subst (λ es. deed_in es (x / 256) ≡ Some (directory_of f r)) shown
       (deed_known f (triples k steps ++ l) k (x / 256) (directory_of f r) legal (kind_asked f r) (subst (KnowsDeed (x / 256) (directory_of f r)) (sym (part_of_own k steps l)) (h.of_directory x inside))) in
-      on_as f (serving w k r w.events) new (served w r (Ok block) (visible (triples k steps ++ l))) _ _ (ap lines_by (append-nil (records_of (events_by k (part k l) steps))) ∙ ap (λ es. lines_by (records_of es)) h.events ∙ lines_more give before)
-      (ap (served w r (Ok block)) shown)
-      (on_both f (serving w k r w.events) old new _ _ (prepares_lead f w k r before (all_prepared k (directory_of f r) before h.prepared own.1) all.1)
-      (on_line f old new (line_of_event give) (inr (inr (inl record { block = block; is_for = record { heap = h.of_heap; room = h.room; aligned = h.aligned; deeds = deeds }; admitted = all.0; line_is = refl; next_is = refl })))))
+      let next_is = sym (due_apart replaced (with_name (record w { events = (give ∷ before) ++ w.events }) r.name (Some block)) k (Serves k r replaced ∷ [])) in
+      on_as f (serving w k r replaced w.events) new (served w k r replaced (Ok block) (visible (triples k steps ++ l))) _ _ (ap lines_by (append-nil (records_of (events_by k (part k l) steps))) ∙ ap (λ es. lines_by (records_of es)) h.events ∙ lines_more give before)
+      (ap (served w k r replaced (Ok block)) shown)
+      (on_both f (serving w k r replaced w.events) old new _ _ (prepares_lead f w k r replaced before (all_prepared k (directory_of f r) before h.prepared own.1) all.1)
+      (on_line f old new (line_of_event give) (inr (inr (inl record { block = block; is_for = record { heap = h.of_heap; room = h.room; aligned = h.aligned; deeds = deeds }; admitted = all.0; line_is = refl; next_is = next_is })))))
 
-  refuses : (room : NoRoom) → IsTrueReason f (directory_of f r) (triples k steps ++ l) room → (es : List Event) → visible (triples k steps ++ l) ≡ es → IsRefusal f (serving w k r es) r (said_of_room r.name room)
+  refuses : (room : NoRoom) → IsTrueReason f (directory_of f r) (triples k steps ++ l) room → (es : List Event) → visible (triples k steps ++ l) ≡ es → IsRefusal f (serving w k r replaced es) r (said_of_room r.name room)
   refuses NoSpace true_reason es shown = inl refl
   refuses (Held page) true_reason es shown =
       inr (page, subst (λ xs. deed_in xs page ≡ Some (directory_of f r)) shown (deed_told f (triples k steps ++ l) page (directory_of f r) legal (kind_asked f r) true_reason.0.of_directory), refl)
 
   refused_leads : (room : NoRoom) → RefusalEnds (wanted_by f r).route (directory_of f r) (events_by k (part k l) steps) → IsTrueReason f (directory_of f r) (triples k steps ++ l) room
-      → LeadsOn f (serving w k r w.events) (lines_by (records_of (events_by k (part k l) steps) ++ Record.Said k (said_of_room r.name room) ∷ [])) (served w r (Err room) (visible (triples k steps ++ l)))
+      → LeadsOn f (serving w k r replaced w.events) (lines_by (records_of (events_by k (part k l) steps) ++ Record.Said k (said_of_room r.name room) ∷ [])) (served w k r replaced (Err room) (visible (triples k steps ++ l)))
   refused_leads room ends true_reason =
       let es : List Event = events_by k (part k l) steps in
       let shown : visible (triples k steps ++ l) ≡ es ++ w.events = visible_is es refl in
       let said : Said = said_of_room r.name room in
-      let old : Stand = serving w k r (es ++ w.events) in
-      let new : Stand = served w r (Err room) (es ++ w.events) in
-      on_as f (serving w k r w.events) new (served w r (Err room) (visible (triples k steps ++ l))) _ _ (lines_both (records_of es) (Record.Said k said ∷ [])) (ap (served w r (Err room)) shown)
-      (on_both f (serving w k r w.events) old new _ _ (prepares_lead f w k r es (all_prepared k (directory_of f r) es (refusal_prepares (wanted_by f r).route (directory_of f r) es ends) (events_own k (part k l) steps)) (subst (Run f) shown run))
+      let old : Stand = serving w k r replaced (es ++ w.events) in
+      let new : Stand = served w k r replaced (Err room) (es ++ w.events) in
+      on_as f (serving w k r replaced w.events) new (served w k r replaced (Err room) (visible (triples k steps ++ l))) _ _ (lines_both (records_of es) (Record.Said k said ∷ [])) (ap (served w k r replaced (Err room)) shown)
+      (on_both f (serving w k r replaced w.events) old new _ _ (prepares_lead f w k r replaced es (all_prepared k (directory_of f r) es (refusal_prepares (wanted_by f r).route (directory_of f r) es ends) (events_own k (part k l) steps)) (subst (Run f) shown run))
       (on_line f old new (line_of_answer k said) (inr (inr (inr record { said = said; refuses = refuses room true_reason (es ++ w.events) shown; line_is = refl; next_is = refl })))))
 
   -- THE REQUEST, as it was answered
   pub request_leads : (locals : List Slots) (answer : Result Block NoRoom) → RequestEnds k (wanted_by f r) (part k l) steps answer
       → MatchResult answer (λ block. Unit {0}) (IsTrulyRefused f (wanted_by f r) locals l (triples k steps ++ l))
-      → LeadsOn f (serving w k r w.events) (lines_by (records_of (events_by k (part k l) steps) ++ said_by k (said_of_request r.name answer))) (served w r answer (visible (triples k steps ++ l)))
+      → LeadsOn f (serving w k r replaced w.events) (lines_by (records_of (events_by k (part k l) steps) ++ said_by k (said_of_request r.name answer))) (served w k r replaced answer (visible (triples k steps ++ l)))
   request_leads locals (Ok block) ends truly = given_leads block ends
   request_leads locals (Err room) ends truly = refused_leads room ends (reason_by (wanted_by f r).route f (wanted_by f r) locals l (triples k steps ++ l) room truly)

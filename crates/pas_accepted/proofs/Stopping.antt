@@ -2,7 +2,6 @@
 use Rattle.std.proofs.Common.{◌≡◌, ℕ, ◌==◌, List, [], ◌++◌, refl, ap, sym, ◌∙◌, subst}
 use Rattle.std.specs.Prelude.{map}
 use Rattle.pas_profile.specs.Profiles.{IsValid}
-use Rattle.pas_profile.specs.declared.name.Name.{Name}
 use Rattle.pas_profile.specs.declared.profile.Profile.{Profile}
 use Rattle.pas_core.proofs.OneActor.{legal_earlier}
 use Rattle.pas_steps.specs.Desks.{triples}
@@ -11,28 +10,30 @@ use Rattle.pas_steps.specs.Lists.{Legal, part, visible}
 use Rattle.pas_steps.specs.declared.step.Made.{Made}
 use Rattle.pas_steps.proofs.Frames.{events_append}
 use Rattle.pas_free_log.specs.Frames.{freeing}
-use Rattle.pas_free_log.specs.Logs.{entry_of}
 use Rattle.pas_cache.specs.Caches.{Cached}
 use Rattle.pas_report.specs.declared.record.Record.{Record}
-use Rattle.pas_trace.specs.Named.{Named}
+use Rattle.pas_answers.specs.Named.{Named}
 use Rattle.pas_answers.specs.Answers.{IsStopped, Progress, records_of, with_cache}
 use Rattle.pas_answers.proofs.Tidy.{stop_tidy}
 use Rattle.pas_check.specs.States.{Due, Stand, Task, with_at}
 use Rattle.pas_check.specs.Tasks.{emptying}
+use Rattle.pas_check.specs.declared.entry.Entry.{Entry as Known}
 use Rattle.pas_check.proofs.Ticks.{epoch_kept}
 use Rattle.pas_accepted.proofs.FlushKinds.{stop_only}
 use Rattle.pas_accepted.proofs.Flushing.{flush_leads}
 use Rattle.pas_accepted.proofs.Going.{LeadsOn, on_as}
+use Rattle.pas_accepted.proofs.LogEntries.{logged_as}
+use Rattle.pas_accepted.proofs.NamesOfBlocks.{known}
 use Rattle.pas_accepted.proofs.Pieces.{lines_by, table_at, visible_piece}
 use Rattle.pas_accepted.proofs.Telling.{Tells, piece_of, told_after}
 
 -- where thread k's log was emptied and has these names
-abbrev pub emptied : Progress → Stand → ℕ → List Made → List Name → List Due → List Task → Stand
+abbrev pub emptied : Progress → Stand → ℕ → List Made → List Known → List Due → List Task → Stand
 emptied p s k steps log more ts = record (emptying s k log more ts) { events = visible (triples k steps ++ p.list); due = more }
 
 -- .. its cache has the same log
-pub logs_with : (p : Progress) (s : Stand) (k : ℕ) (c : Cached) (log : List Name) → Tells p s → c.log ≡ map entry_of log → (j : ℕ) → (with_cache p.caches k c j).log ≡ map entry_of (with_at s.logs k log j)
-logs_with p s k c log tells new j = table_at (λ (d : Cached). d.log) (map entry_of) (j == k) c (p.caches j) log (s.logs j) new (tells.logs j)
+pub logs_with : (p : Progress) (s : Stand) (k : ℕ) (c : Cached) (log : List Known) → Tells p s → c.log ≡ map logged_as log → (j : ℕ) → (with_cache p.caches k c j).log ≡ map logged_as (with_at s.logs k log j)
+logs_with p s k c log tells new j = table_at (λ (d : Cached). d.log) (map logged_as) (j == k) c (p.caches j) log (s.logs j) new (tells.logs j)
 
 module _ (f : Profile) (valid : IsValid f) (p : Progress) (s : Stand) (tells : Tells p s) (k : ℕ) (c : Cached) (steps : List Made) (h : IsStopped k (p.caches k) c steps) (legal : Legal f (triples k steps ++ p.list)) where
   events_are : events_by k (part k p.list) steps ≡ events_by k (part k p.list) h.flushed
@@ -52,8 +53,8 @@ module _ (f : Profile) (valid : IsValid f) (p : Progress) (s : Stand) (tells : T
       on_as f u (emptied p s k h.flushed [] more ts) (emptied p s k steps [] more ts) _ _ (ap (λ es. lines_by (records_of es)) events_are) (ap (λ es. record u { events = es; due = more }) same_visible)
       (flush_leads f valid p s tells k (p.caches k).noted c.noted h.flushed h.empties flush_legal [] more ts)
 
-  pub stop_tells : (names : List Named) (records : List Record) (t : Stand) → t.events ≡ visible (triples k steps ++ p.list) → t.names ≡ names → t.logs ≡ with_at s.logs k [] → t.idle_since ≡ s.idle_since → t.epoch ≡ s.epoch
+  pub stop_tells : (names : List Named) (records : List Record) (t : Stand) → t.events ≡ visible (triples k steps ++ p.list) → t.names ≡ known names → t.logs ≡ with_at s.logs k [] → t.idle_since ≡ s.idle_since → t.epoch ≡ s.epoch
       → Tells record { names = names; caches = with_cache p.caches k c; epoch = p.epoch; list = triples k steps ++ p.list; records = records } t
   stop_tells names records t events named logs awake epoch =
-      told_after p s t k steps c names records tells events named (λ j. logs_with p s k c [] tells (ap (λ (d : Cached). d.log) h.cache) j ∙ ap (λ (table : ℕ → List Name). map entry_of (table j)) (sym logs))
+      told_after p s t k steps c names records tells events named (λ j. logs_with p s k c [] tells (ap (λ (d : Cached). d.log) h.cache) j ∙ ap (λ (table : ℕ → List Known). map logged_as (table j)) (sym logs))
       (ap (λ (d : Cached). d.idle_since) h.cache) awake epoch (epoch_kept freeing refl k steps p.list (stop_only k (p.caches k) c steps h)) (stop_tidy f k (p.caches k) c steps (part k p.list) (piece_of f k steps p.list legal) h (tells.tidy k))

@@ -3,7 +3,7 @@ use Rattle.std.proofs.Common.{◌≡◌, ℕ, ◌+◌, ◌≤◌, ◌==◌, if�
 use Rattle.std.proofs.lemmas.List.{append-nil}
 use Rattle.std.proofs.lemmas.Bool.{eq-eqb}
 use Rattle.pas_profile.specs.declared.profile.Profile.{Profile}
-use Rattle.pas_profile.specs.declared.name.Name.{Name}
+use Rattle.pas_profile.specs.declared.name.Block.{Block}
 use Rattle.pas_steps.specs.Agreement.{Agreed}
 use Rattle.pas_steps.specs.Calls.{Calls}
 use Rattle.pas_steps.specs.Events.{events_of, events_by}
@@ -25,13 +25,14 @@ use Rattle.pas_cache.specs.Caches.{Cached, AtRest}
 use Rattle.pas_cache.specs.Calls.{Begins}
 use Rattle.pas_profile.specs.declared.event.Range.{Range}
 use Rattle.pas_cache.specs.Calls.{SettlesEach}
-use Rattle.pas_answers.specs.Indexes.{IsNamedFor}
+use Rattle.pas_trace.specs.declared.item.Request.{Request}
+use Rattle.pas_answers.specs.Indexes.{IsNamedFor, request_made}
 use Rattle.pas_trace.specs.Acts.{Act, Operates, Settles, StopsIdle, Wakes, Ends}
 use Rattle.pas_answers.specs.Answers.{having, Answer, answer_of, Progress, begun, settled, stopped, epoch_look, after_answer, after_settling, after_wake, after_stop, IsAnswered, IsStopped, records_of, said_by}
 use Rattle.pas_answers.specs.Calls.{named_by, owed_events, MayAnswer, AnswersMeant}
 use Rattle.pas_answers.specs.Fit.{IsFitWhat, cost_of_what}
 use Rattle.pas_answers.specs.Reaching.{Reaches}
-use Rattle.pas_answers.proofs.Kept.{no_turn}
+use Rattle.pas_answers.proofs.Kept.{none_stands, request_meant}
 use Rattle.pas_answers.proofs.OwnRecords.{piece_of, events_of_piece}
 use Rattle.pas_answers.proofs.SingleActs.{its_cache, other_cache, if_same, records_count}
 use Rattle.pas_acts.specs.Works.{Later, Sits}
@@ -48,13 +49,13 @@ rests_for at events records = let spare = at.spare in record { sits = sits_for a
 
 -- ---- before an operation
 -- it is what is asked for
-pub may_do : {f : Profile} {k : ℕ} {w what : What} {meant : Option Name} {old : Here} {later : Later} {p : Progress} → w ≡ what → MayOperate f k w meant old later p → MayOperate f k what meant old later p
+pub may_do : {f : Profile} {k : ℕ} {w what : What} {meant : Option Block} {old : Here} {later : Later} {p : Progress} → w ≡ what → MayOperate f k w meant old later p → MayOperate f k what meant old later p
 may_do {f} {k} {meant = meant} {old = old} {later = later} {p = p} is may = subst (λ (x : What). MayOperate f k x meant old later p) is may
 
-pub fit_at : {f : Profile} {k : ℕ} {what : What} {meant : Option Name} {σ : Standing} {c : Cached} {out : Records} {later : Later} {p : Progress} → MayOperate f k what meant (here σ c out) later p → (limit : ℕ) × (asked : List ℕ) × IsFitWhat σ.seat.profile limit asked what
+pub fit_at : {f : Profile} {k : ℕ} {what : What} {meant : Option Block} {σ : Standing} {c : Cached} {out : Records} {later : Later} {p : Progress} → MayOperate f k what meant (here σ c out) later p → (limit : ℕ) × (asked : List ℕ) × IsFitWhat σ.seat.profile limit asked what
 fit_at {what = what} may = (may.limit, may.asked, subst (λ (g : Profile). IsFitWhat g may.limit may.asked what) (sym may.rests.sits.profile) may.fit)
 
-pub may_answer : {f : Profile} {k : ℕ} {what : What} {meant : Option Name} {σ : Standing} {c : Cached} {out : Records} {later : Later} {p : Progress} (spare : ℕ) → Spares σ spare → MayOperate f k what meant (here σ c out) later p
+pub may_answer : {f : Profile} {k : ℕ} {what : What} {meant : Option Block} {σ : Standing} {c : Cached} {out : Records} {later : Later} {p : Progress} (spare : ℕ) → Spares σ spare → MayOperate f k what meant (here σ c out) later p
     → CanCall σ (MayAnswer σ.seat.profile c what spare out)
 may_answer {f} {k} {what} {meant} {σ} {c} {out} {later} {p} spare fits may =
     let v = part k p.list in
@@ -73,7 +74,7 @@ may_answer {f} {k} {what} {meant} {σ} {c} {out} {later} {p} spare fits may =
     }
 
 -- ---- after it
-module _ {f : Profile} {k : ℕ} {what : What} {meant came : Option Name} {σ σ' : Standing} {c c1 : Cached} {out out' : Records} {later : Later} {p : Progress} (may : MayOperate f k what meant (here σ c out) later p)
+module _ {f : Profile} {k : ℕ} {what : What} {meant came : Option Block} {σ σ' : Standing} {c c1 : Cached} {out out' : Records} {later : Later} {p : Progress} (may : MayOperate f k what meant (here σ c out) later p)
     (did : AnswersMeant what meant came c c1 out out' σ σ') where
   abbrev v : View
   v = part k p.list
@@ -136,17 +137,18 @@ own_cost op = if_same (op.actor == op.actor) (cost_of_what op.what) (eq-eqb op.a
 -- a door was asked by it, and handed what the cache noted
 module _ {Door : Type 0} (Answers : Door → Door → ℕ → ℕ → Option ℕ → Type 0) (HandsOn : Door → Door → ℕ → Range → Type 0) (door next door' : Door) where
   -- the operation was answered, with the run that the door named
-  abbrev pub AnswersAsking : What → Option Name → Option Name → Cached → Cached → Records → Records → Standing → Standing → Type 0
-  AnswersAsking what meant came c c1 out out' σ σ' = (did : AnswersMeant what meant came c c1 out out' σ σ') × IsNamedFor σ.seat.profile (Answers door next) (next ≡ door) what did.performs.found
+  abbrev pub AnswersAsking : What → Option Block → Option Block → Cached → Cached → Records → Records → Standing → Standing → Type 0
+  AnswersAsking what meant came c c1 out out' σ σ' = (did : AnswersMeant what meant came c c1 out out' σ σ') × IsNamedFor σ.seat.profile (Answers door next) (next ≡ door) (request_made what meant) did.performs.found
 
-  pub has_operated : {f : Profile} {op : Op} {what : What} {meant came : Option Name} {σ σ' : Standing} {c c1 c' : Cached} {out out' : Records} {later : Later} {p : Progress} → op.what ≡ what → MayOperate f op.actor op.what meant (here σ c out) later p
+  pub has_operated : {f : Profile} {op : Op} {what : What} {meant came : Option Block} {σ σ' : Standing} {c c1 c' : Cached} {out out' : Records} {later : Later} {p : Progress} → op.what ≡ what → MayOperate f op.actor op.what meant (here σ c out) later p
       → AnswersAsking what meant came c c1 out out' σ σ' → c' ≡ settled c1 → SettlesEach HandsOn c1.noted next door'
       → (did : ThreadActs f op.actor (Operates op ∷ (Settles op.actor ∷ [])) (named_by op.what came) [] (here σ c out) (here σ' c' out') later p) × GoesThrough Answers HandsOn f op p did.reached did.reaches door door'
   has_operated {f} {op} {what} {meant} {came} {σ} {σ'} {c} {c1} {c'} {out} {out'} {later} {p} asks may answers is handed =
       let k = op.actor in
       let both : AnswersAsking op.what meant came c c1 out out' σ σ' = subst (λ (w : What). AnswersAsking w meant came c c1 out out' σ σ') (sym asks) answers in
       let did : AnswersMeant op.what meant came c c1 out out' σ σ' = both.0 in
-      let named = subst (λ (g : Profile). IsNamedFor g (Answers door next) (next ≡ door) op.what did.performs.found) may.rests.sits.profile both.1 in
+      let made = subst (λ (g : Profile). IsNamedFor g (Answers door next) (next ≡ door) (request_made op.what meant) did.performs.found) may.rests.sits.profile both.1 in
+      let named = subst (λ (o : Option Request). IsNamedFor f (Answers door next) (next ≡ door) o did.performs.found) (request_meant op.what p.names meant may.means) made in
       let a = the_answer may did in
       let midway = after_answer p k a in
       let q = after_settling midway k in
@@ -175,9 +177,9 @@ module _ {Door : Type 0} (Answers : Door → Door → ℕ → ℕ → Option ℕ
 
 -- ---- a thread is stopped
 pub may_stop : {f : Profile} {k : ℕ} {σ : Standing} {c : Cached} {out : Records} {later : Later} {p : Progress} → RestsAt f k σ c out later p → MayOperate f k Stop None (here σ c out) later p
-may_stop at = record { rests = rests_for at (omega arith) (omega arith); limit = 0; asked = []; fit = tt; known = tt; means = tt; turn = no_turn }
+may_stop {f} at = record { rests = rests_for at (omega arith) (omega arith); limit = 0; asked = []; fit = (tt, tt); known = tt; means = tt; stands = none_stands f }
 
-module _ {f : Profile} {k : ℕ} {came : Option Name} {σ σ' : Standing} {c c1 : Cached} {out out' : Records} {later : Later} {p : Progress} (at : RestsAt f k σ c out later p) (did : AnswersMeant Stop None came c c1 out out' σ σ') where
+module _ {f : Profile} {k : ℕ} {σ σ' : Standing} {c c1 : Cached} {out out' : Records} {later : Later} {p : Progress} (at : RestsAt f k σ c out later p) (did : AnswersMeant Stop None None c c1 out out' σ σ') where
   abbrev flush : List Made
   flush = did.performs.steps
 

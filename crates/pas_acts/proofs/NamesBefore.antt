@@ -3,20 +3,20 @@ use Rattle.std.proofs.Common.{◌≡◌, ℕ, ◌<◌, ◌≤◌, ◌==◌, ◌|
 use Rattle.std.specs.Prelude.{MatchOption}
 use Rattle.std.proofs.lemmas.Bool.{ne_eqb, eq-eqb, cases_eq, true≢false, or_parts}
 use Rattle.pas_profile.specs.declared.profile.Profile.{Profile}
-use Rattle.pas_profile.specs.declared.name.Name.{Name}
+use Rattle.pas_profile.specs.declared.name.Block.{Block}
 use Rattle.pas_trace.proofs.Costs.{some_cost}
 use Rattle.pas_trace.specs.Asked.{work_of, of_task, request_of, freed_of, request_in}
 use Rattle.pas_trace.specs.EveryPlan.{is_asked, asked_with, asked_after, asked_by, AreSound, IsSoundTask, IsSoundWork, IsActorBy, IsThread}
 use Rattle.pas_trace.specs.EveryPhase.{FreesItsOwn}
 use Rattle.pas_trace.specs.declared.plan.What.{What}
-use Rattle.pas_trace.specs.declared.plan.What.TheVariants.{Alloc}
+use Rattle.pas_trace.specs.declared.plan.What.TheVariants.{Alloc, Remake}
 use Rattle.pas_trace.specs.declared.item.Request.{Request}
 use Rattle.pas_trace.specs.declared.plan.Task.{Task}
 use Rattle.pas_trace.specs.declared.plan.Work.{Work}
 use Rattle.pas_trace.specs.declared.plan.Op.{Op}
 use Rattle.pas_trace.specs.Acts.{Act, Operates, Settles, own_acts}
 use Rattle.pas_answers.specs.Answers.{Named, standing_for, Progress}
-use Rattle.pas_answers.specs.Calls.{block_behind, HasTurn}
+use Rattle.pas_answers.specs.Calls.{block_behind, MayStand}
 use Rattle.pas_answers.specs.Fit.{IsFitTask, IsFitWork, IsFitWhat, AreFit, AreBelow, cost_of_what, own_costs_of}
 use Rattle.pas_answers.specs.Names.{block_named, names_held}
 use Rattle.pas_answers.specs.Replays.{at_start}
@@ -58,9 +58,10 @@ smaller_if false what few many small n none = small n (not_before what many n no
 
 fit_task : (f : Profile) (limit : ℕ) (few many : List ℕ) (task : Task) → IsSmaller few many → IsSoundTask f many task → MatchOption (request_of task) (Unit {0}) (λ r. r.name < limit) → MatchOption (freed_of task) (Unit {0}) (λ n. is_asked few n ≡ true)
     → IsFitTask f limit few task
-fit_task f limit few many (Task.Request name heap size align) small sound below frees = (below, sound.0, small name sound.1)
-fit_task f limit few many (Task.Free name) small sound below frees = frees
-fit_task f limit few many task small sound below frees = sound
+fit_task f limit few many (Task.Request name heap size align) small sound below frees = (below, (sound.0, small name sound.1))
+fit_task f limit few many (Task.Free name room) small sound below frees = (below, (frees, sound.1))
+fit_task f limit few many (Task.Remake name old heap size align) small sound below frees = (below, (sound.0, small name sound.1, frees))
+fit_task f limit few many task small sound below frees = (below, sound)
 
 fit_work : (f : Profile) (limit k : ℕ) (few many : List ℕ) (work : Work) → 1 ≤ k → IsSmaller few many → IsActorBy f work k → IsSoundWork f many work → MatchOption (of_task request_of work) (Unit {0}) (λ r. r.name < limit)
     → MatchOption (of_task freed_of work) (Unit {0}) (λ n. is_asked few n ≡ true) → IsThread f k × IsFitWork f limit few work
@@ -85,6 +86,7 @@ own_fit f limit k few many (op ∷ ops) some small sound below frees =
 -- ---- there is room for its requests
 few_asked : (what : What) → length (name_asked what) ≤ cost_of_what what
 few_asked (Alloc name heap size align) = let one = some_cost size in omega (arith, one)
+few_asked (Remake name old heap size align) = omega arith
 few_asked what = omega arith
 
 pub own_asked : (k : ℕ) (ops : List Op) → length (names_asked (own_acts k ops)) ≤ own_costs_of k (own_acts k ops)
@@ -110,10 +112,10 @@ module _ {f : Profile} {ops : List Op} {book : NameBook} {p : Progress} {names :
   book_tells : (n : ℕ) → known_in book1 requests n ≡ block_behind (standing_for names n)
   book_tells n = only_book n ∙ at.tells n ∙ ap (λ (ns : List Named). block_behind (standing_for ns n)) (sym are)
 
-  book_turns : (n : ℕ) → HasTurn (known_in book1 requests n)
-  book_turns n = subst HasTurn (sym (only_book n)) (at.turns n)
+  book_stands : (n : ℕ) → MayStand f (known_in book1 requests n)
+  book_stands n = subst (MayStand f) (sym (only_book n)) (at.stand n)
 
-  still_known : (n : ℕ) → is_asked at.asked n ≡ true → (block : Option Name) × (standing_for names n ≡ Some block)
+  still_known : (n : ℕ) → is_asked at.asked n ≡ true → (block : Option Block) × (standing_for names n ≡ Some block)
   still_known n is = let known = at.known n is in (known.0, ap (λ (ns : List Named). standing_for ns n) are ∙ known.1)
 
   no_names : names_of (requests_in requests) ≡ []
@@ -125,7 +127,7 @@ module _ {f : Profile} {ops : List Op} {book : NameBook} {p : Progress} {names :
     asked = at.asked;
     fit = subst (λ (t : Names). AreFit f (names_held t) at.asked acts) (sym same) fit;
     tells = book_tells;
-    turns = book_turns;
+    stand = book_stands;
     known = still_known;
     placed = subst (λ (ns : List ℕ). ArePlaced book1 0 (ns ++ names_asked acts)) (sym no_names) placed;
     room = let size = ap (λ (rs : List Named). length rs) none in omega (arith, size, room);
@@ -150,7 +152,7 @@ names_at_start f ops book sound below none = record {
   sound = sound;
   below = below;
   tells = none;
-  turns = λ n block is. absurd (let bad : None ≡ Some block = sym (none n) ∙ is in cc);
+  stand = λ n block is. absurd (let bad : None ≡ Some block = sym (none n) ∙ is in cc);
   known = λ n is. absurd (true≢false (sym is));
   only = λ n is. refl;
 }

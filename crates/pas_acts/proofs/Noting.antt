@@ -6,7 +6,7 @@ use Rattle.pas_profile.specs.declared.profile.Profile.{Profile}
 use Rattle.pas_trace.specs.Asked.{request_in}
 use Rattle.pas_trace.specs.EveryPlan.{is_asked, asked_with, asked_after, asked_by, AreSound, IsSoundWhat}
 use Rattle.pas_trace.specs.declared.plan.What.{What}
-use Rattle.pas_trace.specs.declared.plan.What.TheVariants.{Alloc}
+use Rattle.pas_trace.specs.declared.plan.What.TheVariants.{Alloc, Remake}
 use Rattle.pas_trace.specs.declared.item.Request.{Request}
 use Rattle.pas_trace.specs.declared.plan.Op.{Op}
 use Rattle.pas_trace.specs.Acts.{Act, Operates, Settles, own_acts}
@@ -67,6 +67,7 @@ count_small k ops i lt =
 -- not asked for afterwards: neither before nor by the operation
 pub not_before : (what : What) (asked : List ℕ) (n : ℕ) → is_asked (asked_after what asked) n ≡ false → (is_asked (name_asked what) n ≡ false) × (is_asked asked n ≡ false)
 not_before (Alloc name heap size align) asked n none = let both = or_parts (name == n) (is_asked asked n) none in (ap (λ (t : Bool). t || false) both.0, both.1)
+not_before (Remake name old heap size align) asked n none = let both = or_parts (name == n) (is_asked asked n) none in (ap (λ (t : Bool). t || false) both.0, both.1)
 not_before what asked n none = (refl, none)
 
 pub never_before : (ops : List Op) (asked : List ℕ) (n : ℕ) → is_asked (asked_by asked ops) n ≡ false → is_asked asked n ≡ false
@@ -94,11 +95,21 @@ below_at limit [] i d below lt = absurd (let bad : i < 0 = lt in omega (arith, b
 below_at limit (op ∷ ops) zero d below lt = below.0
 below_at limit (op ∷ ops) (suc i) d below lt = below_at limit ops i d below.1 (omega (arith, lt))
 
+-- a name that an operation asks for wasn't asked for before
+asks_new : (f : Profile) (asked : List ℕ) (what : What) (name : ℕ) → IsSoundWhat f asked what → name_asked what ≡ name ∷ [] → is_asked asked name ≡ false
+asks_new f asked (Alloc n heap size align) name sound is = subst (λ (m : ℕ). is_asked asked m ≡ false) (cc) sound.1
+asks_new f asked (Remake n old heap size align) name sound is = subst (λ (m : ℕ). is_asked asked m ≡ false) (cc) sound.1
+asks_new f asked what name sound is = absurd (let bad : [] ≡ name ∷ [] = is in cc)
+
+-- .. and is below the limit
+pub asks_below : (limit : ℕ) (what : What) (name : ℕ) → IsBelow limit what → name_asked what ≡ name ∷ [] → name < limit
+asks_below limit (Alloc n heap size align) name below is = subst (λ (m : ℕ). m < limit) (cc) below
+asks_below limit (Remake n old heap size align) name below is = subst (λ (m : ℕ). m < limit) (cc) below
+asks_below limit what name below is = absurd (let bad : [] ≡ name ∷ [] = is in cc)
+
 -- the name of the operation at a place is new to each thread
-new_name : (f : Profile) (asked : List ℕ) (ops : List Op) (i : ℕ) (d : Op) (name heap size align : ℕ) → AreSound f asked ops → i < length ops → (get_or ops i d).what ≡ Alloc name heap size align → (k : ℕ) → is_asked (asks k (take i ops)) name ≡ false
-new_name f asked ops i d name heap size align sound lt is k =
-    let own = subst (λ (w : What). IsSoundWhat f (asked_by asked (take i ops)) w) is (sound_at f asked ops i d sound lt) in
-    not_asked k (take i ops) asked name own.1
+new_name : (f : Profile) (asked : List ℕ) (ops : List Op) (i : ℕ) (d : Op) (name : ℕ) → AreSound f asked ops → i < length ops → name_asked (get_or ops i d).what ≡ name ∷ [] → (k : ℕ) → is_asked (asks k (take i ops)) name ≡ false
+new_name f asked ops i d name sound lt is k = not_asked k (take i ops) asked name (asks_new f (asked_by asked (take i ops)) (get_or ops i d).what name (sound_at f asked ops i d sound lt) is)
 
 -- ---- a place is set
 -- the name has this place, and each other its own
@@ -124,8 +135,9 @@ one_more : (t : Bool) (old new : NameBook) (name : ℕ) (xs : List ℕ) → (t �
 one_more true old new name xs here placed = let at = here refl in placed_all new 0 xs (name ∷ []) placed (omega (arith, at), tt)
 one_more false old new name xs here placed = subst (λ (ns : List ℕ). ArePlaced new 0 ns) (sym (append-nil xs)) placed
 
-pub asks_next : (k : ℕ) (ops : List Op) (i : ℕ) (d : Op) (what : What) → i < length ops → (get_or ops i d).what ≡ what → asks k (take (i + 1) ops) ≡ asks k (take i ops) ++ (if (get_or ops i d).actor == k then name_asked what else [])
-asks_next k ops i d what lt is = ap (λ (xs : List Op). asks k xs) (take_more ops i d lt) ∙ asks_last k (take i ops) (get_or ops i d) ∙ ap (λ (w : What). asks k (take i ops) ++ (if (get_or ops i d).actor == k then name_asked w else [])) is
+-- what each thread asked for, after the operation at a place
+pub asks_next : (k : ℕ) (ops : List Op) (i : ℕ) (d : Op) (names : List ℕ) → i < length ops → name_asked (get_or ops i d).what ≡ names → asks k (take (i + 1) ops) ≡ asks k (take i ops) ++ (if (get_or ops i d).actor == k then names else [])
+asks_next k ops i d names lt is = ap (λ (xs : List Op). asks k xs) (take_more ops i d lt) ∙ asks_last k (take i ops) (get_or ops i d) ∙ ap (λ (ns : List ℕ). asks k (take i ops) ++ (if (get_or ops i d).actor == k then ns else [])) is
 
 pub is_same : (a k : ℕ) → a == k ≡ true → a ≡ k
 is_same a k is = elim (cases_eq a k) [
@@ -134,14 +146,14 @@ is_same a k is = elim (cases_eq a k) [
 ]
 
 -- the next operation asks for a name
-pub placed_next : (f : Profile) (asked : List ℕ) (old new : NameBook) (ops : List Op) (i : ℕ) (d : Op) (name heap size align place : ℕ) → AreSound f asked ops → i < length ops → (get_or ops i d).what ≡ Alloc name heap size align → SetsPlace old new name place
+pub placed_next : (f : Profile) (asked : List ℕ) (old new : NameBook) (ops : List Op) (i : ℕ) (d : Op) (name place : ℕ) → AreSound f asked ops → i < length ops → name_asked (get_or ops i d).what ≡ name ∷ [] → SetsPlace old new name place
     → place ≡ length (asks (get_or ops i d).actor (take i ops)) → (k : ℕ) → ArePlaced old 0 (asks k (take i ops)) → ArePlaced new 0 (asks k (take (i + 1) ops))
-placed_next f asked old new ops i d name heap size align place sound lt is sets count k placed =
+placed_next f asked old new ops i d name place sound lt is sets count k placed =
     let a = (get_or ops i d).actor in
     let xs = asks k (take i ops) in
-    let there = still_placed old new name place 0 xs sets (new_name f asked ops i d name heap size align sound lt is k) placed in
+    let there = still_placed old new name place 0 xs sets (new_name f asked ops i d name sound lt is k) placed in
     let here : a == k ≡ true → place_in new name ≡ length xs = λ same. set_here old new name place sets ∙ count ∙ ap (λ (j : ℕ). length (asks j (take i ops))) (is_same a k same) in
-    subst (λ (ns : List ℕ). ArePlaced new 0 ns) (sym (asks_next k ops i d (Alloc name heap size align) lt is)) (one_more (a == k) old new name xs here there)
+    subst (λ (ns : List ℕ). ArePlaced new 0 ns) (sym (asks_next k ops i d (name ∷ []) lt is)) (one_more (a == k) old new name xs here there)
 
 if_length : (t : Bool) (xs : List ℕ) (name c : ℕ) → length (xs ++ (if t then name ∷ [] else [])) ≡ (if t then length xs + 1 else length xs)
 if_length true xs name c = length-append xs (name ∷ [])
@@ -154,24 +166,20 @@ count_if a k place old n here there = elim (cases_eq a k) [
 ]
 
 -- .. and how many a thread asked for then
-pub count_next : (ops : List Op) (i : ℕ) (d : Op) (name heap size align : ℕ) (k : ℕ) → i < length ops → (get_or ops i d).what ≡ Alloc name heap size align
+pub count_next : (ops : List Op) (i : ℕ) (d : Op) (name k : ℕ) → i < length ops → name_asked (get_or ops i d).what ≡ name ∷ []
     → length (asks k (take (i + 1) ops)) ≡ (if (get_or ops i d).actor == k then length (asks k (take i ops)) + 1 else length (asks k (take i ops)))
-count_next ops i d name heap size align k lt is =
-    ap (λ (ns : List ℕ). length ns) (asks_next k ops i d (Alloc name heap size align) lt is) ∙ if_length ((get_or ops i d).actor == k) (asks k (take i ops)) name 0
+count_next ops i d name k lt is =
+    ap (λ (ns : List ℕ). length ns) (asks_next k ops i d (name ∷ []) lt is) ∙ if_length ((get_or ops i d).actor == k) (asks k (take i ops)) name 0
 
-pub counted : (ops : List Op) (i : ℕ) (d : Op) (name heap size align k place old : ℕ) → i < length ops → (get_or ops i d).what ≡ Alloc name heap size align → place ≡ length (asks (get_or ops i d).actor (take i ops)) → old ≡ length (asks k (take i ops))
+pub counted : (ops : List Op) (i : ℕ) (d : Op) (name k place old : ℕ) → i < length ops → name_asked (get_or ops i d).what ≡ name ∷ [] → place ≡ length (asks (get_or ops i d).actor (take i ops)) → old ≡ length (asks k (take i ops))
     → (if (get_or ops i d).actor == k then place + 1 else old) ≡ length (asks k (take (i + 1) ops))
-counted ops i d name heap size align k place old lt is here there =
-    count_if (get_or ops i d).actor k place old (λ j. length (asks j (take i ops))) here there ∙ sym (count_next ops i d name heap size align k lt is)
+counted ops i d name k place old lt is here there =
+    count_if (get_or ops i d).actor k place old (λ j. length (asks j (take i ops))) here there ∙ sym (count_next ops i d name k lt is)
 
 -- another operation asks for none
-pub no_request : (what : What) → ((a b c d : ℕ) → what ≡ Alloc a b c d → ⊥) → name_asked what ≡ []
-no_request (Alloc name heap size align) other = absurd (other name heap size align refl)
-no_request what other = refl
-
 if_nothing : (t : Bool) (xs : List ℕ) → xs ++ (if t then [] else []) ≡ xs
 if_nothing true xs = append-nil xs
 if_nothing false xs = append-nil xs
 
 pub asks_same : (k : ℕ) (ops : List Op) (i : ℕ) (d : Op) → i < length ops → name_asked (get_or ops i d).what ≡ [] → asks k (take (i + 1) ops) ≡ asks k (take i ops)
-asks_same k ops i d lt none = asks_next k ops i d (get_or ops i d).what lt refl ∙ ap (λ (ns : List ℕ). asks k (take i ops) ++ (if (get_or ops i d).actor == k then ns else [])) none ∙ if_nothing ((get_or ops i d).actor == k) (asks k (take i ops))
+asks_same k ops i d lt none = asks_next k ops i d [] lt none ∙ if_nothing ((get_or ops i d).actor == k) (asks k (take i ops))

@@ -2,23 +2,24 @@
 use Rattle.std.proofs.Common.{◌≡◌, ℕ, zero, suc, ◌+◌, ◌<◌, ◌≤◌, ◌==◌, Bool, true, false, if◌then◌else◌, inl, inr, List, [], ◌∷◌, ◌++◌, map, get_or, length, Option, Some, None, refl, ap, sym, ◌∙◌, subst, arith, append_assoc}
 use Rattle.std.proofs.lemmas.List.{append-nil}
 use Rattle.std.proofs.lemmas.Bool.{ne_eqb, eq-eqb, cases_eq, false≢true}
-use Rattle.pas_profile.specs.declared.name.Name.{Name}
+use Rattle.pas_profile.specs.declared.name.Block.{Block}
+use Rattle.pas_profile.specs.declared.profile.Profile.{Profile}
 use Rattle.pas_trace.specs.declared.plan.What.{What}
-use Rattle.pas_trace.specs.declared.plan.What.TheVariants.{Alloc}
+use Rattle.pas_trace.specs.declared.plan.What.TheVariants.{Alloc, Remake}
 use Rattle.pas_trace.specs.Acts.{Act}
 use Rattle.pas_answers.specs.Answers.{Named, named, standing_for}
-use Rattle.pas_answers.specs.Calls.{block_behind, HasTurn, named_by}
+use Rattle.pas_answers.specs.Calls.{block_behind, MayStand, named_by}
 use Rattle.pas_acts.specs.NameBooks.{name_asked, name_asked_by, names_asked, names_of, place_in, ArePlaced, request_at, named_of, came_to}
 use Rattle.pas_acts.specs.declared.names.Request.{Request}
-use Rattle.pas_answers.specs.Names.{name_in}
+use Rattle.pas_answers.specs.Names.{block_in}
 use Rattle.pas_acts.specs.declared.names.NameBook.{NameBook}
 
 -- ---- names in order
-abbrev or_else : Option (Option Name) → Option (Option Name) → Option (Option Name)
+abbrev or_else : Option (Option Block) → Option (Option Block) → Option (Option Block)
 or_else None p = p
 or_else (Some b) p = Some b
 
-if_else : (t : Bool) (b : Option Name) (o p q : Option (Option Name)) → q ≡ or_else o p → (if t then Some b else q) ≡ or_else (if t then Some b else o) p
+if_else : (t : Bool) (b : Option Block) (o p q : Option (Option Block)) → q ≡ or_else o p → (if t then Some b else q) ≡ or_else (if t then Some b else o) p
 if_else true b o p q is = refl
 if_else false b o p q is = is
 
@@ -39,8 +40,9 @@ asked_both [] ys = refl
 asked_both (x ∷ xs) ys = ap (λ (ns : List ℕ). name_asked_by x ++ ns) (asked_both xs ys) ∙ sym (append_assoc (name_asked_by x) (names_asked xs) (names_asked ys))
 
 -- the names of what an operation came to are those that it asks for
-pub names_named : (what : What) (came : Option Name) → names_of (named_by what came) ≡ name_asked what
+pub names_named : (what : What) (came : Option Block) → names_of (named_by what came) ≡ name_asked what
 names_named (Alloc name heap size align) came = refl
+names_named (Remake name old heap size align) came = refl
 names_named what came = refl
 
 -- ---- places
@@ -73,22 +75,22 @@ before_none book i (r ∷ rs) n placed lt =
 -- where each is at its place, the request at a name's place is the only one that can have it
 pub at_place : (book : NameBook) (i : ℕ) (rs : List Named) (n j : ℕ) → ArePlaced book i (names_of rs) → place_in book n ≡ i + j → standing_for rs n ≡ request_at rs j n
 at_place book i [] n j placed is = refl
-at_place book i (r ∷ rs) n zero placed is = ap (λ (o : Option (Option Name)). if r.name == n then Some r.block else o) (before_none book (i + 1) rs n placed.1 (omega (arith, is)))
+at_place book i (r ∷ rs) n zero placed is = ap (λ (o : Option (Option Block)). if r.name == n then Some r.block else o) (before_none book (i + 1) rs n placed.1 (omega (arith, is)))
 at_place book i (r ∷ rs) n (suc j) placed is =
     let here = placed.0 in
     skip r rs n (λ same. let there = ap (λ (m : ℕ). place_in book m) same in omega (arith, here, there, is)) ∙ at_place book (i + 1) rs n j placed.1 (omega (arith, is))
 
 -- the request at a place of the room
-pub at_index : (items : List Request) (i n : ℕ) (d : Request) → i < length items → request_at (map named_of items) i n ≡ (if (get_or items i d).name == n then Some (name_in (get_or items i d).meaning) else None)
+pub at_index : (items : List Request) (i n : ℕ) (d : Request) → i < length items → request_at (map named_of items) i n ≡ (if (get_or items i d).name == n then Some (block_in (get_or items i d).meaning) else None)
 at_index [] i n d lt = absurd (omega (arith, lt))
 at_index (r ∷ items) zero n d lt = refl
 at_index (r ∷ items) (suc i) n d lt = at_index items i n d (omega (arith, lt))
 
-pub at_named : (items : List Request) (i n : ℕ) (d : Request) → i < length items → (get_or items i d).name ≡ n → Some (name_in (get_or items i d).meaning) ≡ request_at (map named_of items) i n
-at_named items i n d lt same = sym (at_index items i n d lt ∙ ap (λ (t : Bool). if t then Some (name_in (get_or items i d).meaning) else None) (eq-eqb (get_or items i d).name n same))
+pub at_named : (items : List Request) (i n : ℕ) (d : Request) → i < length items → (get_or items i d).name ≡ n → Some (block_in (get_or items i d).meaning) ≡ request_at (map named_of items) i n
+at_named items i n d lt same = sym (at_index items i n d lt ∙ ap (λ (t : Bool). if t then Some (block_in (get_or items i d).meaning) else None) (eq-eqb (get_or items i d).name n same))
 
 pub at_other : (items : List Request) (i n : ℕ) (d : Request) → i < length items → ((get_or items i d).name ≡ n → ⊥) → None ≡ request_at (map named_of items) i n
-at_other items i n d lt other = sym (at_index items i n d lt ∙ ap (λ (t : Bool). if t then Some (name_in (get_or items i d).meaning) else None) (ne_eqb (get_or items i d).name n other))
+at_other items i n d lt other = sym (at_index items i n d lt ∙ ap (λ (t : Bool). if t then Some (block_in (get_or items i d).meaning) else None) (ne_eqb (get_or items i d).name n other))
 
 pub at_past : (items : List Request) (i n : ℕ) → length items ≤ i → request_at (map named_of items) i n ≡ None
 at_past [] i n le = refl
@@ -96,17 +98,17 @@ at_past (r ∷ items) zero n le = absurd (omega (arith, le))
 at_past (r ∷ items) (suc i) n le = at_past items i n (omega (arith, le))
 
 -- ---- after an operation
-both_ways : (t : Bool) (o : Option (Option Name)) (came base : Option Name) (old : Option (Option Name)) → (t ≡ true → o ≡ None) → came_to o base ≡ block_behind old
+both_ways : (t : Bool) (o : Option (Option Block)) (came base : Option Block) (old : Option (Option Block)) → (t ≡ true → o ≡ None) → came_to o base ≡ block_behind old
     → came_to (or_else o (if t then Some came else None)) base ≡ block_behind (if t then Some came else old)
-both_ways true o came base old none tells = ap (λ (q : Option (Option Name)). came_to (or_else q (Some came)) base) (none refl)
+both_ways true o came base old none tells = ap (λ (q : Option (Option Block)). came_to (or_else q (Some came)) base) (none refl)
 both_ways false None came base old none tells = tells
 both_ways false (Some b) came base old none tells = tells
 
-turn_either : (t : Bool) (o : Option (Option Name)) (came base : Option Name) → HasTurn came → HasTurn (came_to o base) → HasTurn (came_to (or_else o (if t then Some came else None)) base)
-turn_either true None came base new old = new
-turn_either true (Some b) came base new old = old
-turn_either false None came base new old = old
-turn_either false (Some b) came base new old = old
+stand_either : (f : Profile) (t : Bool) (o : Option (Option Block)) (came base : Option Block) → MayStand f came → MayStand f (came_to o base) → MayStand f (came_to (or_else o (if t then Some came else None)) base)
+stand_either f true None came base new old = new
+stand_either f true (Some b) came base new old = old
+stand_either f false None came base new old = old
+stand_either f false (Some b) came base new old = old
 
 not_yet : (book : NameBook) (rs : List Named) (ms : List ℕ) (name n : ℕ) → ArePlaced book 0 (names_of rs ++ (name ∷ ms)) → name == n ≡ true → standing_for rs n ≡ None
 not_yet book rs ms name n placed is = elim (cases_eq name n) [
@@ -120,21 +122,24 @@ not_yet book rs ms name n placed is = elim (cases_eq name n) [
 ]
 
 -- what each name stands for then, where the request's has its place next
-came_as : (rs more : List Named) (n : ℕ) (base : Option Name) (rs' : List Named) → rs' ≡ rs ++ more → came_to (standing_for rs' n) base ≡ came_to (or_else (standing_for rs n) (standing_for more n)) base
-came_as rs more n base rs' is = ap (λ (xs : List Named). came_to (standing_for xs n) base) is ∙ ap (λ (o : Option (Option Name)). came_to o base) (standing_both rs more n)
+came_as : (rs more : List Named) (n : ℕ) (base : Option Block) (rs' : List Named) → rs' ≡ rs ++ more → came_to (standing_for rs' n) base ≡ came_to (or_else (standing_for rs n) (standing_for more n)) base
+came_as rs more n base rs' is = ap (λ (xs : List Named). came_to (standing_for xs n) base) is ∙ ap (λ (o : Option (Option Block)). came_to o base) (standing_both rs more n)
 
-came_same : (rs rs' : List Named) (n : ℕ) (base : Option Name) → rs' ≡ rs ++ [] → came_to (standing_for rs' n) base ≡ came_to (standing_for rs n) base
+came_same : (rs rs' : List Named) (n : ℕ) (base : Option Block) → rs' ≡ rs ++ [] → came_to (standing_for rs' n) base ≡ came_to (standing_for rs n) base
 came_same rs rs' n base is = ap (λ (xs : List Named). came_to (standing_for xs n) base) (is ∙ append-nil rs)
 
-pub tells_more : (book : NameBook) (rs rs' : List Named) (what : What) (came : Option Name) (names : List Named) (ms : List ℕ) (n : ℕ) (base : Option Name) → rs' ≡ rs ++ named_by what came → ArePlaced book 0 (names_of rs ++ (name_asked what ++ ms))
+pub tells_more : (book : NameBook) (rs rs' : List Named) (what : What) (came : Option Block) (names : List Named) (ms : List ℕ) (n : ℕ) (base : Option Block) → rs' ≡ rs ++ named_by what came → ArePlaced book 0 (names_of rs ++ (name_asked what ++ ms))
     → came_to (standing_for rs n) base ≡ block_behind (standing_for names n) → came_to (standing_for rs' n) base ≡ block_behind (standing_for (named_by what came ++ names) n)
 tells_more book rs rs' (Alloc name heap size align) came names ms n base is placed tells =
     came_as rs (named name came ∷ []) n base rs' is ∙ both_ways (name == n) (standing_for rs n) came base (standing_for names n) (not_yet book rs ms name n placed) tells
+tells_more book rs rs' (Remake name old heap size align) came names ms n base is placed tells =
+    came_as rs (named name came ∷ []) n base rs' is ∙ both_ways (name == n) (standing_for rs n) came base (standing_for names n) (not_yet book rs ms name n placed) tells
 tells_more book rs rs' what came names ms n base is placed tells = came_same rs rs' n base is ∙ tells
 
-turn_same : (rs rs' : List Named) (n : ℕ) (base : Option Name) → rs' ≡ rs ++ [] → HasTurn (came_to (standing_for rs n) base) → HasTurn (came_to (standing_for rs' n) base)
-turn_same rs rs' n base is turn = subst HasTurn (sym (came_same rs rs' n base is)) turn
+stand_same : (f : Profile) (rs rs' : List Named) (n : ℕ) (base : Option Block) → rs' ≡ rs ++ [] → MayStand f (came_to (standing_for rs n) base) → MayStand f (came_to (standing_for rs' n) base)
+stand_same f rs rs' n base is stands = subst (MayStand f) (sym (came_same rs rs' n base is)) stands
 
-pub turns_more : (rs rs' : List Named) (what : What) (came : Option Name) (n : ℕ) (base : Option Name) → rs' ≡ rs ++ named_by what came → HasTurn came → HasTurn (came_to (standing_for rs n) base) → HasTurn (came_to (standing_for rs' n) base)
-turns_more rs rs' (Alloc name heap size align) came n base is new old = subst HasTurn (sym (came_as rs (named name came ∷ []) n base rs' is)) (turn_either (name == n) (standing_for rs n) came base new old)
-turns_more rs rs' what came n base is new old = turn_same rs rs' n base is old
+pub stand_more : (f : Profile) (rs rs' : List Named) (what : What) (came : Option Block) (n : ℕ) (base : Option Block) → rs' ≡ rs ++ named_by what came → MayStand f came → MayStand f (came_to (standing_for rs n) base) → MayStand f (came_to (standing_for rs' n) base)
+stand_more f rs rs' (Alloc name heap size align) came n base is new old = subst (MayStand f) (sym (came_as rs (named name came ∷ []) n base rs' is)) (stand_either f (name == n) (standing_for rs n) came base new old)
+stand_more f rs rs' (Remake name other heap size align) came n base is new old = subst (MayStand f) (sym (came_as rs (named name came ∷ []) n base rs' is)) (stand_either f (name == n) (standing_for rs n) came base new old)
+stand_more f rs rs' what came n base is new old = stand_same f rs rs' n base is old

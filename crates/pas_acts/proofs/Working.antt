@@ -3,7 +3,7 @@ use Rattle.std.proofs.Common.{Option, ◌≡◌, ℕ, ◌+◌, ◌<◌, ◌≤�
 use Rattle.std.proofs.lemmas.List.{append-nil, drop_more}
 use Rattle.std.proofs.lemmas.Bool.{eq-eqb, ne_eqb}
 use Rattle.pas_profile.specs.declared.profile.Profile.{Profile}
-use Rattle.pas_profile.specs.declared.name.Name.{Name}
+use Rattle.pas_profile.specs.declared.name.Block.{Block}
 use Rattle.pas_steps.specs.Desks.{Standing}
 use Rattle.pas_trace.specs.EveryPlan.{asked_after}
 use Rattle.pas_trace.specs.declared.plan.Op.{Op}
@@ -15,11 +15,11 @@ use Rattle.pas_report.specs.declared.record.Record.{Record}
 use Rattle.pas_cache.specs.Caches.{Cached}
 use Rattle.pas_trace.specs.Acts.{Act, Operates, Settles, own_acts}
 use Rattle.pas_answers.specs.Answers.{Progress, Named}
-use Rattle.pas_answers.specs.Calls.{HasTurn, IsMeant, named_by, freed_by}
+use Rattle.pas_answers.specs.Calls.{MayStand, IsMeant, named_by, freed_by}
 use Rattle.pas_answers.specs.Fit.{IsFitWork, cost_of_what, own_costs_of}
 use Rattle.pas_answers.specs.Names.{block_named, names_held}
 use Rattle.pas_answers.proofs.KnownNames.{known_more}
-use Rattle.pas_answers.proofs.Kept.{meant_by, turn_meant}
+use Rattle.pas_answers.proofs.Kept.{meant_by, meant_stands}
 use Rattle.pas_answers.proofs.OwnRecords.{each_both}
 use Rattle.pas_answers.proofs.Reached.{reach_both}
 use Rattle.pas_answers.proofs.SingleActs.{known_if}
@@ -29,7 +29,7 @@ use Rattle.pas_acts.specs.Works.{Later, Keeps, keeps, KnowsNames, ThreadAt, Work
 use Rattle.pas_acts.specs.Turns.{RestsAt}
 use Rattle.pas_acts.specs.AtDesks.{here, and_for, MayOperate, ThreadActs}
 use Rattle.pas_acts.proofs.AtDesk.{sits_for, own_cost}
-use Rattle.pas_acts.proofs.Places.{names_both, names_count, asked_both, names_named, placed_both, tells_more, turns_more}
+use Rattle.pas_acts.proofs.Places.{names_both, names_count, asked_both, names_named, placed_both, tells_more, stand_more}
 
 -- the acts of an operation
 abbrev pub head_acts : Op → List Act
@@ -56,7 +56,7 @@ thread_stands at names = let spare = at.spare in record { sits = sits_for at.sit
 pub no_chore : (f : Profile) (limit : ℕ) (asked : List ℕ) {work : Work} {chore : Chore} → IsFitWork f limit asked work → work ≡ Work.Chore chore → ⊥
 no_chore f limit asked fit is = subst (λ (w : Work). IsFitWork f limit asked w) is fit
 
-pub may_operate : {f : Profile} {op : Op} {next : List Act} {σ : Standing} {c : Cached} {known : Table} {out : Records} {later : Later} {p : Progress} {what : What} {meant : Option Name} → op.what ≡ what → Before f op next σ (keeps c known out) later p → meant ≡ freed_by (known_in known.book known.requests) what
+pub may_operate : {f : Profile} {op : Op} {next : List Act} {σ : Standing} {c : Cached} {known : Table} {out : Records} {later : Later} {p : Progress} {what : What} {meant : Option Block} → op.what ≡ what → Before f op next σ (keeps c known out) later p → meant ≡ freed_by (known_in known.book known.requests) what
     → MayOperate f op.actor op.what meant (here σ c out) (with_acts op.actor next later) p
 may_operate {f} {op} {next} {σ} {c} {known} {out} {later} {p} asks at freed = let is = freed ∙ ap (freed_by (known_in known.book known.requests)) (sym asks) in record {
   rests = let cost = own_cost op in thread_rests (cost_of_what op.what) next (omega (arith, cost)) at;
@@ -64,8 +64,8 @@ may_operate {f} {op} {next} {σ} {c} {known} {out} {later} {p} asks at freed = l
   asked = at.names.asked;
   fit = at.names.fit.1;
   known = known_if f (names_held known.book.names) at.names.asked p.names op.what at.names.fit.1 at.names.known;
-  means = subst (λ (o : Option Name). IsMeant p.names op.what o) (sym is) (meant_by (known_in known.book known.requests) p.names op.what at.names.tells);
-  turn = subst HasTurn (sym is) (turn_meant (known_in known.book known.requests) op.what at.names.turns);
+  means = subst (λ (o : Option Block). IsMeant p.names op.what o) (sym is) (meant_by (known_in known.book known.requests) p.names op.what at.names.tells);
+  stands = subst (MayStand f) (sym is) (meant_stands f (known_in known.book known.requests) op.what at.names.stand);
 }
 
 -- what the freed name stands for, and the room for the asked one
@@ -82,18 +82,18 @@ room_now {f} {k} {op} {next} asks knows =
 
 -- ---- after an operation
 -- what the thread knows after it: the name that the operation asked for is its last request
-pub record IsKept (known known' : Table) (what : What) (came : Option Name) : Type 0 where
+pub record IsKept (known known' : Table) (what : What) (came : Option Block) : Type 0 where
   pub book : known'.book ≡ known.book
   pub requests : requests_in known'.requests ≡ requests_in known.requests ++ named_by what came
   pub room : room_for known'.requests ≡ room_for known.requests
 
-names_kept : {known known' : Table} (what : What) {came : Option Name} → IsKept known known' what came → names_of (requests_in known'.requests) ≡ names_of (requests_in known.requests) ++ name_asked what
+names_kept : {known known' : Table} (what : What) {came : Option Block} → IsKept known known' what came → names_of (requests_in known'.requests) ≡ names_of (requests_in known.requests) ++ name_asked what
 names_kept {known} {known'} what {came} kept =
     ap names_of kept.requests ∙ names_both (requests_in known.requests) (named_by what came) ∙ ap (λ (ns : List ℕ). names_of (requests_in known.requests) ++ ns) (names_named what came)
 
-pub knows_more : {f : Profile} {op : Op} {next : List Act} {known known' : Table} {came : Option Name} {names : List Named} → KnowsNames f (Operates op ∷ (Settles op.actor ∷ next)) known names → IsKept known known' op.what came → HasTurn came
+pub knows_more : {f : Profile} {op : Op} {next : List Act} {known known' : Table} {came : Option Block} {names : List Named} → KnowsNames f (Operates op ∷ (Settles op.actor ∷ next)) known names → IsKept known known' op.what came → MayStand f came
     → KnowsNames f next known' (named_by op.what came ++ names)
-knows_more {f} {op} {next} {known} {known'} {came} {names} knows kept turn =
+knows_more {f} {op} {next} {known} {known'} {came} {names} knows kept stands =
     let what = op.what in
     let rs = requests_in known.requests in
     let rs' = requests_in known'.requests in
@@ -108,19 +108,19 @@ knows_more {f} {op} {next} {known} {known'} {came} {names} knows kept turn =
       asked = asked_after what knows.asked;
       fit = knows.fit.2;
       tells = λ n. tells_more known.book rs rs' what came names (names_asked next) n (block_named known.book.names n) kept.requests knows.placed (knows.tells n);
-      turns = λ n. turns_more rs rs' what came n (block_named known.book.names n) kept.requests turn (knows.turns n);
+      stand = λ n. stand_more f rs rs' what came n (block_named known.book.names n) kept.requests stands (knows.stand n);
       known = known_more what came knows.asked names knows.known;
       placed = subst (λ (ns : List ℕ). ArePlaced known.book 0 ns) (sym (ap (λ (ns : List ℕ). ns ++ names_asked next) same ∙ append_assoc (names_of rs) (name_asked what) (names_asked next))) knows.placed;
       room = omega (arith, room, room', count, count', grown, both);
     }
 
-pub operated : {f : Profile} {op : Op} {next : List Act} {σ σ' : Standing} {c c' : Cached} {known known' : Table} {what : What} {came : Option Name} {out out' : Records} {later : Later} {p : Progress} → op.what ≡ what → Before f op next σ (keeps c known out) later p
-    → ThreadActs f op.actor (head_acts op) (named_by op.what came) [] (here σ c out) (here σ' c' out') (with_acts op.actor next later) p → IsKept known known' what came → HasTurn came
+pub operated : {f : Profile} {op : Op} {next : List Act} {σ σ' : Standing} {c c' : Cached} {known known' : Table} {what : What} {came : Option Block} {out out' : Records} {later : Later} {p : Progress} → op.what ≡ what → Before f op next σ (keeps c known out) later p
+    → ThreadActs f op.actor (head_acts op) (named_by op.what came) [] (here σ c out) (here σ' c' out') (with_acts op.actor next later) p → IsKept known known' what came → MayStand f came
     → Works f op.actor (head_acts op) next σ σ' (keeps c known out) (keeps c' known' out') later p
-operated {f} {op} {next} {σ} {σ'} {c} {c'} {known} {known'} {what} {came} {out} {out'} {later} {p} asks at did keeping turn = let kept = subst (λ (w : What). IsKept known known' w came) (sym asks) keeping in record {
+operated {f} {op} {next} {σ} {σ'} {c} {c'} {known} {known'} {what} {came} {out} {out'} {later} {p} asks at did keeping stands = let kept = subst (λ (w : What). IsKept known known' w came) (sym asks) keeping in record {
   reached = did.reached;
   reaches = did.reaches;
-  stands = thread_stands did.stands (subst (λ (ns : List Named). KnowsNames f next known' ns) (sym did.names) (knows_more at.names kept turn));
+  stands = thread_stands did.stands (subst (λ (ns : List Named). KnowsNames f next known' ns) (sym did.names) (knows_more at.names kept stands));
   said = did.own;
   records_are = did.records_are ∙ ap (λ (rs : List Record). p.records ++ rs) (append-nil did.own);
   pushed = did.pushed;

@@ -1,8 +1,8 @@
 -- What one actor does for acts of its own at its desk, whatever stands beside it: in the order of the text others have their turns there, on threads they
--- sit elsewhere. What a name stands for is no table here: an operation is told what the freed name means, and tells what the asked one came to.
+-- sit elsewhere. What a name stands for is no table here: an operation is told what the freed or reallocated name means, and tells what the asked one came to.
 use Rattle.std.specs.Prelude.{ℕ, ◌+◌, ◌≤◌, ◌≡◌, ◌≢◌, Bool, true, false, List, [], ◌∷◌, ◌++◌, length, Option}
 use Rattle.pas_profile.specs.declared.profile.Profile.{Profile}
-use Rattle.pas_profile.specs.declared.name.Name.{Name}
+use Rattle.pas_profile.specs.declared.name.Block.{Block}
 use Rattle.pas_steps.specs.Clear.{HasNothing}
 use Rattle.pas_steps.specs.Desks.{Standing}
 use Rattle.pas_steps.specs.Lists.{part}
@@ -14,9 +14,9 @@ use Rattle.pas_profile.specs.declared.event.Range.{Range}
 use Rattle.pas_cache.specs.Calls.{SettlesEach}
 use Rattle.pas_trace.specs.declared.plan.Op.{Op}
 use Rattle.pas_trace.specs.Acts.{Act, Operates, Settles}
-use Rattle.pas_answers.specs.Indexes.{IsNamedFor}
+use Rattle.pas_answers.specs.Indexes.{request_by, IsNamedFor}
 use Rattle.pas_answers.specs.Answers.{Named, Progress, stopped}
-use Rattle.pas_answers.specs.Calls.{HasTurn, IsKnown, IsMeant, owed_events}
+use Rattle.pas_answers.specs.Calls.{MayStand, IsKnown, IsMeant, owed_events}
 use Rattle.pas_answers.specs.Fit.{IsFitWhat, cost_of_what, cost_of_act, own_costs_of, unbacks_of_act}
 use Rattle.pas_answers.specs.Reaching.{Reaches}
 use Rattle.pas_answers.specs.Ways.{EachOf}
@@ -37,16 +37,16 @@ here desk c out = record { desk = desk; cache = c; out = out }
 abbrev pub and_for : ℕ → Later → Later
 and_for cost later = record { events = cost + later.events; records = cost + later.records }
 
--- The thread rests, with room for the operation. The operation fits, a name that it frees was asked for and stands for `meant`, and a next turn follows
--- that of the block.
-pub record MayOperate (f : Profile) (k : ℕ) (what : What) (meant : Option Name) (old : Here) (later : Later) (p : Progress) : Type 0 where
+-- The thread rests, with room for the operation. The operation fits, a name that it frees or reallocates was asked for and stands for `meant`, which is nothing or a
+-- block of the region.
+pub record MayOperate (f : Profile) (k : ℕ) (what : What) (meant : Option Block) (old : Here) (later : Later) (p : Progress) : Type 0 where
   pub rests : RestsAt f k old.desk old.cache old.out (and_for (cost_of_what what) later) p
   pub limit : ℕ
   pub asked : List ℕ
   pub fit : IsFitWhat f limit asked what
   pub known : IsKnown p.names what
   pub means : IsMeant p.names what meant
-  pub turn : HasTurn meant
+  pub stands : MayStand f meant
 
 -- Thread k did these acts, and rests again. The records of its steps came to its own; `told` is said besides, by whoever had it do so. These names came to
 -- stand for something. Nothing of another actor changed. What it owed before, and the cost of the acts, pays for what it said with what it owes then.
@@ -66,10 +66,10 @@ pub record ThreadActs (f : Profile) (k : ℕ) (acts : List Act) (came : List Nam
   pub paid : length own + owed_events f new.cache (part k reached.list) ≤ own_costs_of k acts + owed_events f old.cache (part k p.list)
 
 -- ---- the door
--- What became of a door by the two acts of an operation: it was asked for a run where that is a request for whole pages, and then handed the runs that the
+-- What became of a door by the two acts of an operation: it was asked for a run where that makes a request for whole pages, and then handed the runs that the
 -- cache noted.
 abbrev pub GoesThrough : {Door : Type 0} → (Door → Door → ℕ → ℕ → Option ℕ → Type 0) → (Door → Door → ℕ → Range → Type 0) → (f : Profile) (op : Op) (p q : Progress) → Reaches f (Operates op ∷ (Settles op.actor ∷ [])) p q → Door → Door → Type 0
-GoesThrough {Door} Answers HandsOn f op p q is door door' = (next : Door) × IsNamedFor f (Answers door next) (next ≡ door) op.what is.1.0.found × SettlesEach HandsOn (is.0.caches op.actor).noted next door'
+GoesThrough {Door} Answers HandsOn f op p q is door door' = (next : Door) × IsNamedFor f (Answers door next) (next ≡ door) (request_by p.names op.what) is.1.0.found × SettlesEach HandsOn (is.0.caches op.actor).noted next door'
 
 -- what is to be said of an idle thread, where it was stopped
 abbrev pub told_if : Bool → ℕ → List Record

@@ -2,23 +2,23 @@
 -- to in the phase is kept with the thread, and comes to the book after the phase.
 use Rattle.std.specs.Prelude.{ℕ, zero, suc, ◌+◌, ◌<◌, ◌≡◌, ◌==◌, if◌then◌else◌, List, [], ◌∷◌, ◌++◌, map, slice_index_or, Option, None, Some}
 use Rattle.pas_profile.specs.declared.profile.Profile.{Profile}
-use Rattle.pas_profile.specs.declared.name.Name.{Name}
+use Rattle.pas_profile.specs.declared.name.Block.{Block}
 use Rattle.pas_profile.specs.Rooms.{Holding}
 use Rattle.pas_trace.specs.EveryPlan.{asked_after, AreSound}
 use Rattle.pas_trace.specs.declared.plan.What.{What}
 use Rattle.pas_trace.specs.declared.plan.Op.{Op}
 use Rattle.pas_trace.specs.Acts.{Act, asked_after_act}
 use Rattle.pas_answers.specs.Answers.{Named, named, standing_for, Progress}
-use Rattle.pas_answers.specs.Calls.{Tells, HasTurns, AreKnown, OnlyAsked}
+use Rattle.pas_answers.specs.Calls.{Tells, AllMayStand, AreKnown, OnlyAsked}
 use Rattle.pas_answers.specs.Fit.{AreBelow}
-use Rattle.pas_answers.specs.Names.{name_in, block_named, names_held}
+use Rattle.pas_answers.specs.Names.{block_in, block_named, names_held}
 use Rattle.pas_acts.specs.declared.names.NameBook.{NameBook}
 use Rattle.pas_acts.specs.declared.names.Request.{Request}
 
 -- ---- a thread's own requests
 -- the name of a request, with what it came to
 abbrev pub named_of : Request → Named
-named_of r = named r.name (name_in r.meaning)
+named_of r = named r.name (block_in r.meaning)
 
 abbrev pub Requests : Type 0
 Requests = Holding Request
@@ -35,7 +35,7 @@ names_of [] = []
 names_of (r ∷ rs) = r.name ∷ names_of rs
 
 -- what the request at a place came to, where it has the name
-abbrev pub request_at : List Named → ℕ → ℕ → Option (Option Name)
+abbrev pub request_at : List Named → ℕ → ℕ → Option (Option Block)
 request_at [] place n = None
 request_at (r ∷ rs) zero n = if r.name == n then Some r.block else None
 request_at (r ∷ rs) (suc place) n = request_at rs place n
@@ -68,11 +68,11 @@ AreWithin limit (n ∷ ns) = (n < limit) × AreWithin limit ns
 
 -- ---- what a name stands for to a thread
 -- what its request came to, where there is one; what it stands for else
-abbrev pub came_to : Option (Option Name) → Option Name → Option Name
+abbrev pub came_to : Option (Option Block) → Option Block → Option Block
 came_to None other = other
 came_to (Some block) other = block
 
-abbrev pub known_in : NameBook → Requests → ℕ → Option Name
+abbrev pub known_in : NameBook → Requests → ℕ → Option Block
 known_in book requests n = came_to (standing_for (requests_in requests) n) (block_named book.names n)
 
 -- the book of a phase and a thread's requests in it
@@ -90,6 +90,6 @@ pub record NamesAt (f : Profile) (ops : List Op) (book : NameBook) (p : Progress
   pub sound : AreSound f asked ops
   pub below : AreBelow (names_held book.names) ops
   pub tells : Tells book.names p.names
-  pub turns : HasTurns book.names
+  pub stand : AllMayStand f book.names
   pub known : AreKnown asked p.names
   pub only : OnlyAsked asked p.names

@@ -10,7 +10,7 @@ use Rattle.pas_report.specs.declared.record.Record.{Record}
 use Rattle.pas_cache.specs.Caches.{Cached, AtRest}
 use Rattle.pas_trace.specs.Acts.{Act}
 use Rattle.pas_answers.specs.Answers.{Named, standing_for, Progress}
-use Rattle.pas_answers.specs.Calls.{HasTurn, block_behind, AreKnown, owed_events}
+use Rattle.pas_answers.specs.Calls.{MayStand, block_behind, AreKnown, owed_events}
 use Rattle.pas_answers.specs.Fit.{AreFit, own_costs_of}
 use Rattle.pas_answers.specs.Names.{names_held}
 use Rattle.pas_answers.specs.Ways.{EachOf}
@@ -46,7 +46,7 @@ pub record KnowsNames (f : Profile) (acts : List Act) (table : Table) (names : L
   pub asked : List ℕ
   pub fit : AreFit f (names_held table.book.names) asked acts
   pub tells : (n : ℕ) → known_in table.book table.requests n ≡ block_behind (standing_for names n)
-  pub turns : (n : ℕ) → HasTurn (known_in table.book table.requests n)
+  pub stand : (n : ℕ) → MayStand f (known_in table.book table.requests n)
   pub known : AreKnown asked names
   pub placed : ArePlaced table.book 0 (names_of (requests_in table.requests) ++ names_asked acts)
   pub room : length (requests_in table.requests) + length (names_asked acts) ≤ room_for table.requests

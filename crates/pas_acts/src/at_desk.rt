@@ -6,16 +6,16 @@ ghost use Rattle.pas_report.specs.Rooms.{Records as TheRecords};
 ghost use Rattle.pas_utility.specs.Outcomes.{places_of};
 ghost use Rattle.pas_trace.specs.Acts.{Operates, Settles, StopsIdle, Ticks, MakesPass, ReadsEpoch};
 ghost use Rattle.pas_answers.specs.Answers.{Progress};
-ghost use Rattle.pas_answers.specs.Calls.{what_of, HasTurn, named_by};
+ghost use Rattle.pas_answers.specs.Calls.{what_of, MayStand, named_by};
 ghost use Rattle.pas_trace.specs.declared.plan.Op.{Op as TheOp};
 ghost use Rattle.pas_acts.specs.Works.{Later};
 ghost use Rattle.pas_acts.specs.Turns.{RestsAt};
 ghost use Rattle.pas_acts.specs.AtDesks.{here, told_if, MayOperate, GoesThrough, ThreadActs, for_act, HasRoomAt, ScavengerActs};
 
-use pas_answers::{answer_meant, is_idle_for};
+use pas_answers::{Remake, answer_meant, answer_stop, is_idle_for};
 use pas_cache::ThreadCache;
-use pas_large::{Door, NoIndex};
-use pas_profile::{Name, Word};
+use pas_large::Door;
+use pas_profile::{Block, Word};
 use pas_report::Records;
 use pas_steps::Desk;
 use pas_trace::Task;
@@ -24,26 +24,27 @@ use pas_utility::Outcomes;
 /// The scavenger's number.
 pub const SCAVENGER: u8 = 0;
 
-/// Does a task of the desk's thread, for which a request for whole pages asks the door, and hands it the runs of large blocks that its cache noted. `meant` is the block that the freed name of a
-/// `Task::Free` stands for, if any, and the result the block that the asked name of a `Task::Request` stands for from then on; None for every other task.
-/// This answers each operation of the thread that asks for the task.
+/// Does a task of the desk's thread, for which a request for whole pages asks the door, and hands it the runs of large blocks that its cache noted. `meant` is
+/// the block that the name stands for which a `Task::Free` frees or a `Task::Remake` reallocates, if any, and the result the block that the asked name of a
+/// `Task::Request` or a `Task::Remake` stands for from then on; None for every other task. This answers each operation of the thread that asks for the task.
 #[inline(always)]
-pub fn operate<D: Desk, O: Door>(
+pub fn operate<D: Desk, O: Door, M: Remake>(
     desk: &mut D,
     door: &mut O,
     cache: &mut ThreadCache,
+    remaker: &M,
     task: Task,
-    meant: Option<Name>,
+    meant: Option<Block>,
     out: &mut Records,
-) -> Option<Name>
+) -> Option<Block>
     requires stands { (f : TheProfile) × (op : TheOp) × (later : Later) × (p : Progress) × (op.what ≡ what_of task) × MayOperate f op.actor op.what meant (here (D.standing desk.old) (cached cache.old) out.old) later p }
     ensures operates { (f : TheProfile) (op : TheOp) (later : Later) (p : Progress) → op.what ≡ what_of task → MayOperate f op.actor op.what meant (here (D.standing desk.old) (cached cache.old) out.old) later p
         → (did : ThreadActs f op.actor (Operates op ∷ (Settles op.actor ∷ [])) (named_by op.what result) [] (here (D.standing desk.old) (cached cache.old) out.old) (here (D.standing desk.new) (cached cache.new) out.new) later p)
         × GoesThrough O.answers O.settles f op p did.reached did.reaches door.old door.new }
-    ensures turn { HasTurn result }
+    ensures stands { MayStand (D.standing desk.old).seat.profile result }
     ensures home { D.home desk.new ≡ D.home desk.old }
 {
-    let came = answer_meant(desk, door, cache, task, meant, out);
+    let came = answer_meant(desk, door, cache, remaker, task, meant, out);
     cache.settle(door);
     came
 }
@@ -63,7 +64,7 @@ pub fn stop_if_idle<D: Desk>(
     ensures home { D.home desk.new ≡ D.home desk.old }
 {
     if is_idle_for(cache, epochs, epoch) {
-        answer_meant(desk, &mut NoIndex, cache, Task::Stop, None, out);
+        answer_stop(desk, cache, out);
         true
     } else {
         false

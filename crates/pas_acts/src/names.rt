@@ -3,11 +3,11 @@ ghost use Rattle.std.specs.Prelude.{◌≡◌, ◌<◌, ◌^◌, vec_len};
 ghost use Rattle.pas_answers.specs.Names.{names_held};
 
 use pas_answers::names::{Meaning, Names};
-use pas_profile::{Name, NoMemory, Room};
+use pas_profile::{Block, NoMemory, Room};
 use pas_trace::{Op, What};
 use std::alloc::Global;
 
-/// A request of a thread: its name, and what it came to. 24 bytes.
+/// A request of a thread: its name, and what it came to. 32 bytes.
 #[derive(Clone, Copy, Drop)]
 pub struct Request {
     name: u32,
@@ -18,7 +18,7 @@ pub struct Request {
 pub type Requests = Room<Request>;
 
 /// What the names stood for when the phase began, and for each name that is asked for in the phase its place among those that its thread asks for in
-/// it. All threads of a phase share it. 20 bytes a name.
+/// it. All threads of a phase share it. 28 bytes a name.
 #[derive(Drop)]
 pub struct NameBook {
     names: Names,
@@ -60,7 +60,7 @@ impl Request {
 
     /// The request of this name, which came to this block.
     #[inline]
-    pub fn of(name: u32, block: Option<Name>) -> Request
+    pub fn of(name: u32, block: Option<Block>) -> Request
         ensures { named_of result ≡ named name block }
     {
         Request {
@@ -71,7 +71,7 @@ impl Request {
 
     /// What the request at this place came to, where it has the name.
     #[inline]
-    fn at(requests: &[Request], place: usize, name: u32) -> Option<Option<Name>>
+    fn at(requests: &[Request], place: usize, name: u32) -> Option<Option<Block>>
         ensures { result ≡ request_at (map named_of requests.now) place name }
     {
         if place < requests.len() {
@@ -88,13 +88,13 @@ impl Request {
 }
 
 impl NameBook {
-    ghost use Rattle.std.specs.Prelude.{◌≡◌, ◌<◌, ◌^◌, ◌==◌, ℕ, List, [], None, if◌then◌else◌, IfOk, length};
+    ghost use Rattle.std.specs.Prelude.{◌≡◌, ◌<◌, ◌^◌, ◌==◌, ℕ, List, [], ◌∷◌, None, if◌then◌else◌, IfOk, MatchOption, length};
     ghost use Rattle.pas_profile.specs.declared.profile.Profile.{Profile as TheProfile};
     ghost use Rattle.pas_trace.specs.EveryPlan.{AreSound};
     ghost use Rattle.pas_answers.specs.Fit.{AreBelow};
-    ghost use Rattle.pas_answers.specs.Names.{name_in, block_named, names_held};
+    ghost use Rattle.pas_answers.specs.Names.{block_in, block_named, names_held};
     ghost use Rattle.pas_trace.specs.Acts.{own_acts};
-    ghost use Rattle.pas_acts.specs.NameBooks.{requests_in, room_for, names_of, names_asked, place_in, ArePlaced, AreWithin, known_in};
+    ghost use Rattle.pas_acts.specs.NameBooks.{requests_in, room_for, names_of, name_asked, names_asked, place_in, ArePlaced, AreWithin, known_in};
 
     /// No name stands for a block. There is room for the names below the limit.
     pub fn try_new(alloc: Global, limit: usize) -> Result<NameBook, NoMemory>
@@ -140,10 +140,22 @@ impl NameBook {
     /// The name stands for this from now on.
     fn set_name(&mut self, name: u32, meaning: Meaning)
         requires { name < names_held self.old.names }
-        ensures block { (n : ℕ) → block_named self.new.names n ≡ (if name == n then name_in meaning else block_named self.old.names n) }
+        ensures block { (n : ℕ) → block_named self.new.names n ≡ (if name == n then block_in meaning else block_named self.old.names n) }
         ensures room { names_held self.new.names ≡ names_held self.old.names }
     {
         self.names.set(name, meaning.block());
+    }
+
+    /// The name that an operation asks for, if any.
+    #[inline(always)]
+    fn asked_name(op: Op) -> Option<u32>
+        ensures { MatchOption result (name_asked op.what ≡ []) (λ name. name_asked op.what ≡ name ∷ []) }
+    {
+        match op.what {
+            What::Alloc { name, .. } => Some(name),
+            What::Remake { name, .. } => Some(name),
+            _ => None,
+        }
     }
 
     /// Notes the places of the names that are asked for in a phase of these operations. One look at each operation.
@@ -156,9 +168,12 @@ impl NameBook {
     {
         let mut counts = Counts::new();
         for op in ops {
-            if let What::Alloc { name, .. } = op.what {
-                let place = counts.add(op.actor);
-                self.set_place(name, place);
+            match NameBook::asked_name(*op) {
+                Some(name) => {
+                    let place = counts.add(op.actor);
+                    self.set_place(name, place);
+                }
+                None => {}
             }
         }
     }
@@ -182,7 +197,7 @@ impl NameBook {
 
     /// What the name stands for to the thread with these requests: what its own request came to, or what the book says. Takes one look at its place.
     #[inline]
-    pub fn meaning(&self, requests: &Requests, name: u32) -> Option<Name>
+    pub fn meaning(&self, requests: &Requests, name: u32) -> Option<Block>
         requires { ArePlaced self.now 0 (names_of (requests_in requests.now)) }
         ensures { result ≡ known_in self.now requests.now name }
     {

@@ -9,12 +9,10 @@ ghost use Rattle.pas_acts.specs.Works.{Later};
 ghost use Rattle.pas_acts.specs.Turns.{RestsAt};
 ghost use Rattle.pas_acts.specs.AtDesks.{here, ThreadActs};
 
-use pas_answers::answer_meant;
+use pas_answers::answer_stop;
 use pas_cache::ThreadCache;
-use pas_large::NoIndex;
 use pas_report::Records;
 use pas_steps::Desk;
-use pas_trace::Task;
 
 /// The thread of this desk reads the epoch, as a phase begins in which it has an operation. One step, and nothing is said.
 pub fn begin<D: Desk>(desk: &mut D, cache: &mut ThreadCache)
@@ -34,5 +32,5 @@ pub fn end<D: Desk>(desk: &mut D, cache: &mut ThreadCache, out: &mut Records)
     ensures empty { (cached cache.new).locals ≡ [] }
     ensures home { D.home desk.new ≡ D.home desk.old }
 {
-    answer_meant(desk, &mut NoIndex, cache, Task::Stop, None, out);
+    answer_stop(desk, cache, out);
 }

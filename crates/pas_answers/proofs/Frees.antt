@@ -1,6 +1,7 @@
 -- What frees, flushes and stops promise.
 use Rattle.std.proofs.Common.{◌≡◌, ℕ, ◌+◌, ◌≤◌, ◌++◌, List, [], ◌∷◌, length, Option, Some, None, Result, Ok, Err, inl, inr, refl, ap, sym, ◌∙◌, subst, arith, length-append, nat_le}
 use Rattle.std.specs.Prelude.{MatchResult}
+use Rattle.pas_profile.specs.declared.name.Block.{Block}
 use Rattle.pas_profile.specs.declared.name.Name.{Name}
 use Rattle.pas_profile.specs.declared.profile.Profile.{Profile}
 use Rattle.pas_profile.specs.declared.event.Event.{Event}
@@ -9,29 +10,33 @@ use Rattle.pas_steps.specs.declared.step.Made.{Made}
 use Rattle.pas_steps.specs.Views.{View}
 use Rattle.pas_steps.specs.Events.{events_by}
 use Rattle.pas_steps.specs.Agreement.{Agreed}
-use Rattle.pas_steps.specs.Desks.{Standing}
+use Rattle.pas_steps.specs.Desks.{Standing, CanCall}
 use Rattle.pas_steps.proofs.Called.{call_none, call_as}
 use Rattle.pas_steps.proofs.Frames.{events_append}
+use Rattle.pas_trace.specs.Asked.{request_of, cost_of_task}
 use Rattle.pas_trace.specs.declared.plan.Task.{Task}
-use Rattle.pas_trace.specs.declared.plan.What.TheVariants.{Free}
+use Rattle.pas_trace.specs.declared.plan.Work.{Work}
+use Rattle.pas_trace.specs.declared.plan.What.TheVariants.{Free, FreeSized, Raw}
 use Rattle.pas_report.specs.declared.record.Said.{Said}
 use Rattle.pas_free_log.specs.declared.log.Entry.{Entry}
-use Rattle.pas_free_log.specs.Logs.{entry_of}
 use Rattle.pas_cache.specs.Caches.{Cached, AtRest}
 use Rattle.pas_cache.specs.Calls.{TakesEntry, RefusesName, Frees, FlushesLog, StopsCache}
-use Rattle.pas_answers.specs.Answers.{Named, standing_for, said_of_fault, IsFreedBy}
-use Rattle.pas_answers.specs.Calls.{what_of, block_behind, IsMeant, IsKnown, owed_events, PerformsMeant, FreesOne}
+use Rattle.pas_answers.specs.Answers.{Named, standing_for, said_of_fault, entry_with, IsFreedBy}
+use Rattle.pas_answers.specs.Calls.{what_of, block_behind, IsMeant, IsKnown, owed_events, MayPerform, PerformsMeant, FreesOne}
+use Rattle.pas_answers.specs.Fit.{IsFitTask, IsFitWork, IsFitWhat, cost_of_work}
+use Rattle.pas_answers.specs.Indexes.{IsNamedFor, request_made}
+use Rattle.pas_answers.proofs.Kept.{task_of}
 use Rattle.pas_answers.proofs.OwedEvents.{full_events}
 use Rattle.pas_cache.proofs.Budget.{emptied_events}
 use Rattle.pas_steps.proofs.Unknown.{unknown_stays}
 
 -- ---- a free
 -- the events of the flush of a full log, and what is owed with the name in the log
-taken_few : (f : Profile) (k : ℕ) (c c' : Cached) (name : Name) (steps : List Made) (v : View) → TakesEntry f k c c' (entry_of name) steps → Agreed f v steps
+pub taken_few : (f : Profile) (k : ℕ) (c c' : Cached) (entry : Entry) (steps : List Made) (v : View) → TakesEntry f k c c' entry steps → Agreed f v steps
     → length (events_by k v steps) + 0 + owed_events f c' (steps ++ v) ≤ 1 + owed_events f c v
-taken_few f k c c' name steps v takes agreed =
+taken_few f k c c' entry steps v takes agreed =
     let events = full_events (nat_le 64 (length c.log)) k c.log takes.logs.kept c.noted c'.noted steps v takes.logs.emptied in
-    let log = ap (λ (es : List Entry). length es) takes.logs.log_is ∙ length-append takes.logs.kept (entry_of name ∷ []) in
+    let log = ap (λ (es : List Entry). length es) takes.logs.log_is ∙ length-append takes.logs.kept (entry ∷ []) in
     let unknown = unknown_stays f steps v agreed in
     omega (arith, events, log, unknown)
 
@@ -42,57 +47,111 @@ refused_few f k c c' name steps fault v refuses =
     let owed : owed_events f c' (steps ++ v) ≡ owed_events f c v = ap (λ (d : Cached). owed_events f d (steps ++ v)) refuses.cache ∙ ap (λ (ms : List Made). owed_events f c (ms ++ v)) refuses.no_steps in
     omega (arith, none, owed)
 
-pub frees_taken : {σ σ' : Standing} (name : Name) (c c' : Cached) (done : Unit {0}) → Frees (entry_of name) c c' σ σ' (Ok done) → FreesOne name c c' σ σ' None
-frees_taken {σ} name c c' done frees = record {
+pub frees_taken : {σ σ' : Standing} (entry : Entry) (c c' : Cached) (done : Unit {0}) → Frees entry c c' σ σ' (Ok done) → FreesOne entry c c' σ σ' None
+frees_taken {σ} entry c c' done frees = record {
   steps = frees.steps;
   calls = frees.calls;
-  few = λ v rest agreed. taken_few σ.seat.profile σ.seat.actor c c' name frees.steps v frees.outcome agreed;
+  few = λ v rest agreed. taken_few σ.seat.profile σ.seat.actor c c' entry frees.steps v frees.outcome agreed;
   freed = inl (frees.outcome, refl);
 }
 
-pub frees_refused : {σ σ' : Standing} {answer : Result (Unit {0}) FreeFault} (name : Name) (c c' : Cached) (fault : FreeFault) → Frees (entry_of name) c c' σ σ' answer → answer ≡ Err fault → FreesOne name c c' σ σ' (Some (said_of_fault name fault))
-frees_refused {σ} {σ'} {answer} name c c' fault frees is =
-    let refuses : RefusesName σ.seat.profile c c' name frees.steps fault
-    = subst (λ a. MatchResult a (λ done. TakesEntry σ.seat.profile σ.seat.actor c c' (entry_of name) frees.steps) (RefusesName σ.seat.profile c c' name frees.steps)) is frees.outcome in
+pub frees_refused : {σ σ' : Standing} {answer : Result (Unit {0}) FreeFault} (entry : Entry) (c c' : Cached) (fault : FreeFault) → Frees entry c c' σ σ' answer → answer ≡ Err fault → FreesOne entry c c' σ σ' (Some (said_of_fault entry.name fault))
+frees_refused {σ} {σ'} {answer} entry c c' fault frees is =
+    let refuses : RefusesName σ.seat.profile c c' entry.name frees.steps fault
+    = subst (λ a. MatchResult a (λ done. TakesEntry σ.seat.profile σ.seat.actor c c' entry frees.steps) (RefusesName σ.seat.profile c c' entry.name frees.steps)) is frees.outcome in
     record {
       steps = frees.steps;
       calls = frees.calls;
-      few = λ v rest agreed. refused_few σ.seat.profile σ.seat.actor c c' name frees.steps fault v refuses;
+      few = λ v rest agreed. refused_few σ.seat.profile σ.seat.actor c c' entry.name frees.steps fault v refuses;
       freed = inr (fault, refuses, refl);
     }
 
+-- ---- what is asked
+-- it asks its thread for a task that costs one event
+pub can_log : {σ : Standing} {task : Task} (c : Cached) (task' : Task) (block : Name) (spare : ℕ) → task ≡ task' → cost_of_task task' ≡ 1 → CanCall σ (MayPerform σ.seat.profile c (what_of task) spare) → CanCall σ (MayPerform σ.seat.profile c (Raw block) spare)
+can_log {σ} {task} c task' block spare is one can =
+    let cost = ap cost_of_work (task_of task) ∙ ap cost_of_task is ∙ one in
+    record { view = can.view; whole = can.whole; stood = can.stood; met = let room = can.met.room in record { rest = can.met.rest; room = omega (arith, room, cost) } }
+
+pub fits_task : (f : Profile) (limit : ℕ) (asked : List ℕ) {task : Task} (task' : Task) → task ≡ task' → IsFitWhat f limit asked (what_of task) → IsFitTask f limit asked task'
+fits_task f limit asked {task} task' is fit = subst (λ (w : Work). IsFitWork f limit asked w) (task_of task ∙ ap (λ (t : Task). Work.Own t) is) fit
+
+-- a task without a new name asks no door
+pub not_asked : (f : Profile) (Answers : ℕ → ℕ → Option ℕ → Type 0) (Same : Type 0) (task : Task) (meant : Option Block) (found : Option ℕ) → request_of task ≡ None → Same → IsNamedFor f Answers Same (request_made (what_of task) meant) found
+not_asked f Answers Same (Task.Request name heap size align) meant found none same = absurd cc
+not_asked f Answers Same (Task.Free name None) meant found none same = same
+not_asked f Answers Same (Task.Free name (Some room)) meant found none same = same
+not_asked f Answers Same (Task.FreeRaw block None) meant found none same = same
+not_asked f Answers Same (Task.FreeRaw block (Some room)) meant found none same = same
+not_asked f Answers Same (Task.Remake name old heap size align) meant found none same = absurd cc
+not_asked f Answers Same Task.Flush meant found none same = same
+not_asked f Answers Same Task.Stop meant found none same = same
+
 -- ---- a free by a name of the trace
 -- a name that was asked for stands for what is meant
-behind : (o : Option (Option Name)) (b : Option Name) → o ≡ Some b → block_behind o ≡ b
+behind : (o : Option (Option Block)) (b : Option Block) → o ≡ Some b → block_behind o ≡ b
 behind o b is = ap block_behind is
 
-stands_for : (names : List Named) (name : ℕ) (block : Option Name) → IsMeant names (Free name) block → IsKnown names (Free name) → standing_for names name ≡ Some block
+pub stands_for : (names : List Named) (name : ℕ) (block : Option Block) → block_behind (standing_for names name) ≡ block → (b : Option Block) × (standing_for names name ≡ Some b) → standing_for names name ≡ Some block
 stands_for names name block means known = known.1 ∙ ap (λ b. Some b) (sym (behind (standing_for names name) known.0 known.1) ∙ means)
 
-pub performs_free : {σ σ' : Standing} {said : Option Said} (task : Task) (meant : Option Name) (c c' : Cached) (name : ℕ) (block : Name) → task ≡ Task.Free name → meant ≡ Some block → FreesOne block c c' σ σ' said → PerformsMeant (what_of task) meant None c c' σ σ' said
-performs_free {σ} {σ'} {said} task meant c c' name block is named frees = subst (λ t. PerformsMeant (what_of t) meant None c c' σ σ' said) (sym is) record {
+-- the name that is freed stands for the block
+freed_by_name : {σ σ' : Standing} {said : Option Said} (meant : Option Block) (c c' : Cached) (name : ℕ) (room : Option ℕ) (block : Block) → meant ≡ Some block → FreesOne (entry_with block.name room) c c' σ σ' said
+    → PerformsMeant (what_of (Task.Free name room)) meant None c c' σ σ' said
+freed_by_name {σ} {σ'} {said} meant c c' name None block named frees = record {
   steps = frees.steps;
   found = None;
   calls = frees.calls;
   few = frees.few;
-  answered = λ v l stood rest names means known. (subst (λ o. IsFreedBy σ.seat.profile σ.seat.actor c c' name o frees.steps said) (sym (stands_for names name (Some block) (means ∙ named) known)) frees.freed, refl);
+  answered = λ v l stood rest names means known. (subst (λ o. IsFreedBy σ.seat.profile σ.seat.actor c c' name None o frees.steps said) (sym (stands_for names name (Some block) (means ∙ named) known)) frees.freed, refl);
+  others = λ none. refl;
+}
+freed_by_name {σ} {σ'} {said} meant c c' name (Some room) block named frees = record {
+  steps = frees.steps;
+  found = None;
+  calls = frees.calls;
+  few = frees.few;
+  answered = λ v l stood rest names means known. (subst (λ o. IsFreedBy σ.seat.profile σ.seat.actor c c' name (Some room) o frees.steps said) (sym (stands_for names name (Some block) (means ∙ named) known)) frees.freed, refl);
   others = λ none. refl;
 }
 
+pub performs_free : {σ σ' : Standing} {said : Option Said} (task : Task) (meant : Option Block) (c c' : Cached) (name : ℕ) (room : Option ℕ) (block : Block) → task ≡ Task.Free name room → meant ≡ Some block → FreesOne (entry_with block.name room) c c' σ σ' said
+    → PerformsMeant (what_of task) meant None c c' σ σ' said
+performs_free {σ} {σ'} {said} task meant c c' name room block is named frees = subst (λ t. PerformsMeant (what_of t) meant None c c' σ σ' said) (sym is) (freed_by_name meant c c' name room block named frees)
+
 -- its request was refused
-pub performs_skip : {σ : Standing} (task : Task) (meant : Option Name) (c : Cached) (name : ℕ) → task ≡ Task.Free name → meant ≡ None → PerformsMeant (what_of task) meant None c c σ σ (Some (Said.Skipped name))
-performs_skip {σ} task meant c name is named = subst (λ t. PerformsMeant (what_of t) meant None c c σ σ (Some (Said.Skipped name))) (sym is) record {
+skipped : {σ : Standing} (meant : Option Block) (c : Cached) (name : ℕ) (room : Option ℕ) → meant ≡ None → PerformsMeant (what_of (Task.Free name room)) meant None c c σ σ (Some (Said.Skipped name))
+skipped {σ} meant c name None named = record {
   steps = [];
   found = None;
   calls = call_none (λ v rest. rest);
   few = λ v rest agreed. omega arith;
-  answered = λ v l stood rest names means known. (subst (λ o. IsFreedBy σ.seat.profile σ.seat.actor c c name o [] (Some (Said.Skipped name))) (sym (stands_for names name None (means ∙ named) known)) (refl, refl, refl), refl);
+  answered = λ v l stood rest names means known. (subst (λ o. IsFreedBy σ.seat.profile σ.seat.actor c c name None o [] (Some (Said.Skipped name))) (sym (stands_for names name None (means ∙ named) known)) (refl, refl, refl), refl);
+  others = λ none. refl;
+}
+skipped {σ} meant c name (Some room) named = record {
+  steps = [];
+  found = None;
+  calls = call_none (λ v rest. rest);
+  few = λ v rest agreed. omega arith;
+  answered = λ v l stood rest names means known. (subst (λ o. IsFreedBy σ.seat.profile σ.seat.actor c c name (Some room) o [] (Some (Said.Skipped name))) (sym (stands_for names name None (means ∙ named) known)) (refl, refl, refl), refl);
   others = λ none. refl;
 }
 
+pub performs_skip : {σ : Standing} (task : Task) (meant : Option Block) (c : Cached) (name : ℕ) (room : Option ℕ) → task ≡ Task.Free name room → meant ≡ None → PerformsMeant (what_of task) meant None c c σ σ (Some (Said.Skipped name))
+performs_skip {σ} task meant c name room is named = subst (λ t. PerformsMeant (what_of t) meant None c c σ σ (Some (Said.Skipped name))) (sym is) (skipped meant c name room named)
+
 -- a free by address and turn
-pub performs_raw : {σ σ' : Standing} {said : Option Said} (task : Task) (meant : Option Name) (c c' : Cached) (block : Name) → task ≡ Task.FreeRaw block → FreesOne block c c' σ σ' said → PerformsMeant (what_of task) meant None c c' σ σ' said
-performs_raw {σ} {σ'} {said} task meant c c' block is frees = subst (λ t. PerformsMeant (what_of t) meant None c c' σ σ' said) (sym is) record {
+freed_raw : {σ σ' : Standing} {said : Option Said} (meant : Option Block) (c c' : Cached) (block : Name) (room : Option ℕ) → FreesOne (entry_with block room) c c' σ σ' said → PerformsMeant (what_of (Task.FreeRaw block room)) meant None c c' σ σ' said
+freed_raw meant c c' block None frees = record {
+  steps = frees.steps;
+  found = None;
+  calls = frees.calls;
+  few = frees.few;
+  answered = λ v l stood rest names means known. (frees.freed, refl);
+  others = λ none. refl;
+}
+freed_raw meant c c' block (Some room) frees = record {
   steps = frees.steps;
   found = None;
   calls = frees.calls;
@@ -101,8 +160,11 @@ performs_raw {σ} {σ'} {said} task meant c c' block is frees = subst (λ t. Per
   others = λ none. refl;
 }
 
+pub performs_raw : {σ σ' : Standing} {said : Option Said} (task : Task) (meant : Option Block) (c c' : Cached) (block : Name) (room : Option ℕ) → task ≡ Task.FreeRaw block room → FreesOne (entry_with block room) c c' σ σ' said → PerformsMeant (what_of task) meant None c c' σ σ' said
+performs_raw {σ} {σ'} {said} task meant c c' block room is frees = subst (λ t. PerformsMeant (what_of t) meant None c c' σ σ' said) (sym is) (freed_raw meant c c' block room frees)
+
 -- ---- a flush and a stop
-pub performs_flush : {σ σ' : Standing} (task : Task) (meant : Option Name) (c c' : Cached) → task ≡ Task.Flush → FlushesLog c c' σ σ' → PerformsMeant (what_of task) meant None c c' σ σ' None
+pub performs_flush : {σ σ' : Standing} (task : Task) (meant : Option Block) (c c' : Cached) → task ≡ Task.Flush → FlushesLog c c' σ σ' → PerformsMeant (what_of task) meant None c c' σ σ' None
 performs_flush {σ} {σ'} task meant c c' is flushes = subst (λ t. PerformsMeant (what_of t) meant None c c' σ σ' None) (sym is) record {
   steps = flushes.steps;
   found = None;
@@ -116,7 +178,7 @@ performs_flush {σ} {σ'} task meant c c' is flushes = subst (λ t. PerformsMean
   others = λ none. refl;
 }
 
-pub performs_stop : {σ σ' : Standing} (task : Task) (meant : Option Name) (c c' : Cached) → task ≡ Task.Stop → StopsCache c c' σ σ' → PerformsMeant (what_of task) meant None c c' σ σ' None
+pub performs_stop : {σ σ' : Standing} (task : Task) (meant : Option Block) (c c' : Cached) → task ≡ Task.Stop → StopsCache c c' σ σ' → PerformsMeant (what_of task) meant None c c' σ σ' None
 performs_stop {σ} {σ'} task meant c c' is stops = subst (λ t. PerformsMeant (what_of t) meant None c c' σ σ' None) (sym is) record {
   steps = stops.stopped ++ stops.flushed;
   found = None;

@@ -1,13 +1,16 @@
--- An operation by what it asks for, and what the name that it frees stands for.
-use Rattle.std.proofs.Common.{◌≡◌, ℕ, List, Option, Some, None, ap, sym}
-use Rattle.pas_profile.specs.declared.name.Name.{Name}
+-- An operation by what it asks for, and what the name that it frees or reallocates stands for.
+use Rattle.std.proofs.Common.{◌≡◌, ℕ, List, Option, Some, None, refl, ap, sym}
+use Rattle.pas_profile.specs.declared.name.Block.{Block}
+use Rattle.pas_profile.specs.declared.profile.Profile.{Profile}
 use Rattle.pas_trace.specs.declared.plan.What.{What}
-use Rattle.pas_trace.specs.Asked.{work_of}
-use Rattle.pas_trace.specs.declared.plan.What.TheVariants.{Alloc, Free, Raw, Flush, Stop}
+use Rattle.std.specs.Prelude.{option_and_then}
+use Rattle.pas_trace.specs.Asked.{work_of, of_task, request_of, freed_of}
+use Rattle.pas_trace.specs.declared.plan.What.TheVariants.{Alloc, Free, FreeSized, Raw, RawSized, Remake, Flush, Stop}
 use Rattle.pas_trace.specs.declared.plan.Task.{Task}
 use Rattle.pas_trace.specs.declared.plan.Work.{Work}
 use Rattle.pas_answers.specs.Answers.{Named, standing_for}
-use Rattle.pas_answers.specs.Calls.{what_of, HasTurn, block_behind, IsMeant, freed_by}
+use Rattle.pas_answers.specs.Indexes.{request_made, request_by}
+use Rattle.pas_answers.specs.Calls.{what_of, MayStand, block_behind, IsMeant, named_with, named_by, freed_by}
 
 -- it is the one that asks its thread for this
 same_own : {a b : Task} → Work.Own a ≡ Work.Own b → a ≡ b
@@ -16,20 +19,50 @@ same_own is = cc
 pub own_what : (what : What) (task : Task) → work_of what ≡ Work.Own task → what ≡ what_of task
 own_what (Alloc name heap size align) task is = ap what_of (same_own is)
 own_what (Free name) task is = ap what_of (same_own is)
+own_what (FreeSized name room) task is = ap what_of (same_own is)
 own_what (Raw block) task is = ap what_of (same_own is)
+own_what (RawSized room block) task is = ap what_of (same_own is)
+own_what (Remake name old heap size align) task is = ap what_of (same_own is)
 own_what Flush task is = ap what_of (same_own is)
 own_what Stop task is = ap what_of (same_own is)
 own_what what task is = cc
 
--- what is said of each name is said of the freed one
-pub meant_by : (block : ℕ → Option Name) (names : List Named) (what : What) → ((n : ℕ) → block n ≡ block_behind (standing_for names n)) → IsMeant names what (freed_by block what)
+pub task_of : (task : Task) → work_of (what_of task) ≡ Work.Own task
+task_of (Task.Request name heap size align) = refl
+task_of (Task.Free name None) = refl
+task_of (Task.Free name (Some room)) = refl
+task_of (Task.FreeRaw block None) = refl
+task_of (Task.FreeRaw block (Some room)) = refl
+task_of (Task.Remake name old heap size align) = refl
+task_of Task.Flush = refl
+task_of Task.Stop = refl
+
+-- the name that is freed or reallocated, and the one that is asked for, by the task
+pub freed_task : (block : ℕ → Option Block) (task : Task) → option_and_then block (freed_of task) ≡ freed_by block (what_of task)
+freed_task block task = ap (λ (w : Work). option_and_then block (of_task freed_of w)) (sym (task_of task))
+
+pub named_task : (task : Task) (came : Option Block) → named_with (request_of task) came ≡ named_by (what_of task) came
+named_task task came = ap (λ (w : Work). named_with (of_task request_of w) came) (sym (task_of task))
+
+-- what is said of each name is said of the freed or reallocated one
+pub meant_by : (block : ℕ → Option Block) (names : List Named) (what : What) → ((n : ℕ) → block n ≡ block_behind (standing_for names n)) → IsMeant names what (freed_by block what)
 meant_by block names (Free name) tells = sym (tells name)
+meant_by block names (FreeSized name room) tells = sym (tells name)
+meant_by block names (Remake name old heap size align) tells = sym (tells old)
 meant_by block names what tells = tt
 
--- .. and its turn has a next one
-pub no_turn : HasTurn None
-no_turn = λ b same. absurd (let bad : None ≡ Some b = same in cc)
+-- the request that it makes by what names stand for
+pub request_meant : (what : What) (names : List Named) (meant : Option Block) → IsMeant names what meant → request_made what meant ≡ request_by names what
+request_meant (Remake name old heap size align) names meant means = ap (request_made (Remake name old heap size align)) (sym means)
+request_meant (Alloc name heap size align) names meant means = refl
+request_meant what names meant means = refl
 
-pub turn_meant : (block : ℕ → Option Name) (what : What) → ((n : ℕ) → HasTurn (block n)) → HasTurn (freed_by block what)
-turn_meant block (Free name) turns = turns name
-turn_meant block what turns = no_turn
+-- .. and it is one of the region
+pub none_stands : (f : Profile) → MayStand f None
+none_stands f = λ b same. absurd (let bad : None ≡ Some b = same in cc)
+
+pub meant_stands : (f : Profile) (block : ℕ → Option Block) (what : What) → ((n : ℕ) → MayStand f (block n)) → MayStand f (freed_by block what)
+meant_stands f block (Free name) stand = stand name
+meant_stands f block (FreeSized name room) stand = stand name
+meant_stands f block (Remake name old heap size align) stand = stand old
+meant_stands f block what stand = none_stands f

@@ -1,6 +1,7 @@
 mod OwedEvents
 mod Frees
 pub mod Requests
+mod Reallocations
 pub mod Kept
 mod Records
 pub mod OwnRecords

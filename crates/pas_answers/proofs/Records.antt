@@ -17,7 +17,7 @@ use Rattle.pas_report.specs.declared.record.Said.{Said}
 use Rattle.pas_cache.specs.Caches.{Cached, AtRest}
 use Rattle.pas_answers.specs.Answers.{records_of, said_by}
 use Rattle.pas_answers.specs.Calls.{PerformsMeant, MayAnswer, AnswersMeant}
-use Rattle.pas_profile.specs.declared.name.Name.{Name}
+use Rattle.pas_profile.specs.declared.name.Block.{Block}
 
 -- ---- what the desk shows
 -- the events shown are those of each view
@@ -44,7 +44,7 @@ can_rest {σ} c what spare out can = record { view = can.view; whole = can.whole
 
 -- ---- the records
 -- there is room for the events, and for what is said besides
-pub records_fit : {σ σ' : Standing} {said : Option Said} {c' : Cached} (what : What) (meant came : Option Name) (c : Cached) (spare : ℕ) (out : Records) (old new : List Event) → (can : CanCall σ (MayAnswer σ.seat.profile c what spare out))
+pub records_fit : {σ σ' : Standing} {said : Option Said} {c' : Cached} (what : What) (meant came : Option Block) (c : Cached) (spare : ℕ) (out : Records) (old new : List Event) → (can : CanCall σ (MayAnswer σ.seat.profile c what spare out))
     → PerformsMeant what meant came c c' σ σ' said → IsShown σ old → IsShown σ' new → length (records_in out) + length (drop (length old) new) + length (said_by σ.seat.actor said) ≤ room_of out
 unfolding can_rest
 records_fit {σ} {σ'} {said} {c'} what meant came c spare out old new can performs before after =
@@ -63,7 +63,7 @@ said_fits {said} k out pushed events message is fits added same =
     omega (arith, size, one, fits, same)
 
 -- nothing is said besides
-pub answers_silent : {σ σ' : Standing} {said : Option Said} (Named : Option ℕ → Type 0) (what : What) (meant came : Option Name) (c c' : Cached) (out out' : Records) (old new : List Event) → said ≡ None
+pub answers_silent : {σ σ' : Standing} {said : Option Said} (Named : Option ℕ → Type 0) (what : What) (meant came : Option Block) (c c' : Cached) (out out' : Records) (old new : List Event) → said ≡ None
     → (performs : PerformsMeant what meant came c c' σ σ' said) → Named performs.found → IsShown σ old → IsShown σ' new → records_in out' ≡ records_in out ++ map Record.Event (drop (length old) new) → room_of out' ≡ room_of out → (did : AnswersMeant what meant came c c' out out' σ σ') × Named did.performs.found
 answers_silent {σ} {σ'} {said} Named what meant came c c' out out' old new is performs named before after added room = (
   record {
@@ -77,7 +77,7 @@ answers_silent {σ} {σ'} {said} Named what meant came c c' out out' old new is 
 )
 
 -- this is said besides
-pub answers_said : {σ σ' : Standing} {said : Option Said} (Named : Option ℕ → Type 0) (what : What) (meant came : Option Name) (c c' : Cached) (out pushed out' : Records) (old new : List Event) (message : Said) (actor : ℕ) → said ≡ Some message → actor ≡ σ'.seat.actor
+pub answers_said : {σ σ' : Standing} {said : Option Said} (Named : Option ℕ → Type 0) (what : What) (meant came : Option Block) (c c' : Cached) (out pushed out' : Records) (old new : List Event) (message : Said) (actor : ℕ) → said ≡ Some message → actor ≡ σ'.seat.actor
     → (performs : PerformsMeant what meant came c c' σ σ' said) → Named performs.found → IsShown σ old → IsShown σ' new → records_in pushed ≡ records_in out ++ map Record.Event (drop (length old) new) → room_of pushed ≡ room_of out
     → records_in out' ≡ records_in pushed ++ Record.Said actor message ∷ [] → room_of out' ≡ room_of pushed → (did : AnswersMeant what meant came c c' out out' σ σ') × Named did.performs.found
 answers_said {σ} {σ'} {said} Named what meant came c c' out pushed out' old new message actor is actor_is performs named before after added same last room =

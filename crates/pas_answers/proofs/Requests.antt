@@ -1,18 +1,24 @@
 -- What a request promises.
-use Rattle.std.proofs.Common.{◌≡◌, ◌≢◌, ℕ, ◌+◌, ◌-◌, ◌^◌, ◌<◌, ◌≤◌, ◌++◌, Bool, List, [], ◌∷◌, length, Option, Some, None, Result, Ok, Err, inl, inr, refl, ap, sym, ◌∙◌, subst, arith}
-use Rattle.std.specs.Prelude.{◌/◌, MatchResult}
-use Rattle.std.proofs.lemmas.Bool.{cases_lt}
+use Rattle.std.proofs.Common.{◌≡◌, ◌≢◌, ℕ, ◌+◌, ◌-◌, ◌<◌, ◌≤◌, ◌++◌, Bool, true, List, [], ◌∷◌, length, Option, Some, None, Result, Ok, Err, inl, inr, refl, ap, sym, ◌∙◌, subst, arith, lt-ltb}
+use Rattle.std.specs.Prelude.{◌*◌, ◌/◌, ◌%◌, max, nat_le, nat_lt, MatchResult}
+use Rattle.std.proofs.lemmas.Bool.{cases_lt, and_from, le-leb}
+use Rattle.std.proofs.Math.Nat.{mul-mod_left, mod-add-div', mul_assoc}
 use Rattle.std.specs.List.{AllByRecursion}
 use Rattle.std.proofs.lemmas.Option.{same_Some}
 use Rattle.pas_profile.specs.Directories.{IsDirectory, deed_word_of}
-use Rattle.pas_profile.specs.Profiles.{IsValid, IsDirectoryOf}
+use Rattle.pas_profile.specs.Blocks.{address_of, grain_of, length_of}
+use Rattle.pas_profile.specs.Classes.{IsAlignment}
+use Rattle.pas_profile.specs.Profiles.{IsValid, IsAdmitted, IsPage, IsDirectoryOf}
+use Rattle.pas_profile.specs.Routes.{room_by, IsRouteOf}
+use Rattle.pas_profile.proofs.ClassFacts.{route_is, class_known, class_size_whole}
+use Rattle.pas_bits.specs.Runs.{in_run}
+use Rattle.pas_bitfit.proofs.Aligned.{sixteens}
 use Rattle.pas_profile.specs.Requests.{route_in, room_in}
 use Rattle.pas_profile.specs.declared.profile.Profile.{Profile}
 use Rattle.pas_profile.specs.declared.directory.Directory.{Directory}
 use Rattle.pas_profile.specs.declared.event.Event.{Event}
 use Rattle.pas_profile.specs.declared.event.NoRoom.{NoRoom}
 use Rattle.pas_profile.specs.declared.name.Block.{Block}
-use Rattle.pas_profile.specs.declared.name.Name.{Name}
 use Rattle.pas_profile.specs.declared.word.Word.TheVariants as Word
 use Rattle.pas_profile.proofs.Codecs.{same_from_deed_word, directory_from_profile, deed_word_of-positive}
 use Rattle.pas_machine.specs.State.{deed_in}
@@ -25,6 +31,7 @@ use Rattle.pas_steps.specs.Agreement.{Agreed}
 use Rattle.pas_steps.specs.Events.{events_by}
 use Rattle.pas_steps.specs.Lists.{Whole, part, word_after, visible, Legal}
 use Rattle.pas_steps.specs.Desks.{Standing, CanCall}
+use Rattle.pas_trace.specs.declared.item.Request.{Request}
 use Rattle.pas_trace.specs.declared.plan.What.TheVariants.{Alloc}
 use Rattle.pas_cache.specs.Caches.{Cached, AtRest}
 use Rattle.pas_profile.specs.declared.directory.Route.{Route}
@@ -34,9 +41,9 @@ use Rattle.pas_cache.specs.Calls.{Allocates, AllocatesPages, most_events, IsName
 use Rattle.pas_cache.proofs.Budget.{log_kept}
 use Rattle.pas_cache.specs.Serves.{IsSmallRoute, Wanted, wanted_for, pages_of, IsBlockFor, IsDeedOf, IsSilent, MakesFew, MakesAtMost, MakesDeedsOf}
 use Rattle.pas_steps.specs.Unknown.{unknown_pages}
-use Rattle.pas_answers.specs.Answers.{named as the_name, name_of, said_by, said_of_request, RefusalEnds, RequestEnds}
-use Rattle.pas_answers.specs.Indexes.{IsNamedFor}
-use Rattle.pas_answers.specs.Calls.{HasTurn, owed_events, MayPerform, Serves, events_for, PerformsMeant}
+use Rattle.pas_answers.specs.Answers.{named as the_name, block_of, said_by, said_of_request, IsGiven, RefusalEnds, RequestEnds}
+use Rattle.pas_answers.specs.Indexes.{IsNamedFor, request_made}
+use Rattle.pas_answers.specs.Calls.{IsBlockOf, MayStand, owed_events, MayPerform, Serves, events_for, PerformsMeant}
 use Rattle.pas_steps.proofs.Adding.{adds_none, can_call}
 use Rattle.pas_steps.proofs.Unknown.{unknown_stays, has_room}
 use Rattle.pas_cache.proofs.Routes.{is_small, is_large, small_may, small_did, none_named, pages_asked}
@@ -132,13 +139,17 @@ serves {σ} {σ'} {answer} {Answers} {Same} {tells} c c' heap size align r =
           subst (λ (o : Option ℕ). Serves (cost_of_size size) w o c c' σ σ' answer) (sym (none_named Answers Same route (λ large answers. absurd (subst IsSmallRoute large small)) r.named)) (serves_small c c' heap size align few (small_did w r.found route small r.allocates))
     ]
 
+-- the request
+abbrev pub asking : ℕ → ℕ → ℕ → ℕ → Request
+asking name heap size align = record { name = name; heap = heap; size = size; align = align }
+
 -- what its route says of the run that was named, for its number of pages
 named_on : (f : Profile) (heap size align : ℕ) (Answers : ℕ → Option ℕ → Type 0) (Same : Type 0) (found : Option ℕ) (route : Route) → route_in f size align ≡ route → IsNamed route (Answers ((size + 4096 - 1) / 4096)) Same found → IsNamed route (Answers (pages_of (wanted_for f heap size align))) Same found
 named_on f heap size align Answers Same found (Route.Class class) is named = named
 named_on f heap size align Answers Same found Route.Bitfit is named = named
 named_on f heap size align Answers Same found Route.Large is named = subst (λ n. Answers n found) (sym (pages_asked f size align is)) named
 
-pub named_for : (f : Profile) (name heap size align : ℕ) (Answers : ℕ → ℕ → Option ℕ → Type 0) (Same : Type 0) (found : Option ℕ) → IsNamed (route_in f size align) (Answers heap ((size + 4096 - 1) / 4096)) Same found → IsNamedFor f Answers Same (Alloc name heap size align) found
+pub named_for : (f : Profile) (name heap size align : ℕ) (Answers : ℕ → ℕ → Option ℕ → Type 0) (Same : Type 0) (found : Option ℕ) → IsNamed (route_in f size align) (Answers heap ((size + 4096 - 1) / 4096)) Same found → IsNamedFor f Answers Same (Some (asking name heap size align)) found
 named_for f name heap size align Answers Same found named = named_on f heap size align (Answers heap) Same found (route_in f size align) refl named
 
 -- ---- the directory
@@ -154,13 +165,53 @@ known_directory f l k page d valid legal of knows =
     directory_is (deed_in (visible l) page) d (directory_from_profile f d valid of) (λ x found. directory_from_profile f x valid (directory_is_of f l legal page x found))
     (sym (deed_of f l legal page) ∙ sym (known_is (known_deed (part k l) page) (word_after l (Word.Deed page)) (deeds_known f l legal k page) some) ∙ knows)
 
--- ---- the turn of its block
--- the turn of a block that was given is far below the last one
-pub turn_given : {σ σ' : Standing} {found : Option ℕ} (c c' : Cached) (name heap size align spare : ℕ) (block : Block)
-    → CanCall σ (MayPerform σ.seat.profile c (Alloc name heap size align) spare) → Serves (cost_of_size size) (wanted_for σ.seat.profile heap size align) found c c' σ σ' (Ok block) → HasTurn (Some block.name)
-turn_given {σ} c c' name heap size align spare block can call =
-    let small = call.outcome.turn.from can.view can.met.rest (call.calls.adds.agreed can.view can.whole can.stood can.met.rest) in
-    λ b same. subst (λ d. d.turn < 2 ^ 40 - 1) (same_Some _ _ same) (omega (arith, small))
+-- ---- its block
+some_grains : (classes size align : ℕ) (route : Route) → IsRouteOf classes size align route → 0 < room_by route (max size 1) / 16
+some_grains classes size align (Route.Class class) is = let enough = is.suits.room in let whole = class_size_whole class (class_known classes size align class is) in omega (arith, enough, whole)
+some_grains classes size align Route.Bitfit is = omega arith
+some_grains classes size align Route.Large is = omega arith
+
+first_in : (g n : ℕ) → 0 < n → in_run g n g ≡ true
+first_in g n some = and_from (nat_le g g) (nat_lt g (g + n)) (le-leb g g (omega arith)) (lt-ltb g (g + n) (omega (arith, some)))
+
+-- a multiple of an alignment is one of 16
+sixteenth : (a align : ℕ) → IsAlignment align → a % align ≡ 0 → a % 16 ≡ 0
+sixteenth a align is at =
+    let whole : align / 16 * 16 ≡ align = let m = sixteens align is in omega (arith, m) in
+    let bytes : a ≡ a / align * align = let m = mod-add-div' a align in omega (arith, m, at) in
+    ap (λ n. n % 16) (bytes ∙ ap (λ n. a / align * n) (sym whole) ∙ sym (mul_assoc (a / align) (align / 16) 16)) ∙ mul-mod_left (a / align * (align / 16)) 16
+
+-- a block that was given may be freed or reallocated
+pub block_stands : (f : Profile) (c : Cached) (heap size align : ℕ) (steps : List Made) (block : Block) (v : View) → IsAdmitted f size align heap → AtRest f c v → Agreed f v steps → IsBlockFor f (wanted_for f heap size align) (AtRest f c) steps block → MayStand f (Some block)
+block_stands f c heap size align steps block v admitted rest agreed of =
+    let small = of.turn.from v rest agreed in
+    let some = some_grains f.classes size align (route_in f size align) (route_is f.classes size align) in
+    let room = ap (λ n. n / 16) of.room in
+    let page = of.of_region (grain_of block.name) (first_in (grain_of block.name) (length_of block) (omega (arith, some, room))) in
+    let same : grain_of block.name / 256 ≡ address_of block.name / 4096 = omega arith in
+    λ b is. subst (IsBlockOf f) (same_Some _ _ is) record {
+      region = record { page = subst (IsPage f) same page; aligned = sixteenth (address_of block.name) align admitted.aligned of.aligned };
+      heap = let heap_is = of.of_heap in let few = admitted.of_profile in omega (arith, heap_is, few);
+      turn = omega (arith, small);
+    }
+
+pub given_stands : {σ σ' : Standing} {found : Option ℕ} (c c' : Cached) (name heap size align spare : ℕ) (block : Block) → IsAdmitted σ.seat.profile size align heap
+    → CanCall σ (MayPerform σ.seat.profile c (Alloc name heap size align) spare) → Serves (cost_of_size size) (wanted_for σ.seat.profile heap size align) found c c' σ σ' (Ok block) → MayStand σ.seat.profile (Some block)
+given_stands {σ} c c' name heap size align spare block admitted can call =
+    block_stands σ.seat.profile c heap size align call.steps block can.view admitted can.met.rest (call.calls.adds.agreed can.view can.whole can.stood can.met.rest) call.outcome
+
+-- what is known of its give, by one view
+pub is_given : (f : Profile) (k : ℕ) (w : Wanted) (c : Cached) (steps : List Made) (block : Block) (v : View) → AtRest f c v → Agreed f v steps → IsBlockFor f w (AtRest f c) steps block → IsGiven k w v steps block
+is_given f k w c steps block v rest agreed of = record {
+  of_heap = of.of_heap;
+  room = of.room;
+  placed = of.placed;
+  aligned = of.aligned;
+  of_directory = λ g inside. of.deeds.from v rest agreed g inside;
+  before = (of.events k v).0;
+  events = (of.events k v).1;
+  prepared = (of.events k v).2;
+}
 
 -- ---- a request
 module _ (σ σ' : Standing) (c c' : Cached) (name heap size align : ℕ) (found : Option ℕ) where
@@ -175,20 +226,11 @@ module _ (σ σ' : Standing) (c c' : Cached) (name heap size align : ℕ) (found
   paid (Err room) call v rest agreed = let log = ap length call.log_is in let few = call.few σ.seat.actor v rest agreed in let some = some_cost size in omega (arith, log, few, some)
 
   ends : (answer : Result Block NoRoom) (call : Served answer) (v : View) (l : Whole) → σ.stands v l → AtRest σ.seat.profile c v → RequestEnds σ.seat.actor (wanted_for σ.seat.profile heap size align) v call.steps answer
-  ends (Ok block) call v l stood rest = let of = call.outcome in record {
-    of_heap = of.of_heap;
-    room = of.room;
-    placed = of.placed;
-    aligned = of.aligned;
-    of_directory = λ g inside. of.deeds.from v rest (call.calls.adds.agreed v l stood rest) g inside;
-    before = (of.events σ.seat.actor v).0;
-    events = (of.events σ.seat.actor v).1;
-    prepared = (of.events σ.seat.actor v).2;
-  }
+  ends (Ok block) call v l stood rest = is_given σ.seat.profile σ.seat.actor (wanted_for σ.seat.profile heap size align) c call.steps block v rest (call.calls.adds.agreed v l stood rest) call.outcome
   ends (Err room) call v l stood rest = call.outcome σ.seat.actor v
 
-  pub performs_request : (answer : Result Block NoRoom) (meant : Option Name) (Answers : ℕ → ℕ → Option ℕ → Type 0) (Same : Type 0) → Served answer → IsNamed (route_in σ.seat.profile size align) (Answers heap ((size + 4096 - 1) / 4096)) Same found
-      → (did : PerformsMeant (Alloc name heap size align) meant (name_of answer) c c' σ σ' (said_of_request name answer)) × IsNamedFor σ.seat.profile Answers Same (Alloc name heap size align) did.found
+  pub performs_request : (answer : Result Block NoRoom) (meant : Option Block) (Answers : ℕ → ℕ → Option ℕ → Type 0) (Same : Type 0) → Served answer → IsNamed (route_in σ.seat.profile size align) (Answers heap ((size + 4096 - 1) / 4096)) Same found
+      → (did : PerformsMeant (Alloc name heap size align) meant (block_of answer) c c' σ σ' (said_of_request name answer)) × IsNamedFor σ.seat.profile Answers Same (request_made (Alloc name heap size align) meant) did.found
   performs_request answer meant Answers Same call named = (
     record {
       steps = call.steps;
@@ -196,7 +238,7 @@ module _ (σ σ' : Standing) (c c' : Cached) (name heap size align : ℕ) (found
       calls = call.calls;
       few = paid answer call;
       answered = λ v l stood rest names means known. record { rest = rest; answer = answer; serves = call.change; kinds = call.kinds; ends = ends answer call v l stood rest; said_is = refl; names_are = refl };
-      others = λ none. absurd (let bad : the_name name (name_of answer) ∷ [] ≡ [] = none in cc);
+      others = λ none. absurd (let bad : the_name name (block_of answer) ∷ [] ≡ [] = none in cc);
     },
     named_for σ.seat.profile name heap size align Answers Same found named,
   )

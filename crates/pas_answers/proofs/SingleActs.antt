@@ -7,7 +7,7 @@ use Rattle.pas_answers.specs.Answers.{Caches, with_cache, Named, epoch_look, rec
 use Rattle.std.proofs.lemmas.List.{length-reverse, length-map}
 use Rattle.pas_profile.specs.declared.event.Event.{Event}
 use Rattle.pas_trace.specs.declared.plan.What.{What}
-use Rattle.pas_trace.specs.declared.plan.What.TheVariants.{Free}
+use Rattle.pas_trace.specs.declared.plan.What.TheVariants.{Free, FreeSized, Remake}
 use Rattle.pas_report.specs.declared.record.Record.{Record}
 use Rattle.pas_answers.specs.Calls.{AreKnown, IsKnown}
 use Rattle.pas_answers.specs.Fit.{IsFitWhat}
@@ -36,7 +36,9 @@ if_same true c is = refl
 if_same false c is = absurd (let bad : false ≡ true = is in cc)
 
 pub known_if : (f : Profile) (limit : ℕ) (asked : List ℕ) (names : List Named) (what : What) → IsFitWhat f limit asked what → AreKnown asked names → IsKnown names what
-known_if f limit asked names (Free name) fit known = known name fit
+known_if f limit asked names (Free name) fit known = known name fit.1.0
+known_if f limit asked names (FreeSized name room) fit known = known name fit.1.0
+known_if f limit asked names (Remake name old heap size align) fit known = known old fit.1.2
 known_if f limit asked names s fit known = tt
 
 pub records_count : (es : List Event) → length (records_of es) ≡ length es

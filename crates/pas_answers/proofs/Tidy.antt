@@ -1,10 +1,12 @@
 -- What answers an operation leaves its actor's view tidy: no epoch is learned between an end and its stamps, a page is stamped only where it is unstamped,
 -- and at the end none is.
-use Rattle.std.proofs.Common.{◌≡◌, ℕ, zero, suc, ◌+◌, ◌-◌, ◌/◌, ◌^◌, ◌<◌, ◌≤◌, ◌==◌, nat_le, Bool, true, false, ◌&&◌, if◌then◌else◌, List, [], ◌∷◌, ◌++◌, length, Option, Some, None, inl, inr, refl, ap, sym, ◌∙◌, subst, arith, append_assoc}
+use Rattle.std.proofs.Common.{◌≡◌, ℕ, zero, suc, ◌+◌, ◌-◌, ◌/◌, ◌^◌, ◌<◌, ◌≤◌, ◌==◌, nat_le, Bool, true, false, ◌&&◌, if◌then◌else◌, List, [], ◌∷◌, ◌++◌, length, Option, Some, None, Result, Ok, Err, MatchResult, inl, inr, refl, ap, sym, ◌∙◌, subst, arith, append_assoc}
 use Rattle.std.proofs.lemmas.Bool.{true≢false, eqb-false, eq-eqb, ne_eqb, false_from_ne_true, cond-false, and_left}
 use Rattle.pas_profile.specs.Lives.{live_word}
 use Rattle.pas_profile.specs.Directories.{directory_read, deed_word_of}
 use Rattle.pas_profile.specs.declared.profile.Profile.{Profile}
+use Rattle.pas_profile.specs.declared.event.NoRoom.{NoRoom}
+use Rattle.pas_profile.specs.declared.name.Block.{Block}
 use Rattle.pas_profile.specs.declared.name.Name.{Name}
 use Rattle.pas_profile.specs.declared.word.Word.{Word}
 use Rattle.pas_bits.specs.Runs.{meets_page}
@@ -19,7 +21,7 @@ use Rattle.pas_core.specs.Stamps.{AllStamped, KeepsToEnds}
 use Rattle.pas_rights.proofs.Orders.{return_returns}
 use Rattle.pas_rights.proofs.Puts.{puts_kinds}
 use Rattle.pas_free_log.specs.Endings.{guess_by, Tries, TriesBy, last_step, IsRefusedBy, IsEndOf, EndSteps}
-use Rattle.pas_free_log.specs.Logs.{is_sized}
+use Rattle.pas_free_log.specs.Logs.{entry_of, sized_entry, is_sized}
 use Rattle.pas_free_log.specs.Returns.{PageSteps, PagesSteps, first_on, count_on}
 use Rattle.pas_free_log.specs.Stamps.{page_count}
 use Rattle.pas_free_log.specs.declared.log.Entry.{Entry}
@@ -29,6 +31,7 @@ use Rattle.pas_free_log.specs.declared.ending.Outcome.{Outcome}
 use Rattle.pas_free_log.specs.declared.ending.Outcome.TheVariants.{Ended, Refused}
 use Rattle.pas_free_log.proofs.OneEntry.{count_some, guess_is, not_ended}
 use Rattle.pas_cache.specs.Caches.{Cached}
+use Rattle.pas_cache.specs.Calls.{TakesEntry}
 use Rattle.pas_cache.specs.Changes.{EmptiesLog, EmptiesFull}
 use Rattle.pas_steps.specs.Kinds.{Kinds, Only, kind_of, look_kind, is_in, apart, LookEpoch, Putting, Ending, Stamping, Ticking, looking, returning, place_of, unstamping}
 use Rattle.pas_cache.specs.Kinds.{releasing, allocating}
@@ -36,7 +39,7 @@ use Rattle.pas_steps.proofs.Apart.{holds_over, only_both, only_within, unstamped
 use Rattle.pas_steps.proofs.Calls.{returns_are}
 use Rattle.pas_trace.specs.declared.plan.What.{What}
 use Rattle.pas_report.specs.declared.record.Said.{Said}
-use Rattle.pas_answers.specs.Answers.{Having, Answer, standing_for, IsFreed, IsFreedBy, IsStopped, IsAnswered}
+use Rattle.pas_answers.specs.Answers.{Having, Answer, standing_for, entry_with, IsFreed, IsFreedBy, IsRemadeBy, IsStopped, IsAnswered}
 use Rattle.pas_report.proofs.Showable.{AreOfRegion}
 use Rattle.pas_answers.proofs.Parts.{of_front, of_back}
 use Rattle.pas_bits.proofs.Runs.{to_meet, met_by}
@@ -284,19 +287,41 @@ full_tidy : (f : Profile) (k : ℕ) (full : Bool) (log log' : List Entry) (noted
 full_tidy f k true log log' noted noted' steps v of h tidy = flush_tidy f k log noted noted' steps v of h.0 tidy
 full_tidy f k false log log' noted noted' steps v of h tidy = tidy_none steps v h.0 tidy
 
-free_tidy : (f : Profile) (k : ℕ) (c c' : Cached) (name : Name) (steps : List Made) (said : Option Said) (v : View) → AreOfRegion f steps → IsFreed f k c c' name steps said → Tidy v → Tidy (steps ++ v)
-free_tidy f k c c' name steps said v of (inl h) tidy = full_tidy f k (nat_le 64 (length c.log)) c.log h.0.logs.kept c.noted c'.noted steps v of h.0.logs.emptied tidy
-free_tidy f k c c' name steps said v of (inr h) tidy = tidy_none steps v h.1.no_steps tidy
+-- a name is logged
+taken_tidy : (f : Profile) (k : ℕ) (c c' : Cached) (entry : Entry) (steps : List Made) (v : View) → AreOfRegion f steps → TakesEntry f k c c' entry steps → Tidy v → Tidy (steps ++ v)
+taken_tidy f k c c' entry steps v of h tidy = full_tidy f k (nat_le 64 (length c.log)) c.log h.logs.kept c.noted c'.noted steps v of h.logs.emptied tidy
 
-freed_tidy : (f : Profile) (k : ℕ) (c c' : Cached) (name : ℕ) (is : Option (Option Name)) (steps : List Made) (said : Option Said) (v : View) → AreOfRegion f steps → IsFreedBy f k c c' name is steps said → Tidy v → Tidy (steps ++ v)
-freed_tidy f k c c' name None steps said v of h tidy = absurd h
-freed_tidy f k c c' name (Some None) steps said v of h tidy = tidy_none steps v h.0 tidy
-freed_tidy f k c c' name (Some (Some block)) steps said v of h tidy = free_tidy f k c c' block steps said v of h tidy
+free_tidy : (f : Profile) (k : ℕ) (c c' : Cached) (entry : Entry) (steps : List Made) (said : Option Said) (v : View) → AreOfRegion f steps → IsFreed f k c c' entry steps said → Tidy v → Tidy (steps ++ v)
+free_tidy f k c c' entry steps said v of (inl h) tidy = taken_tidy f k c c' entry steps v of h.0 tidy
+free_tidy f k c c' entry steps said v of (inr h) tidy = tidy_none steps v h.1.no_steps tidy
+
+freed_tidy : (f : Profile) (k : ℕ) (c c' : Cached) (name : ℕ) (room : Option ℕ) (is : Option (Option Block)) (steps : List Made) (said : Option Said) (v : View) → AreOfRegion f steps → IsFreedBy f k c c' name room is steps said → Tidy v → Tidy (steps ++ v)
+freed_tidy f k c c' name room None steps said v of h tidy = absurd h
+freed_tidy f k c c' name room (Some None) steps said v of h tidy = tidy_none steps v h.0 tidy
+freed_tidy f k c c' name room (Some (Some block)) steps said v of h tidy = free_tidy f k c c' (entry_with block.name room) steps said v of h tidy
+
+-- .. or nothing was, since the request was refused
+logged_tidy : (f : Profile) (k : ℕ) (answer : Result Block NoRoom) (c c' : Cached) (entry : Entry) (steps : List Made) (v : View) → AreOfRegion f steps → MatchResult answer (λ block. TakesEntry f k c c' entry steps) (λ room. (steps ≡ []) × (c' ≡ c)) → Tidy v → Tidy (steps ++ v)
+logged_tidy f k (Ok block) c c' entry steps v of h tidy = taken_tidy f k c c' entry steps v of h tidy
+logged_tidy f k (Err room) c c' entry steps v of h tidy = tidy_none steps v h.0 tidy
+
+-- a block is kept or replaced
+remade_tidy : (f : Profile) (k name size align : ℕ) (is : Option (Option Block)) (b : Having) (a : Answer) → IsRemadeBy f k name size align is b a → AreOfRegion f a.steps → Tidy b.view → Tidy (a.steps ++ b.view)
+remade_tidy f k name size align None b a h of tidy = absurd h
+remade_tidy f k name size align (Some None) b a h of tidy = tidy_none a.steps b.view h.0 tidy
+remade_tidy f k name size align (Some (Some old)) b a (inl kept) of tidy = tidy_none a.steps b.view kept.no_steps tidy
+remade_tidy f k name size align (Some (Some old)) b a (inr h) of tidy =
+    let freed = of_front f h.freed h.placed.steps (subst (AreOfRegion f) h.steps_are of) in
+    tidy_both a.steps h.freed h.placed.steps b.view h.steps_are
+    (logged_tidy f k h.served.answer h.placed.cache a.cache (entry_of old.name) h.freed (h.placed.steps ++ b.view) freed h.logged (tidy_over allocating refl h.placed.steps b.view h.served.kinds tidy))
 
 pub answer_tidy : (f : Profile) (k : ℕ) (what : What) (b : Having) (a : Answer) → IsAnswered f k what b a → AreOfRegion f a.steps → Tidy b.view → Tidy (a.steps ++ b.view)
 answer_tidy f k (What.Alloc name heap size align) b a h of tidy = tidy_over allocating refl a.steps b.view h.kinds tidy
-answer_tidy f k (What.Free name) b a h of tidy = freed_tidy f k b.cache a.cache name (standing_for b.names name) a.steps a.said b.view of h.0 tidy
-answer_tidy f k (What.Raw block) b a h of tidy = free_tidy f k b.cache a.cache block a.steps a.said b.view of h.0 tidy
+answer_tidy f k (What.FreeSized name room) b a h of tidy = freed_tidy f k b.cache a.cache name (Some room) (standing_for b.names name) a.steps a.said b.view of h.0 tidy
+answer_tidy f k (What.RawSized room block) b a h of tidy = free_tidy f k b.cache a.cache (sized_entry block room) a.steps a.said b.view of h.0 tidy
+answer_tidy f k (What.Free name) b a h of tidy = freed_tidy f k b.cache a.cache name None (standing_for b.names name) a.steps a.said b.view of h.0 tidy
+answer_tidy f k (What.Raw block) b a h of tidy = free_tidy f k b.cache a.cache (entry_of block) a.steps a.said b.view of h.0 tidy
+answer_tidy f k (What.Remake name old heap size align) b a h of tidy = remade_tidy f k name size align (standing_for b.names old) b a h of tidy
 answer_tidy f k What.Flush b a h of tidy = flush_tidy f k b.cache.log b.cache.noted a.cache.noted a.steps b.view of h.0.empties tidy
 answer_tidy f k What.Stop b a h of tidy = stop_tidy f k b.cache a.cache a.steps b.view of h.0 tidy
 answer_tidy f k what b a h of tidy = absurd h

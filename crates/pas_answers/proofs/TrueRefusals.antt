@@ -1,5 +1,6 @@
 -- In a replay whose pieces stand together in a legal list each refusal is true of the whole state, and each run that was named serves exactly where it is whole.
-use Rattle.std.proofs.Common.{◌≡◌, ℕ, List, [], ◌∷◌, ◌++◌, Option, Result, Ok, Err, MatchResult, refl, sym, subst}
+use Rattle.std.proofs.Common.{◌≡◌, ℕ, ◌<◌, inl, inr, List, [], ◌∷◌, ◌++◌, Option, Some, None, Result, Ok, Err, MatchResult, refl, sym, subst}
+use Rattle.std.specs.Prelude.{MatchOption}
 use Rattle.pas_profile.specs.Profiles.{IsValid, IsAdmitted}
 use Rattle.pas_profile.specs.declared.event.NoRoom.{NoRoom}
 use Rattle.pas_profile.specs.declared.name.Block.{Block}
@@ -7,20 +8,20 @@ use Rattle.pas_profile.specs.declared.profile.Profile.{Profile}
 use Rattle.pas_steps.specs.Desks.{triples}
 use Rattle.pas_steps.specs.Lists.{Whole, part, Legal}
 use Rattle.pas_steps.specs.declared.step.Made.{Made}
-use Rattle.pas_core.proofs.OneActor.{legal_before}
+use Rattle.pas_core.proofs.OneActor.{legal_before, legal_earlier}
 use Rattle.pas_trace.specs.EveryPlan.{asked_after}
 use Rattle.pas_trace.specs.declared.plan.What.{What}
-use Rattle.pas_trace.specs.declared.plan.What.TheVariants.{Alloc}
+use Rattle.pas_trace.specs.declared.plan.What.TheVariants.{Alloc, Remake}
 use Rattle.pas_cache.specs.Caches.{Cached, AtRest}
-use Rattle.pas_cache.specs.Refusals.{IsTrulyRefused}
+use Rattle.pas_cache.specs.Refusals.{IsTrulyRefused, TakesWhatIsNamed}
 use Rattle.pas_cache.specs.Serves.{wanted_for, ServesRequest}
 use Rattle.pas_cache.proofs.Alone.{truly_refused, takes_named}
 use Rattle.pas_trace.specs.Acts.{Act, Operates, Ticks}
-use Rattle.pas_answers.specs.Answers.{Having, having, Answer, IsAnswered, Progress}
+use Rattle.pas_answers.specs.Answers.{Having, having, Answer, standing_for, wanted_by, request_for, IsReplaced, IsRemadeBy, IsAnswered, Progress}
 use Rattle.pas_answers.specs.Reaching.{Reaches}
 use Rattle.pas_answers.proofs.Reached.{was_so}
 use Rattle.pas_answers.specs.Fit.{IsFitWhat, AreFit}
-use Rattle.pas_answers.specs.Refusals.{RefusesTruly, AllRefuseTruly}
+use Rattle.pas_answers.specs.Refusals.{request_in_remade, RefusesTruly, AllRefuseTruly}
 use Rattle.pas_answers.specs.Indexes.{TakesItsRun, AllTakeTheirRuns}
 
 -- ---- one operation
@@ -29,9 +30,35 @@ request_refuses : (f : Profile) (k heap size align : ℕ) (c c' : Cached) (l : W
 request_refuses f k heap size align c c' l steps found (Ok block) valid admitted rest legal serves = tt
 request_refuses f k heap size align c c' l steps found (Err room) valid admitted rest legal serves = truly_refused f heap size align k found c c' l steps room valid admitted rest legal serves
 
+-- where a block is replaced, of a request in a heap of the region
+module _ (f : Profile) (k name size align : ℕ) (b : Having) (a : Answer) (l : Whole) (valid : IsValid f) (own : part k l ≡ b.view) (legal : Legal f (triples k a.steps ++ l)) where
+  placed_legal : (old : Block) (h : IsReplaced f k (request_for old name size align) old b a) → Legal f (triples k h.placed.steps ++ l)
+  placed_legal old h = legal_earlier f k h.freed h.placed.steps l (subst (λ (ms : List Made). Legal f (triples k ms ++ l)) h.steps_are legal)
+
+  remade_refuses : (o : Option (Option Block)) → ((heap : ℕ) → heap < f.heaps → IsAdmitted f size align heap) → (is : IsRemadeBy f k name size align o b a)
+      → MatchOption (request_in_remade f k name size align o b a is) (Unit {0}) (λ s. MatchResult s.served.answer (λ block. Unit {0}) (IsTrulyRefused f (wanted_by f s.request) b.cache.locals l (triples k s.placed.steps ++ l)))
+  remade_refuses None admitted is = tt
+  remade_refuses (Some None) admitted is = tt
+  remade_refuses (Some (Some old)) admitted (inl kept) = tt
+  remade_refuses (Some (Some old)) admitted (inr h) = request_refuses f k old.heap size align b.cache h.placed.cache l h.placed.steps h.placed.found h.served.answer valid (admitted old.heap h.of_region)
+      (subst (AtRest f b.cache) (sym own) h.served.rest) (placed_legal old h) h.served.serves
+
+  remade_takes : (o : Option (Option Block)) (is : IsRemadeBy f k name size align o b a)
+      → MatchOption (request_in_remade f k name size align o b a is) (Unit {0}) (λ s. TakesWhatIsNamed f (wanted_by f s.request) s.placed.found l s.placed.steps s.served.answer)
+  remade_takes None is = tt
+  remade_takes (Some None) is = tt
+  remade_takes (Some (Some old)) (inl kept) = tt
+  remade_takes (Some (Some old)) (inr h) = takes_named f old.heap size align k h.placed.found b.cache h.placed.cache l h.placed.steps h.served.answer valid (subst (AtRest f b.cache) (sym own) h.served.rest) (placed_legal old h) h.served.serves
+
+-- a request that is admitted in one heap is so in each
+in_each_heap : (f : Profile) (size align heap : ℕ) → IsAdmitted f size align heap → (other : ℕ) → other < f.heaps → IsAdmitted f size align other
+in_each_heap f size align heap admitted other of = record { within = admitted.within; aligned = admitted.aligned; of_profile = of }
+
 operation_refuses : (f : Profile) (k limit : ℕ) (asked : List ℕ) (what : What) (b : Having) (a : Answer) (l : Whole) → IsValid f → part k l ≡ b.view → IsFitWhat f limit asked what → Legal f (triples k a.steps ++ l) → (is : IsAnswered f k what b a) → RefusesTruly f k what b a is l
 operation_refuses f k limit asked (Alloc name heap size align) b a l valid own fit legal is =
-    request_refuses f k heap size align b.cache a.cache l a.steps a.found is.answer valid fit.1 (subst (AtRest f b.cache) (sym own) is.rest) legal is.serves
+    request_refuses f k heap size align b.cache a.cache l a.steps a.found is.answer valid fit.1.0 (subst (AtRest f b.cache) (sym own) is.rest) legal is.serves
+operation_refuses f k limit asked (Remake name old heap size align) b a l valid own fit legal is =
+    remade_refuses f k name size align b a l valid own legal (standing_for b.names old) (in_each_heap f size align heap fit.1.0) is
 operation_refuses f k limit asked what b a l valid own fit legal is = tt
 
 -- ---- all acts
@@ -47,6 +74,7 @@ all_refuse f limit asked (act ∷ acts) p q valid fit legal is = (tt, all_refuse
 -- ---- the runs that were named
 takes_run : (f : Profile) (k : ℕ) (what : What) (b : Having) (a : Answer) (l : Whole) → IsValid f → part k l ≡ b.view → Legal f (triples k a.steps ++ l) → (is : IsAnswered f k what b a) → TakesItsRun f k what b a is l
 takes_run f k (Alloc name heap size align) b a l valid own legal is = takes_named f heap size align k a.found b.cache a.cache l a.steps is.answer valid (subst (AtRest f b.cache) (sym own) is.rest) legal is.serves
+takes_run f k (Remake name old heap size align) b a l valid own legal is = remade_takes f k name size align b a l valid own legal (standing_for b.names old) is
 takes_run f k what b a l valid own legal is = tt
 
 pub all_take : (f : Profile) (acts : List Act) (p q : Progress) → IsValid f → Legal f q.list → (is : Reaches f acts p q) → AllTakeTheirRuns f acts p q is

@@ -1,5 +1,5 @@
 -- Which steps and records answer an operation, and how far a replay has come after an act.
-use Rattle.std.specs.Prelude.{ℕ, ◌+◌, ◌/◌, ◌%◌, ◌≡◌, ◌≤◌, ◌==◌, ◌⊎◌, true, if◌then◌else◌, List, [], ◌∷◌, ◌++◌, map, max, reverse, Option, None, Some, Result, Ok, Err, MatchResult}
+use Rattle.std.specs.Prelude.{ℕ, ◌+◌, ◌/◌, ◌%◌, ◌≡◌, ◌<◌, ◌≤◌, ◌==◌, ◌&&◌, ◌⊎◌, Bool, true, false, nat_le, if◌then◌else◌, List, [], ◌∷◌, ◌++◌, map, max, reverse, Option, None, Some, Result, Ok, Err, MatchResult}
 use Rattle.std.specs.List.{AllByRecursion}
 use Rattle.pas_profile.specs.declared.directory.Directory.{Directory}
 use Rattle.pas_profile.specs.declared.directory.Route.{Route}
@@ -23,8 +23,8 @@ use Rattle.pas_steps.specs.declared.step.Made.{Made}
 use Rattle.pas_steps.specs.declared.step.Step.TheVariants.{Look}
 use Rattle.pas_steps.specs.declared.step.Step.TheVariants as Step
 use Rattle.pas_trace.specs.declared.plan.What.{What}
-use Rattle.pas_trace.specs.declared.plan.What.TheVariants.{Alloc, Free, Raw, Flush, Stop, Tick, Pass, Idle}
-pub use Rattle.pas_trace.specs.Named.{Named, named, standing_for}
+use Rattle.pas_trace.specs.declared.plan.What.TheVariants.{Alloc, Free, FreeSized, Raw, RawSized, Remake, Flush, Stop, Tick, Pass, Idle}
+pub use Rattle.pas_answers.specs.Named.{Named, named, standing_for}
 use Rattle.pas_trace.specs.declared.item.Request.{Request}
 use Rattle.pas_report.specs.declared.record.Record.{Record}
 use Rattle.pas_report.specs.declared.record.Said.{Said}
@@ -33,7 +33,8 @@ use Rattle.pas_cache.specs.Changes.{EmptiesLog, StopsEach}
 use Rattle.pas_steps.specs.Kinds.{Only}
 use Rattle.pas_cache.specs.Kinds.{allocating, releasing}
 use Rattle.pas_cache.specs.Serves.{Wanted, wanted_for, ServesRequest, IsPreparing, IsPlaced, IsDeedOf}
-use Rattle.pas_free_log.specs.Logs.{entry_of}
+use Rattle.pas_free_log.specs.declared.log.Entry.{Entry}
+use Rattle.pas_free_log.specs.Logs.{entry_of, sized_entry}
 use Rattle.pas_cache.specs.Calls.{TakesEntry, RefusesName}
 use Rattle.pas_passes.specs.Records.{records_of_pass}
 
@@ -88,9 +89,9 @@ said_of_request name (Ok block) = None
 said_of_request name (Err room) = Some (said_of_room name room)
 
 -- the block that its name stands for from then on
-abbrev pub name_of : Result Block NoRoom → Option Name
-name_of (Ok block) = Some block.name
-name_of (Err room) = None
+abbrev pub block_of : Result Block NoRoom → Option Block
+block_of (Ok block) = Some block
+block_of (Err room) = None
 
 -- what it comes to for the caches
 abbrev pub wanted_by : Profile → Request → Wanted
@@ -126,25 +127,72 @@ pub record IsServed (f : Profile) (k : ℕ) (r : Request) (before : Having) (aft
   pub kinds : Only allocating after.steps
   pub ends : RequestEnds k (wanted_by f r) before.view after.steps answer
   pub said_is : after.said ≡ said_of_request r.name answer
-  pub names_are : after.names ≡ named r.name (name_of answer) ∷ before.names
+  pub names_are : after.names ≡ named r.name (block_of answer) ∷ before.names
 
 -- ---- a free
 abbrev pub said_of_fault : Name → FreeFault → Said
 said_of_fault name Outside = Said.Outside name
 said_of_fault name Unaligned = Said.Unaligned name
 
--- the name is logged, after a full log was emptied; or it can't be any block's, which is said
-abbrev pub IsFreed : Profile → ℕ → Cached → Cached → Name → List Made → Option Said → Type 0
-IsFreed f k c c' name steps said =
-    (TakesEntry f k c c' (entry_of name) steps × (said ≡ None))
-    ⊎ ((fault : FreeFault) × RefusesName f c c' name steps fault × (said ≡ Some (said_of_fault name fault)))
+-- the room that an entry notes of a free that names this one, or none
+abbrev pub room_noted : Option ℕ → ℕ
+room_noted None = 0
+room_noted (Some room) = room
 
--- what a free by a name of the trace comes to: the name was never asked for (which no trace has), its request was refused, or it stands for a
--- block
-abbrev pub IsFreedBy : Profile → ℕ → Cached → Cached → ℕ → Option (Option Name) → List Made → Option Said → Type 0
-IsFreedBy f k c c' name None steps said = ⊥
-IsFreedBy f k c c' name (Some None) steps said = (steps ≡ []) × (c' ≡ c) × (said ≡ Some (Said.Skipped name))
-IsFreedBy f k c c' name (Some (Some block)) steps said = IsFreed f k c c' block steps said
+-- the entry of a name, with the room that its free names, if any
+abbrev pub entry_with : Name → Option ℕ → Entry
+entry_with name room = sized_entry name (room_noted room)
+
+-- the entry is logged, after a full log was emptied; or its name can't be any block's, which is said
+abbrev pub IsFreed : Profile → ℕ → Cached → Cached → Entry → List Made → Option Said → Type 0
+IsFreed f k c c' entry steps said =
+    (TakesEntry f k c c' entry steps × (said ≡ None))
+    ⊎ ((fault : FreeFault) × RefusesName f c c' entry.name steps fault × (said ≡ Some (said_of_fault entry.name fault)))
+
+-- what a free by a name of the trace comes to, which may name a room: the name was never asked for (which no trace has), its request was refused, or it
+-- stands for a block
+abbrev pub IsFreedBy : Profile → ℕ → Cached → Cached → ℕ → Option ℕ → Option (Option Block) → List Made → Option Said → Type 0
+IsFreedBy f k c c' name room None steps said = ⊥
+IsFreedBy f k c c' name room (Some None) steps said = (steps ≡ []) × (c' ≡ c) × (said ≡ Some (Said.Skipped name))
+IsFreedBy f k c c' name room (Some (Some block)) steps said = IsFreed f k c c' (entry_with block.name room) steps said
+
+-- ---- another size for a block
+-- whether the block has room for so many bytes, where none count as one, and stands at a multiple of the alignment
+abbrev pub suits : Block → ℕ → ℕ → Bool
+suits old size align = nat_le (max size 1) old.room && (address_of old.name % align == 0)
+
+-- The block suits the request as it is: nothing is done, which is said, and the new name stands for it as the old one does.
+pub record IsKept (r : Request) (old : Block) (before : Having) (after : Answer) : Type 0 where
+  pub suited : suits old r.size r.align ≡ true
+  pub no_steps : after.steps ≡ []
+  pub cache : after.cache ≡ before.cache
+  pub said_is : after.said ≡ Some (Said.Kept old.name r.name)
+  pub names_are : after.names ≡ named r.name (Some old) ∷ before.names
+
+-- It doesn't suit. The request for another block of its heap is answered as any request is. Where it is served, the old name is logged then, without a room,
+-- as the last one; where it is refused, nothing is logged, and the old name stands for its block as before.
+pub record IsReplaced (f : Profile) (k : ℕ) (r : Request) (old : Block) (before : Having) (after : Answer) : Type 0 where
+  pub unsuited : suits old r.size r.align ≡ false
+  pub of_region : r.heap < f.heaps
+  pub placed : Answer
+  pub served : IsServed f k r before placed
+  pub freed : List Made
+  pub logged : MatchResult served.answer (λ block. TakesEntry f k placed.cache after.cache (entry_of old.name) freed) (λ room. (freed ≡ []) × (after.cache ≡ placed.cache))
+  pub steps_are : after.steps ≡ freed ++ placed.steps
+  pub said_is : after.said ≡ placed.said
+  pub found_is : after.found ≡ placed.found
+  pub names_are : after.names ≡ placed.names
+
+-- the request that is made where the block doesn't suit: for another block of its heap
+abbrev pub request_for : Block → ℕ → ℕ → ℕ → Request
+request_for old name size align = record { name = name; heap = old.heap; size = size; align = align }
+
+-- what a reallocation comes to, where the old name was never asked for (which no trace has), where its own request was refused, so that the new name counts as
+-- refused too, or where it stands for a block
+abbrev pub IsRemadeBy : Profile → ℕ → ℕ → ℕ → ℕ → Option (Option Block) → Having → Answer → Type 0
+IsRemadeBy f k name size align None b a = ⊥
+IsRemadeBy f k name size align (Some None) b a = (a.steps ≡ []) × (a.cache ≡ b.cache) × (a.said ≡ Some (Said.Skipped name)) × (a.names ≡ named name None ∷ b.names)
+IsRemadeBy f k name size align (Some (Some old)) b a = IsKept (request_for old name size align) old b a ⊎ IsReplaced f k (request_for old name size align) old b a
 
 -- ---- a flush and a stop
 pub record IsFlushed (k : ℕ) (c c' : Cached) (steps : List Made) : Type 0 where
@@ -166,8 +214,11 @@ pub record IsStopped (k : ℕ) (c c' : Cached) (steps : List Made) : Type 0 wher
 -- An operation of thread k is answered so. Those of the scavenger are acts of their own.
 abbrev pub IsAnswered : Profile → ℕ → What → Having → Answer → Type 0
 IsAnswered f k (Alloc name heap size align) b a = IsServed f k (record { name = name; heap = heap; size = size; align = align }) b a
-IsAnswered f k (Free name) b a = IsFreedBy f k b.cache a.cache name (standing_for b.names name) a.steps a.said × (a.names ≡ b.names)
-IsAnswered f k (Raw block) b a = IsFreed f k b.cache a.cache block a.steps a.said × (a.names ≡ b.names)
+IsAnswered f k (Free name) b a = IsFreedBy f k b.cache a.cache name None (standing_for b.names name) a.steps a.said × (a.names ≡ b.names)
+IsAnswered f k (FreeSized name room) b a = IsFreedBy f k b.cache a.cache name (Some room) (standing_for b.names name) a.steps a.said × (a.names ≡ b.names)
+IsAnswered f k (Raw block) b a = IsFreed f k b.cache a.cache (entry_of block) a.steps a.said × (a.names ≡ b.names)
+IsAnswered f k (RawSized room block) b a = IsFreed f k b.cache a.cache (sized_entry block room) a.steps a.said × (a.names ≡ b.names)
+IsAnswered f k (Remake name old heap size align) b a = IsRemadeBy f k name size align (standing_for b.names old) b a
 IsAnswered f k Flush b a = IsFlushed k b.cache a.cache a.steps × (a.said ≡ None) × (a.names ≡ b.names)
 IsAnswered f k Stop b a = IsStopped k b.cache a.cache a.steps × (a.said ≡ None) × (a.names ≡ b.names)
 IsAnswered f k (Tick e) b a = ⊥

@@ -1,7 +1,6 @@
 -- What one operation asks and promises.
 use Rattle.std.specs.Prelude.{ℕ, ◌+◌, ◌-◌, ◌^◌, ◌<◌, ◌≤◌, ◌≡◌, true, false, List, [], ◌∷◌, ◌++◌, length, Option, None, Some, MatchOption, option_and_then, Result, Ok, Err, MatchResult}
 use Rattle.pas_profile.specs.declared.profile.Profile.{Profile}
-use Rattle.pas_profile.specs.declared.name.Name.{Name}
 use Rattle.pas_steps.specs.Views.{View}
 use Rattle.pas_steps.specs.Agreement.{Agreed}
 use Rattle.pas_steps.specs.Events.{events_by}
@@ -11,16 +10,18 @@ use Rattle.pas_steps.specs.declared.step.Made.{Made}
 use Rattle.pas_trace.specs.Asked.{request_in, freed_in}
 use Rattle.pas_trace.specs.EveryPlan.{is_asked}
 use Rattle.pas_trace.specs.declared.plan.What.{What}
-use Rattle.pas_trace.specs.declared.plan.What.TheVariants.{Alloc, Free, Raw, Flush, Stop}
+use Rattle.pas_trace.specs.declared.plan.What.TheVariants.{Alloc, Free, FreeSized, Raw, RawSized, Remake, Flush, Stop}
 use Rattle.pas_trace.specs.declared.plan.Task.{Task}
 use Rattle.pas_trace.specs.declared.item.Request.{Request}
 use Rattle.pas_report.specs.Rooms.{records_in, room_of, Records}
 use Rattle.pas_report.specs.declared.record.Said.{Said}
+use Rattle.pas_free_log.specs.declared.log.Entry.{Entry}
 use Rattle.pas_cache.specs.Caches.{Cached, AtRest}
 use Rattle.pas_profile.specs.declared.event.NoRoom.{NoRoom}
 use Rattle.pas_profile.specs.declared.name.Block.{Block}
 use Rattle.pas_steps.specs.Kinds.{Only}
 use Rattle.pas_cache.specs.Calls.{Rests}
+use Rattle.pas_cache.specs.Names.{IsInRegion}
 use Rattle.pas_cache.specs.Kinds.{allocating}
 use Rattle.pas_cache.specs.Serves.{Wanted, ServesRequest, IsBlockFor, MakesAtMost}
 use Rattle.pas_steps.specs.Unknown.{unknown_pages}
@@ -32,14 +33,17 @@ use Rattle.pas_answers.specs.declared.names.Names.{Names}
 -- ---- the operation that asks its thread for this
 abbrev pub what_of : Task → What
 what_of (Task.Request name heap size align) = Alloc name heap size align
-what_of (Task.Free name) = Free name
-what_of (Task.FreeRaw block) = Raw block
+what_of (Task.Free name None) = Free name
+what_of (Task.Free name (Some room)) = FreeSized name room
+what_of (Task.FreeRaw block None) = Raw block
+what_of (Task.FreeRaw block (Some room)) = RawSized room block
+what_of (Task.Remake name old heap size align) = Remake name old heap size align
 what_of Task.Flush = Flush
 what_of Task.Stop = Stop
 
 -- ---- the table of names
 -- the block that a name stands for, where it stands for one
-abbrev pub block_behind : Option (Option Name) → Option Name
+abbrev pub block_behind : Option (Option Block) → Option Block
 block_behind None = None
 block_behind (Some block) = block
 
@@ -47,40 +51,47 @@ block_behind (Some block) = block
 abbrev pub Tells : Names → List Named → Type 0
 Tells table names = (n : ℕ) → block_named table n ≡ block_behind (standing_for names n)
 
--- the turn of each block in it has a next one
-abbrev pub HasTurns : Names → Type 0
-HasTurns table = (n : ℕ) (block : Name) → block_named table n ≡ Some block → block.turn < 2 ^ 40 - 1
+-- A block as one may be freed or replaced: its address is a multiple of 16 on a page of the region, its heap is one of the region's, and its turn has a
+-- next one.
+pub record IsBlockOf (f : Profile) (block : Block) : Type 0 where
+  pub region : IsInRegion f block.name
+  pub heap : block.heap < f.heaps
+  pub turn : block.name.turn < 2 ^ 40 - 1
 
--- the block, where there is one, has a next turn
-abbrev pub HasTurn : Option Name → Type 0
-HasTurn found = (block : Name) → found ≡ Some block → block.turn < 2 ^ 40 - 1
+-- what a name may stand for: nothing, or such a block
+abbrev pub MayStand : Profile → Option Block → Type 0
+MayStand f found = (block : Block) → found ≡ Some block → IsBlockOf f block
+
+-- .. each name of the table
+abbrev pub AllMayStand : Profile → Names → Type 0
+AllMayStand f table = (n : ℕ) → MayStand f (block_named table n)
 
 -- the names that were asked for stand for something
 abbrev pub AreKnown : List ℕ → List Named → Type 0
-AreKnown asked names = (n : ℕ) → is_asked asked n ≡ true → (block : Option Name) × (standing_for names n ≡ Some block)
+AreKnown asked names = (n : ℕ) → is_asked asked n ≡ true → (block : Option Block) × (standing_for names n ≡ Some block)
 
 -- a name that wasn't asked for stands for nothing
 abbrev pub OnlyAsked : List ℕ → List Named → Type 0
 OnlyAsked asked names = (n : ℕ) → is_asked asked n ≡ false → standing_for names n ≡ None
 
--- a name that is freed was asked for
+-- a name that is freed or reallocated was asked for
 abbrev pub IsKnown : List Named → What → Type 0
-IsKnown names what = MatchOption (freed_in what) (Unit {0}) (λ name. (block : Option Name) × (standing_for names name ≡ Some block))
+IsKnown names what = MatchOption (freed_in what) (Unit {0}) (λ name. (block : Option Block) × (standing_for names name ≡ Some block))
 
--- the name that the operation frees stands for this
-abbrev pub IsMeant : List Named → What → Option Name → Type 0
+-- the name that the operation frees or reallocates stands for this
+abbrev pub IsMeant : List Named → What → Option Block → Type 0
 IsMeant names what meant = MatchOption (freed_in what) (Unit {0}) (λ name. block_behind (standing_for names name) ≡ meant)
 
 -- the name that the operation asks for, with what it came to
-abbrev pub named_with : Option Request → Option Name → List Named
+abbrev pub named_with : Option Request → Option Block → List Named
 named_with None came = []
 named_with (Some request) came = named request.name came ∷ []
 
-abbrev pub named_by : What → Option Name → List Named
+abbrev pub named_by : What → Option Block → List Named
 named_by what came = named_with (request_in what) came
 
--- what the name that the operation frees stands for, by what each name stands for
-abbrev pub freed_by : (ℕ → Option Name) → What → Option Name
+-- what the name that the operation frees or reallocates stands for, by what each name stands for
+abbrev pub freed_by : (ℕ → Option Block) → What → Option Block
 freed_by block what = option_and_then block (freed_in what)
 
 -- ---- what is owed in the end
@@ -97,7 +108,7 @@ pub record MayPerform (f : Profile) (c : Cached) (what : What) (spare : ℕ) (v 
 
 -- The steps and what is said answer the operation, with the run that was named for it, of which the freed name stands for `meant`, and the asked one for
 -- `came` from then on. The actor is at rest again. The events and what is said are paid for.
-pub record PerformsMeant (what : What) (meant came : Option Name) (c c' : Cached) (desk desk' : Standing) (said : Option Said) : Type 0 where
+pub record PerformsMeant (what : What) (meant came : Option Block) (c c' : Cached) (desk desk' : Standing) (said : Option Said) : Type 0 where
   pub steps : List Made
   pub found : Option ℕ
   pub calls : Rests c c' desk desk' steps
@@ -122,13 +133,13 @@ pub record Serves (cost : ℕ) (wanted : Wanted) (found : Option ℕ) (c c' : Ca
   pub outcome : MatchResult answer (IsBlockFor desk.seat.profile wanted (AtRest desk.seat.profile c) steps) (λ room. (k : ℕ) (v : View) → RefusalEnds wanted.route wanted.directory (events_by k v steps))
   pub log_is : c'.log ≡ c.log
 
--- a free by name and turn
-pub record FreesOne (block : Name) (c c' : Cached) (desk desk' : Standing) (said : Option Said) : Type 0 where
+-- a free by name and turn, and by the room that it names, if any
+pub record FreesOne (entry : Entry) (c c' : Cached) (desk desk' : Standing) (said : Option Said) : Type 0 where
   pub steps : List Made
   pub calls : Rests c c' desk desk' steps
   pub few : (v : View) → AtRest desk.seat.profile c v → Agreed desk.seat.profile v steps
       → length (events_by desk.seat.actor v steps) + length (said_by desk.seat.actor said) + owed_events desk.seat.profile c' (steps ++ v) ≤ 1 + owed_events desk.seat.profile c v
-  pub freed : IsFreed desk.seat.profile desk.seat.actor c c' block steps said
+  pub freed : IsFreed desk.seat.profile desk.seat.actor c c' entry steps said
 
 -- .. and there is room for its records
 pub record MayAnswer (f : Profile) (c : Cached) (what : What) (spare : ℕ) (out : Records) (v : View) : Type 0 where
@@ -136,7 +147,7 @@ pub record MayAnswer (f : Profile) (c : Cached) (what : What) (spare : ℕ) (out
   pub records : length (records_in out) + (cost_of_what what + owed_events f c v) ≤ room_of out
 
 -- .. and the records of the events of the steps, and then what is said, come to the end
-pub record AnswersMeant (what : What) (meant came : Option Name) (c c' : Cached) (out out' : Records) (desk desk' : Standing) : Type 0 where
+pub record AnswersMeant (what : What) (meant came : Option Block) (c c' : Cached) (out out' : Records) (desk desk' : Standing) : Type 0 where
   pub said : Option Said
   pub performs : PerformsMeant what meant came c c' desk desk' said
   pub pushed : (v : View) (l : Whole) → desk.stands v l → AtRest desk.seat.profile c v

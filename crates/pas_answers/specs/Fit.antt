@@ -1,9 +1,8 @@
 -- What the acts of a plan keep, one after the other, and how many events and records they may make.
-use Rattle.std.specs.Prelude.{ℕ, ◌+◌, ◌^◌, ◌<◌, ◌≤◌, ◌≡◌, ◌==◌, false, if◌then◌else◌, List, [], ◌∷◌, Option, None, Some, MatchOption}
-use Rattle.pas_profile.specs.Profiles.{IsAdmitted}
+use Rattle.std.specs.Prelude.{ℕ, ◌+◌, ◌^◌, ◌<◌, ◌≤◌, ◌≡◌, ◌==◌, if◌then◌else◌, List, [], ◌∷◌, Option, None, Some, MatchOption}
 use Rattle.pas_profile.specs.declared.profile.Profile.{Profile}
 use Rattle.pas_trace.specs.Asked.{work_of, request_of, cost_of_task}
-use Rattle.pas_trace.specs.EveryPlan.{is_asked, asked_after, IsThread, IsSoundTask}
+use Rattle.pas_trace.specs.EveryPlan.{asked_after, IsThread, IsSoundTask}
 pub use Rattle.pas_trace.specs.EveryPlan.{IsBelow, AreBelow}
 use Rattle.pas_trace.specs.declared.plan.What.{What}
 use Rattle.pas_trace.specs.declared.plan.Task.{Task}
@@ -11,10 +10,9 @@ use Rattle.pas_trace.specs.declared.plan.Work.{Work}
 use Rattle.pas_trace.specs.declared.plan.Op.{Op}
 use Rattle.pas_trace.specs.Acts.{Act, Operates, Settles, Ticks, MakesPass, ReadsEpoch, StopsIdle, MarksPhase, Wakes, MarksClose, Ends, operation_in}
 
--- A thread's operation can be replayed after those that asked for these names. A request has a new name below the limit, a free has one of those that were
--- asked for, and a turn has a next one.
+-- A thread's operation can be replayed after those that asked for these names: it may follow them, and a name that it asks for is below the limit.
 abbrev pub IsFitTask : Profile → ℕ → List ℕ → Task → Type 0
-IsFitTask f limit asked task = MatchOption (request_of task) (IsSoundTask f asked task) (λ r. (r.name < limit) × IsAdmitted f r.size r.align r.heap × (is_asked asked r.name ≡ false))
+IsFitTask f limit asked task = MatchOption (request_of task) (Unit {0}) (λ r. r.name < limit) × IsSoundTask f asked task
 
 abbrev pub IsFitWork : Profile → ℕ → List ℕ → Work → Type 0
 IsFitWork f limit asked (Work.Own task) = IsFitTask f limit asked task

@@ -1,27 +1,48 @@
 -- The indexes of the heaps in a replay: which runs of pages they name, what they hold after each act, and when what they name serves.
-use Rattle.std.specs.Prelude.{ℕ, ◌≡◌, List, [], ◌∷◌, Option}
+use Rattle.std.specs.Prelude.{ℕ, ◌≡◌, Bool, true, false, List, [], ◌∷◌, Option, None, Some, MatchOption}
 use Rattle.pas_profile.specs.Requests.{route_in}
 use Rattle.pas_profile.specs.declared.directory.Route.{Route}
+use Rattle.pas_profile.specs.declared.name.Block.{Block}
 use Rattle.pas_profile.specs.declared.profile.Profile.{Profile}
 use Rattle.pas_steps.specs.Lists.{Whole, part}
 use Rattle.pas_large.specs.Doors.{Indexes, no_ranges, found_in, cut_in, added_in}
 use Rattle.pas_free_log.specs.declared.noting.EndedRun.{EndedRun}
 use Rattle.pas_trace.specs.declared.plan.What.{What}
-use Rattle.pas_trace.specs.declared.plan.What.TheVariants.{Alloc}
+use Rattle.pas_trace.specs.declared.plan.What.TheVariants.{Alloc, Remake}
+use Rattle.pas_trace.specs.declared.item.Request.{Request}
 use Rattle.pas_trace.specs.Acts.{Act, Operates, Settles}
 use Rattle.pas_cache.specs.Calls.{IsNamed}
 use Rattle.pas_cache.specs.Refusals.{TakesWhatIsNamed}
-use Rattle.pas_cache.specs.Serves.{wanted_for, pages_of}
-use Rattle.pas_answers.specs.Answers.{Having, having, Answer, IsAnswered, Progress}
+use Rattle.pas_cache.specs.Serves.{pages_of}
+use Rattle.pas_answers.specs.Answers.{Having, having, Answer, Named, standing_for, wanted_by, suits, request_for, IsAnswered, Progress}
+use Rattle.pas_answers.specs.Calls.{block_behind, freed_by}
 use Rattle.pas_answers.specs.Reaching.{Advances, Reaches}
+use Rattle.pas_answers.specs.Refusals.{request_in_answer}
 use Rattle.pas_answers.specs.Ways.{Way, InOrder, OnThreads}
 
+-- ---- which requests are made
+-- The request that an operation makes of a heap, where the name that it frees or reallocates stands for this: a reallocation makes one in the heap of the block,
+-- where that doesn't suit.
+abbrev pub unless_suited : Bool → Request → Option Request
+unless_suited true r = None
+unless_suited false r = Some r
+
+abbrev pub request_made : What → Option Block → Option Request
+request_made (Alloc name heap size align) meant = Some record { name = name; heap = heap; size = size; align = align }
+request_made (Remake name old heap size align) None = None
+request_made (Remake name old heap size align) (Some block) = unless_suited (suits block size align) (request_for block name size align)
+request_made what meant = None
+
+-- .. by what names stand for
+abbrev pub request_by : List Named → What → Option Request
+request_by names what = request_made what (freed_by (λ n. block_behind (standing_for names n)) what)
+
 -- ---- what a door is asked
--- What is known of the run that was named for an operation: for a request what its route says, with the door's answer for its heap and number of pages. For
--- every other operation the door isn't asked, and it is so of it that nothing changed.
-abbrev pub IsNamedFor : Profile → (ℕ → ℕ → Option ℕ → Type 0) → Type 0 → What → Option ℕ → Type 0
-IsNamedFor f Answers Same (Alloc name heap size align) found = IsNamed (route_in f size align) (Answers heap (pages_of (wanted_for f heap size align))) Same found
-IsNamedFor f Answers Same what found = Same
+-- What is known of the run that was named for an operation: where it makes a request what the request's route says, with the door's answer for its heap and number
+-- of pages. Where it makes none the door isn't asked, and it is so of it that nothing changed.
+abbrev pub IsNamedFor : Profile → (ℕ → ℕ → Option ℕ → Type 0) → Type 0 → Option Request → Option ℕ → Type 0
+IsNamedFor f Answers Same None found = Same
+IsNamedFor f Answers Same (Some r) found = IsNamed (route_in f r.size r.align) (Answers r.heap (pages_of (wanted_by f r))) Same found
 
 -- ---- what the indexes hold
 -- A request for n whole pages of the heap takes the first n pages of the lowest range of at least n pages out of the heap's index. Another changes none.
@@ -29,9 +50,9 @@ abbrev pub after_request : Route → ℕ → ℕ → Indexes → Indexes
 after_request Route.Large heap n indexes = cut_in indexes heap n
 after_request route heap n indexes = indexes
 
-abbrev pub after_operation : Profile → What → Indexes → Indexes
-after_operation f (Alloc name heap size align) indexes = after_request (route_in f size align) heap (pages_of (wanted_for f heap size align)) indexes
-after_operation f what indexes = indexes
+abbrev pub after_operation : Profile → Option Request → Indexes → Indexes
+after_operation f None indexes = indexes
+after_operation f (Some r) indexes = after_request (route_in f r.size r.align) r.heap (pages_of (wanted_by f r)) indexes
 
 -- the runs that a cache noted are added, each to the index of its heap, in order
 abbrev pub with_noted : Indexes → List EndedRun → Indexes
@@ -40,7 +61,7 @@ with_noted indexes (run ∷ runs) = with_noted (added_in indexes run.heap run.ra
 
 -- after an act: no other act changes an index
 abbrev pub indexes_after : Profile → Act → Progress → Indexes → Indexes
-indexes_after f (Operates op) p indexes = after_operation f op.what indexes
+indexes_after f (Operates op) p indexes = after_operation f (request_by p.names op.what) indexes
 indexes_after f (Settles k) p indexes = with_noted indexes (p.caches k).noted
 indexes_after f act p indexes = indexes
 
@@ -50,11 +71,11 @@ indexes_after_all f (act ∷ acts) p p' is indexes = indexes_after_all f acts is
 
 -- ---- which runs they name
 -- For a request for n whole pages the first n pages of the lowest range of at least n pages were named that the heap's index holds, or none where it has none.
-abbrev pub IsNamedBy : Profile → Indexes → What → Option ℕ → Type 0
-IsNamedBy f indexes what found = IsNamedFor f (λ heap n named. named ≡ found_in indexes heap n) (Unit {0}) what found
+abbrev pub IsNamedBy : Profile → Indexes → Option Request → Option ℕ → Type 0
+IsNamedBy f indexes request found = IsNamedFor f (λ heap n named. named ≡ found_in indexes heap n) (Unit {0}) request found
 
 abbrev pub ActIsNamedBy : (f : Profile) → Indexes → (act : Act) (p p' : Progress) → Advances f act p p' → Type 0
-ActIsNamedBy f indexes (Operates op) p p' is = IsNamedBy f indexes op.what is.0.found
+ActIsNamedBy f indexes (Operates op) p p' is = IsNamedBy f indexes (request_by p.names op.what) is.0.found
 ActIsNamedBy f indexes act p p' is = Unit {0}
 
 -- .. and so at each of several acts, by what the indexes hold then
@@ -67,10 +88,9 @@ abbrev pub ReachesBy : Profile → Indexes → List Act → Progress → Progres
 ReachesBy f indexes acts p p' = (is : Reaches f acts p p') × AllAreNamedBy f indexes acts p p' is
 
 -- ---- whether they serve
--- Where the operation is a request for whole pages for which a run was named, that run serves it exactly where its pages are whole after the list l.
+-- Where the operation makes a request for whole pages for which a run was named, that run serves it exactly where its pages are whole after the list l.
 abbrev pub TakesItsRun : (f : Profile) (k : ℕ) (what : What) (b : Having) (a : Answer) → IsAnswered f k what b a → Whole → Type 0
-TakesItsRun f k (Alloc name heap size align) b a is l = TakesWhatIsNamed f (wanted_for f heap size align) a.found l a.steps is.answer
-TakesItsRun f k what b a is l = Unit {0}
+TakesItsRun f k what b a is l = MatchOption (request_in_answer f k what b a is) (Unit {0}) (λ s. TakesWhatIsNamed f (wanted_by f s.request) s.placed.found l s.placed.steps s.served.answer)
 
 abbrev pub ActTakesItsRun : (f : Profile) (act : Act) (p p' : Progress) → Advances f act p p' → Type 0
 ActTakesItsRun f (Operates op) p p' is = TakesItsRun f op.actor op.what (having p.names (part op.actor p.list) (p.caches op.actor)) is.0 is.1 p.list

@@ -1,3 +1,4 @@
+pub mod Named
 pub mod Answers
 pub mod Reaching
 pub mod Ways
@@ -7,3 +8,4 @@ pub mod Replays
 pub mod Fit
 pub mod Names
 pub mod Calls
+pub mod Moves

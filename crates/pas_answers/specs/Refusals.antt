@@ -1,28 +1,56 @@
 -- Refusals in a replay whose pieces stand together in the list of all steps: each is true of the whole state.
-use Rattle.std.specs.Prelude.{ℕ, List, [], ◌∷◌, ◌++◌, MatchResult}
+use Rattle.std.specs.Prelude.{ℕ, ◌⊎◌, List, [], ◌∷◌, ◌++◌, Option, None, Some, MatchOption, MatchResult}
+use Rattle.std.proofs.Common.{inl, inr}
+use Rattle.pas_profile.specs.declared.name.Block.{Block}
 use Rattle.pas_profile.specs.declared.profile.Profile.{Profile}
 use Rattle.pas_steps.specs.Desks.{triples}
 use Rattle.pas_steps.specs.Lists.{Whole, part}
 use Rattle.pas_trace.specs.declared.plan.What.{What}
-use Rattle.pas_trace.specs.declared.plan.What.TheVariants.{Alloc, Free, Raw, Flush, Stop, Tick, Pass, Idle}
+use Rattle.pas_trace.specs.declared.plan.What.TheVariants.{Alloc, Free, FreeSized, Raw, RawSized, Remake, Flush, Stop, Tick, Pass, Idle}
+use Rattle.pas_trace.specs.declared.item.Request.{Request}
 use Rattle.pas_cache.specs.Refusals.{IsTrulyRefused}
-use Rattle.pas_cache.specs.Serves.{wanted_for}
 use Rattle.pas_trace.specs.Acts.{Act, Operates, Settles, Ticks, MakesPass, ReadsEpoch, StopsIdle, MarksPhase, Wakes, MarksClose, Ends}
-use Rattle.pas_answers.specs.Answers.{Having, having, Answer, IsAnswered, Progress}
+use Rattle.pas_answers.specs.Answers.{Having, having, Answer, standing_for, wanted_by, request_for, IsServed, IsKept, IsReplaced, IsRemadeBy, IsAnswered, Progress}
 use Rattle.pas_answers.specs.Reaching.{Advances, Reaches}
 use Rattle.pas_answers.specs.Ways.{Way, InOrder, OnThreads}
 
--- Where the operation is a request that was refused, it was refused truly: nothing could serve it after the list l, nor can anything once its steps were
+-- ---- the request in an answer
+-- a request that actor k made for an operation, and how it was answered
+pub record Served (f : Profile) (k : ℕ) (b : Having) : Type 0 where
+  pub request : Request
+  pub placed : Answer
+  pub served : IsServed f k request b placed
+
+-- that of a reallocation, where the block was replaced
+abbrev pub request_in_move : (f : Profile) (k : ℕ) (r : Request) (old : Block) (b : Having) (a : Answer) → IsKept r old b a ⊎ IsReplaced f k r old b a → Option (Served f k b)
+request_in_move f k r old b a (inl kept) = None
+request_in_move f k r old b a (inr moved) = Some record { request = r; placed = moved.placed; served = moved.served }
+
+abbrev pub request_in_remade : (f : Profile) (k name size align : ℕ) (o : Option (Option Block)) (b : Having) (a : Answer) → IsRemadeBy f k name size align o b a → Option (Served f k b)
+request_in_remade f k name size align None b a is = None
+request_in_remade f k name size align (Some None) b a is = None
+request_in_remade f k name size align (Some (Some old)) b a is = request_in_move f k (request_for old name size align) old b a is
+
+-- that of an operation, where it made one
+abbrev pub request_in_answer : (f : Profile) (k : ℕ) (what : What) (b : Having) (a : Answer) → IsAnswered f k what b a → Option (Served f k b)
+request_in_answer f k (Alloc name heap size align) b a is = Some record { request = record { name = name; heap = heap; size = size; align = align }; placed = a; served = is }
+request_in_answer f k (Free name) b a is = None
+request_in_answer f k (FreeSized name room) b a is = None
+request_in_answer f k (Raw block) b a is = None
+request_in_answer f k (RawSized room block) b a is = None
+request_in_answer f k (Remake name old heap size align) b a is = request_in_remade f k name size align (standing_for b.names old) b a is
+request_in_answer f k Flush b a is = None
+request_in_answer f k Stop b a is = None
+request_in_answer f k (Tick e) b a is = None
+request_in_answer f k Pass b a is = None
+request_in_answer f k (Idle n) b a is = None
+
+-- ---- refusals
+-- Where the operation made a request that was refused, it was refused truly: nothing could serve it after the list l, nor can anything once its steps were
 -- made, and its reason is true then.
 abbrev pub RefusesTruly : (f : Profile) (k : ℕ) (what : What) (b : Having) (a : Answer) → IsAnswered f k what b a → Whole → Type 0
-RefusesTruly f k (Alloc name heap size align) b a is l = MatchResult is.answer (λ block. Unit {0}) (IsTrulyRefused f (wanted_for f heap size align) b.cache.locals l (triples k a.steps ++ l))
-RefusesTruly f k (Free name) b a is l = Unit {0}
-RefusesTruly f k (Raw block) b a is l = Unit {0}
-RefusesTruly f k Flush b a is l = Unit {0}
-RefusesTruly f k Stop b a is l = Unit {0}
-RefusesTruly f k (Tick e) b a is l = Unit {0}
-RefusesTruly f k Pass b a is l = Unit {0}
-RefusesTruly f k (Idle n) b a is l = Unit {0}
+RefusesTruly f k what b a is l =
+    MatchOption (request_in_answer f k what b a is) (Unit {0}) (λ s. MatchResult s.served.answer (λ block. Unit {0}) (IsTrulyRefused f (wanted_by f s.request) b.cache.locals l (triples k s.placed.steps ++ l)))
 
 -- an act that was answered so, where it is a request
 abbrev pub ActRefusesTruly : (f : Profile) (act : Act) (p p' : Progress) → Advances f act p p' → Type 0

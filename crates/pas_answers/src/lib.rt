@@ -4,6 +4,8 @@
 mod answering;
 mod idle;
 pub mod names;
+mod remaking;
 
-pub use answering::answer_meant;
+pub use answering::{answer_meant, answer_stop};
 pub use idle::is_idle_for;
+pub use remaking::Remake;

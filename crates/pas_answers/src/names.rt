@@ -1,19 +1,24 @@
 //! What the names of a trace stand for.
 ghost use Rattle.std.specs.Prelude.{◌≡◌, ◌<◌, ◌==◌, ℕ, None, if◌then◌else◌, length, IfOk};
-ghost use Rattle.pas_answers.specs.Names.{name_in, block_named, names_held};
+ghost use Rattle.pas_answers.specs.Names.{block_in, block_named, names_held};
 
-use pas_profile::{Address, Name, NoMemory};
+use pas_profile::{Address, Block, Name, NoMemory};
 use std::alloc::Global;
 
-/// What one name of a trace stands for: a block, by its address and turn. It has 16 bytes, where an `Option<Name>` has 24.
+/// What one name of a trace stands for: a block, by its parts. It has 24 bytes, where an `Option<Block>` has 32.
 #[derive(Clone, Copy, Drop)]
 pub enum Meaning {
     /// No request had the name, or the request was refused.
     Nothing,
-    Block { address: Address, turn: u64 },
+    Given {
+        address: Address,
+        turn: u64,
+        room: u32,
+        heap: u8,
+    },
 }
 
-/// What each name of a trace stands for, at the place of the name. 16 bytes a name.
+/// What each name of a trace stands for, at the place of the name. 24 bytes a name.
 #[derive(Drop)]
 pub struct Names {
     meanings: Vec<Meaning>,
@@ -22,24 +27,35 @@ pub struct Names {
 impl Meaning {
     /// That of a block, or of nothing.
     #[inline]
-    pub fn of(block: Option<Name>) -> Meaning
-        ensures { name_in result ≡ block }
+    pub fn of(block: Option<Block>) -> Meaning
+        ensures { block_in result ≡ block }
     {
         match block {
-            Some(Name { address, turn }) => Meaning::Block { address, turn },
+            Some(Block { name, room, heap }) => Meaning::Given {
+                address: name.address,
+                turn: name.turn,
+                room,
+                heap,
+            },
             None => Meaning::Nothing,
         }
     }
 
     /// The block, if any.
     #[inline]
-    pub fn block(&self) -> Option<Name>
-        ensures { result ≡ name_in self.now }
+    pub fn block(self) -> Option<Block>
+        ensures { result ≡ block_in self }
     {
         match self {
-            Meaning::Block { address, turn } => Some(Name {
-                address: *address,
-                turn: *turn,
+            Meaning::Given {
+                address,
+                turn,
+                room,
+                heap,
+            } => Some(Block {
+                name: Name { address, turn },
+                room,
+                heap,
             }),
             Meaning::Nothing => None,
         }
@@ -60,7 +76,7 @@ impl Names {
 
     /// From now on the name stands for this.
     #[inline]
-    pub fn set(&mut self, name: u32, block: Option<Name>)
+    pub fn set(&mut self, name: u32, block: Option<Block>)
         requires { name < names_held self.old }
         ensures names { (n : ℕ) → block_named self.new n ≡ (if name == n then block else block_named self.old n) }
         ensures room { names_held self.new ≡ names_held self.old }
@@ -70,15 +86,12 @@ impl Names {
 
     /// What the name stands for.
     #[inline]
-    pub fn get(&self, name: u32) -> Option<Name>
+    pub fn get(&self, name: u32) -> Option<Block>
         ensures { result ≡ block_named self.now name }
     {
         match self.meanings.get(name as usize) {
-            Some(Meaning::Block { address, turn }) => Some(Name {
-                address: *address,
-                turn: *turn,
-            }),
-            Some(Meaning::Nothing) | None => None,
+            Some(meaning) => meaning.block(),
+            None => None,
         }
     }
 }

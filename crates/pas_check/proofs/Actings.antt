@@ -1,10 +1,12 @@
 -- Acts, done.
 use Rattle.std.proofs.Common.{◌≡◌, ◌≢◌, ℕ, ◌+◌, ◌/◌, ◌%◌, ◌^◌, ◌<◌, ◌≤◌, ◌==◌, if◌then◌else◌, nat_le, max, Bool, true, false, List, [], ◌∷◌, ◌++◌, Option, None, Some, length, get_or, set, inl, inr, refl, ap, sym, subst, ◌∙◌, arith, get_or-set_other, get_or-set_same, length-set}
-use Rattle.std.proofs.lemmas.Bool.{and_from, and_parts, cases_eq, eq-eqb, false_from_ne_true, le-leb, leb-true, lt-leb, ne_eqb}
+use Rattle.std.proofs.lemmas.Bool.{and_from, and_parts, cases_eq, eq-eqb, eqb-true, false_from_ne_true, le-leb, leb-true, lt-leb, ne_eqb}
 use Rattle.pas_profile.specs.Directories.{IsKind}
 use Rattle.pas_profile.specs.Profiles.{IsPage}
 use Rattle.pas_profile.specs.Blocks.{address_of}
 use Rattle.pas_profile.specs.declared.directory.Directory.{Directory}
+use Rattle.pas_profile.specs.declared.event.Event.{Event}
+use Rattle.pas_profile.specs.declared.name.Block.{Block}
 use Rattle.pas_profile.specs.declared.name.Name.{Name}
 use Rattle.pas_profile.specs.declared.profile.Profile.{Profile}
 use Rattle.pas_machine.specs.Machines.{profile_of, StandsFor}
@@ -12,23 +14,27 @@ use Rattle.pas_machine.specs.declared.machine.Machine.{Machine}
 use Rattle.pas_report.specs.declared.record.Record.{Record}
 use Rattle.pas_report.specs.declared.record.Said.{Said}
 use Rattle.pas_trace.specs.Acts.{Act, MakesPass, MarksClose, MarksPhase, StopsIdle, Ticks, Wakes}
-use Rattle.pas_trace.specs.Named.{standing_for}
 use Rattle.pas_trace.specs.declared.item.Request.{Request}
-use Rattle.pas_check.specs.Begins.{after_task, begun_act, entries_due, flushing, freeing_at, freeing_named, is_aligned, is_page, logging, stopping, tells}
-use Rattle.pas_check.specs.Bounds.{FitsRequest, IsKept}
-use Rattle.pas_check.specs.Calls.{EntriesTaken, IsAsked, IsExamining, IsFollowed, IsWanted, OutcomesTaken, RequestTaken}
+use Rattle.pas_check.specs.Begins.{after_task, begun_act, entries_due, entry_of, flushing, freeing_at, freeing_named, is_aligned, is_full, is_page, logging, remaking, remaking_named, request_for, stopping, suits, tells, unsized}
+use Rattle.pas_check.specs.Bounds.{FitsRequest, HaveHeaps, IsKept}
+use Rattle.pas_check.specs.Calls.{EntriesTaken, IsAsked, IsExamining, IsFollowed, IsWanted, OutcomesTaken, RequestTaken, after_request}
 use Rattle.pas_check.specs.Leading.{Fails, IsLed, IsWithin, Leads}
+use Rattle.pas_check.specs.Meanings.{heap_in, meaning_at, meaning_of}
+use Rattle.pas_check.specs.Named.{standing_for}
 use Rattle.pas_check.specs.States.{Due, Writes, Serves, Examines, Task, Does, Stand, with_at, with_due, with_name}
 use Rattle.pas_check.specs.Tables.{logged, logs_held, meant}
-use Rattle.pas_check.specs.Tasks.{ActTaken, Asks, FreesBlock, FreesNamed, IsNext, LogEmptied, PassTaken, Stands, emptying}
+use Rattle.pas_check.specs.Tasks.{ActTaken, Asks, EntryLogged, FreesEntry, FreesNamed, IsNext, IsSuited, LogEmptied, PassTaken, Remakes, Resizes, SaysNamed, Stands, being_logged, emptying}
 use Rattle.pas_check.specs.declared.acting.Judge.{Judge}
 use Rattle.pas_check.specs.declared.cutting.Cursor.{Cursor}
+use Rattle.pas_check.specs.declared.entry.Entry.{Entry}
 use Rattle.pas_check.specs.declared.logging.Logs.{Logs}
+use Rattle.pas_check.specs.declared.naming.Meaning.{Meaning}
+use Rattle.pas_check.specs.declared.naming.Meaning.TheVariants.{Unasked, Refused, Given}
 use Rattle.pas_check.specs.declared.naming.Names.{Names}
 use Rattle.pas_check.specs.declared.serving.Wanted.{Wanted}
 use Rattle.pas_check.proofs.Beginnings.{begun_alike}
 use Rattle.pas_check.proofs.Kept.{kept_same}
-use Rattle.pas_check.proofs.Leads.{leads_alike, leads_fails, leads_on}
+use Rattle.pas_check.proofs.Leads.{leads_alike, leads_fails, leads_nowhere, leads_on}
 
 -- further on
 later : {f : Profile} {j : Judge} {s : Stand} {from : Cursor} (to : Cursor) → from.lines ≤ to.lines → Stands f j s from → Stands f j s to
@@ -147,12 +153,12 @@ woken f text old new at within k held machine names logs epoch awake = act_of_no
     ]
 
 -- ---- a log is emptied
-module _ (f : Profile) (text : List ℕ) (old : Judge) (from to : Cursor) (k : ℕ) (log : List Name) (held : k < logs_held old.logs) where
+module _ (f : Profile) (text : List ℕ) (old : Judge) (from to : Cursor) (k : ℕ) (log : List Entry) (held : k < logs_held old.logs) where
   begun_kept : (s : Stand) (more : List Due) (ts : List Task) → Stands f old s from → IsKept (emptying s k log more ts) from
   begun_kept s more ts stands = kept_same (emptying s k log more ts) s from from refl refl (omega arith) stands.kept
 
   begun_due : (s : Stand) (more : List Due) (ts : List Task) → Stands f old s from → (emptying s k log more ts).due ≡ entries_due k (logged old.logs k) ++ more
-  begun_due s more ts stands = ap (λ (names : List Name). entries_due k names ++ more) (stands.logs k held)
+  begun_due s more ts stands = ap (λ (entries : List Entry). entries_due k entries ++ more) (stands.logs k held)
 
   pub log_amiss : (machine : Machine) → EntriesTaken old.machine machine text from to k (logged old.logs k) [] old.epoch false → (new : Judge)
       → LogEmptied f text old from new to k log false
@@ -207,7 +213,7 @@ with_other_due {f} {j} {s} {at} more stands = record {
 
 module _ (f : Profile) (text : List ℕ) (old new : Judge) (from to : Cursor) (k : ℕ) (within : IsWithin text from) where
   -- a flush, a stop, a thread's end, and a free where the log is full
-  pub flushed : (act : Act) (log : List Name) → ((s : Stand) → Stands f old s from → begun_act f s act ≡ flushing s k log []) → (is : Bool)
+  pub flushed : (act : Act) (log : List Entry) → ((s : Stand) → Stands f old s from → begun_act f s act ≡ flushing s k log []) → (is : Bool)
       → LogEmptied f text old from new to k log is → ActTaken f text old from new to act is
   flushed act log flushes true emptied = λ s ts next.
       let e = emptied s [] ts next.stands in
@@ -243,6 +249,56 @@ module _ (f : Profile) (text : List ℕ) (old new : Judge) (from to : Cursor) (k
       let first = leads_on (begins f text old from (StopsIdle k n) within s ts next)
       (subst (λ (u : Stand). Leads f text u from e.0 to) (sym (stop_same s n ts (idle s next.stands))) e.1) in
       leads_fails first (led e.0 [] e.3)
+
+-- ---- an entry is logged
+module _ (f : Profile) (text : List ℕ) (old : Judge) (from : Cursor) (k : ℕ) (entry : Entry) (held : k < logs_held old.logs) where
+  full_is : (full : Bool) → full ≡ nat_le 64 (length (logged old.logs k)) → (s : Stand) → Stands f old s from → is_full s k ≡ full
+  full_is full is s stands = ap (λ (log : List Entry). nat_le 64 (length log)) (stands.logs k held) ∙ sym is
+
+  logging_is : (full : Bool) → full ≡ nat_le 64 (length (logged old.logs k)) → (s : Stand) (more : List Due) (ts : List Task) → Stands f old s from
+      → record (logging full s k entry more) { left = ts } ≡ being_logged s k entry more ts
+  logging_is full is s more ts stands = ap (λ (x : Bool). record (logging x s k entry more) { left = ts }) (sym (full_is full is s stands))
+
+  -- the log is full
+  pub logged_full : true ≡ nat_le 64 (length (logged old.logs k)) → (new : Judge) (to : Cursor) (is : Bool) → LogEmptied f text old from new to k (entry ∷ []) is
+      → EntryLogged f text old from new to k entry is
+  logged_full full new to true emptied = λ s more ts stands.
+      let e = emptied s more ts stands in
+      (e.0, subst (λ (u : Stand). Leads f text u from e.0 to) (logging_is true full s more ts stands) e.1, e.2, e.3, e.4)
+  logged_full full new to false emptied = λ s more ts stands.
+      subst (λ (u : Stand). Fails f text u from to.lines) (logging_is true full s more ts stands) (emptied s more ts stands)
+
+  -- it isn't
+  pub logged_added : IsWithin text from → false ≡ nat_le 64 (length (logged old.logs k)) → (logs : Logs) → logged logs k ≡ logged old.logs k ++ entry ∷ []
+      → ((j : ℕ) → j ≢ k → logged logs j ≡ logged old.logs j) → logs_held logs ≡ logs_held old.logs → EntryLogged f text old from (record old { logs = logs }) from k entry true
+  logged_added within room logs added others count = λ s more ts stands.
+      let t : Stand = record (logging false s k entry more) { left = ts } in (
+        t,
+        subst (λ (u : Stand). Leads f text u from t from) (logging_is false room s more ts stands) (leads_nowhere f text t from within),
+        record {
+          profile = stands.profile;
+          events = stands.events;
+          names = stands.names;
+          logs = λ j has. log_at s stands j (subst (λ m. j < m) count has);
+          awake = stands.awake;
+          epoch = stands.epoch;
+          small = stands.small;
+          kept = kept_same t s from from refl refl (omega arith) stands.kept;
+        },
+        refl,
+        refl,
+      )
+    where
+      log_at : (s : Stand) → Stands f old s from → (j : ℕ) → j < logs_held old.logs → with_at s.logs k (s.logs k ++ entry ∷ []) j ≡ logged logs j
+      log_at s stands j has = elim (cases_eq j k) [
+        | inl is ↦
+            let t : (j == k) ≡ true = eq-eqb j k is in
+            ap (λ (x : Bool). if x then s.logs k ++ entry ∷ [] else s.logs j) t ∙ ap (λ (log : List Entry). log ++ entry ∷ []) (stands.logs k held)
+            ∙ sym added ∙ ap (logged logs) (sym is)
+        | inr other ↦
+            let t : (j == k) ≡ false = ne_eqb j k other in
+            ap (λ (x : Bool). if x then s.logs k ++ entry ∷ [] else s.logs j) t ∙ stands.logs j has ∙ sym (others j other)
+      ]
 
 -- ---- an act that begins nothing
 -- the same tables stand for another list of what is due and left
@@ -337,15 +393,32 @@ module _ (f : Profile) (text : List ℕ) (old : Judge) (from : Cursor) (within :
         ap (λ (v : Stand). v.left) is,
       )
 
+-- ---- what names stand for
+heap_known : (m : Meaning) (block : Block) → meaning_of m ≡ Some (Some block) → heap_in m < 32 → block.heap < 32
+heap_known Unasked block is small = absurd (cc)
+heap_known Refused block is small = absurd (cc)
+heap_known (Given c) block is small = let same : c ≡ block = cc in subst (λ (x : Block). x.heap < 32) same small
+
+pub heaps_of : {f : Profile} {j : Judge} {s : Stand} {at : Cursor} → Stands f j s at → HaveHeaps s.names
+heaps_of {f} {j} {s} {at} stands name block is = heap_known (meaning_at j.names.meanings.items name) block (sym (stands.names name) ∙ is) (j.names.heaps name)
+
 -- ---- a request
+pub after_plain : (v : Stand) (k : ℕ) (r : Request) (found : Option Block) → after_request v k r None found [] ≡ with_due (with_name v r.name found) []
+after_plain v k r None = refl
+after_plain v k r (Some block) = refl
+
+left_kept : (full : Bool) (v : Stand) (k : ℕ) (entry : Entry) (more : List Due) → record (logging full v k entry more) { left = v.left } ≡ logging full v k entry more
+left_kept true v k entry more = refl
+left_kept false v k entry more = refl
+
 module _ (f : Profile) (text : List ℕ) (old : Judge) (from to : Cursor) (k : ℕ) (w : Wanted) (within : IsWithin text from) (few : k < 2 ^ 8)
     (low : w.name < 2 ^ 32) (room : w.room < 2 ^ 32) (heap : w.directory.heap < 2 ^ 8)
-    (kind : IsKind w.directory.kind) (act : Act) (r : Request) (asks : Asks f act k r) (wants : IsWanted f r w) where
+    (kind : IsKind w.directory.kind) (act : Act) (r : Request) (replaced : Option Name) (asks : Asks f old from act k r replaced) (wants : IsWanted f r w) where
   abbrev asking : Stand → List Task → Stand
-  asking s ts = record s { due = Serves k r ∷ []; left = ts }
+  asking s ts = record s { due = Serves k r replaced ∷ []; left = ts }
 
-  asking_is : (s : Stand) (ts : List Task) → after_task f s (Does act) ts ≡ asking s ts
-  asking_is s ts = ap (λ (u : Stand). record u { left = ts }) (asks s)
+  asking_is : (s : Stand) (ts : List Task) → Stands f old s from → after_task f s (Does act) ts ≡ asking s ts
+  asking_is s ts stands = ap (λ (u : Stand). record u { left = ts }) (asks s stands)
 
   request_fits : FitsRequest f k r
   request_fits = record {
@@ -356,7 +429,7 @@ module _ (f : Profile) (text : List ℕ) (old : Judge) (from to : Cursor) (k : �
     room = (let e = wants.room in omega (arith, e, room));
   }
 
-  asked_there : (s : Stand) (ts : List Task) → Stands f old s from → IsAsked old.machine (asking s ts) from k w r []
+  asked_there : (s : Stand) (ts : List Task) → Stands f old s from → IsAsked old.machine (asking s ts) from k w r replaced []
   asked_there s ts stands = record {
     wants = subst (λ g. IsWanted g r w) (sym stands.profile) wants;
     stands = stands.events;
@@ -368,33 +441,58 @@ module _ (f : Profile) (text : List ℕ) (old : Judge) (from to : Cursor) (k : �
 
   pub request_amiss : (machine : Machine) (new : Judge) → RequestTaken old.machine machine text from to k w None → ActTaken f text old from new to act false
   request_amiss machine new taken = λ s ts next.
-      leads_fails (begins f text old from act within s ts next) (subst (λ (u : Stand). Fails f text u from to.lines) (sym (asking_is s ts))
-      (subst (λ g. Fails g text (asking s ts) from to.lines) next.stands.profile (taken (asking s ts) r [] (asked_there s ts next.stands))))
+      leads_fails (begins f text old from act within s ts next) (subst (λ (u : Stand). Fails f text u from to.lines) (sym (asking_is s ts next.stands))
+      (subst (λ g. Fails g text (asking s ts) from to.lines) next.stands.profile (taken (asking s ts) r replaced [] (asked_there s ts next.stands))))
 
-  pub requested : (machine : Machine) (names : Names) (block : Option Name) → profile_of machine ≡ profile_of old.machine
-      → ((n : ℕ) → meant names n ≡ (if w.name == n then Some block else meant old.names n))
-      → RequestTaken old.machine machine text from to k w (Some block) → ActTaken f text old from (record old { machine = machine; names = names }) to act true
-  requested machine names block profile sets taken = λ s ts next.
-      let stands = next.stands in
-      let end = taken (asking s ts) r [] (asked_there s ts stands) in
-      let t = end.0 in
-      let is : t ≡ with_due (with_name (record (asking s ts) { events = t.events }) r.name block) [] = end.2 in (
-        t,
-        leads_on (begins f text old from act within s ts next)
-            (subst (λ (u : Stand). Leads f text u from t to) (sym (asking_is s ts)) (subst (λ g. Leads g text (asking s ts) from t to) stands.profile end.1)),
-        record {
-          profile = profile ∙ stands.profile;
-          events = end.3;
-          names = λ n. ap (λ (v : Stand). standing_for v.names n) is ∙ (λ i. if wants.name i == n then Some block else stands.names n i) ∙ sym (sets n);
-          logs = λ j has. ap (λ (v : Stand). v.logs j) is ∙ stands.logs j has;
-          awake = λ j has. ap (λ (v : Stand). v.idle_since j) is ∙ stands.awake j has;
-          epoch = ap (λ (v : Stand). v.epoch) is ∙ stands.epoch;
-          small = stands.small;
-          kept = end.4;
-        },
-        ap (λ (v : Stand). v.due) is,
-        ap (λ (v : Stand). v.left) is,
-      )
+  module _ (machine : Machine) (names : Names) (found : Option Block) (profile : profile_of machine ≡ profile_of old.machine)
+      (sets : (n : ℕ) → meant names n ≡ (if w.name == n then Some found else meant old.names n)) (taken : RequestTaken old.machine machine text from to k w (Some found)) where
+    -- where its name stands for this
+    abbrev named_there : Stand → List Task → List Event → Stand
+    named_there s ts es = with_name (record (asking s ts) { events = es }) r.name found
+
+    request_leads : (s : Stand) (ts : List Task) (next : IsNext f old s from act ts) → (es : List Event)
+        × Leads f text s from (after_request (record (asking s ts) { events = es }) k r replaced found []) to × Stands f (record old { machine = machine; names = names }) (named_there s ts es) to
+    request_leads s ts next =
+        let stands = next.stands in
+        let end = taken (asking s ts) r replaced [] (asked_there s ts stands) in
+        let es = end.0 in (
+          es,
+          leads_on (begins f text old from act within s ts next)
+              (subst (λ (u : Stand). Leads f text u from (after_request (record (asking s ts) { events = es }) k r replaced found []) to) (sym (asking_is s ts stands))
+              (subst (λ g. Leads g text (asking s ts) from (after_request (record (asking s ts) { events = es }) k r replaced found []) to) stands.profile end.1)),
+          record {
+            profile = profile ∙ stands.profile;
+            events = end.2;
+            names = λ n. (λ i. if wants.name i == n then Some found else stands.names n i) ∙ sym (sets n);
+            logs = stands.logs;
+            awake = stands.awake;
+            epoch = stands.epoch;
+            small = stands.small;
+            kept = kept_same (named_there s ts es) (record (asking s ts) { events = es }) to to refl refl (omega arith) end.3;
+          },
+        )
+
+    -- nothing is replaced
+    pub request_done : ((v : Stand) → after_request v k r replaced found [] ≡ with_due (with_name v r.name found) []) → ActTaken f text old from (record old { machine = machine; names = names }) to act true
+    request_done ends = λ s ts next.
+        let end = request_leads s ts next in
+        let v : Stand = record (asking s ts) { events = end.0 } in
+        (with_due (named_there s ts end.0) [], subst (λ (u : Stand). Leads f text s from u to) (ends v) end.1, other_plan [] ts end.2, refl, refl)
+
+    -- the name that it replaces is logged
+    module _ (name : Name) (new : Judge) (last : Cursor) (same : (v : Stand) → after_request v k r replaced found [] ≡ logging (is_full v k) (with_name v r.name found) k (unsized name) []) where
+      logged_there : (s : Stand) (ts : List Task) (es : List Event)
+          → after_request (record (asking s ts) { events = es }) k r replaced found [] ≡ being_logged (named_there s ts es) k (unsized name) [] ts
+      logged_there s ts es = same (record (asking s ts) { events = es }) ∙ sym (left_kept (is_full (named_there s ts es) k) (named_there s ts es) k (unsized name) [])
+
+      pub request_logged : (is : Bool) → EntryLogged f text (record old { machine = machine; names = names }) to new last k (unsized name) is → ActTaken f text old from new last act is
+      request_logged true logged = λ s ts next.
+          let end = request_leads s ts next in
+          let done = logged (named_there s ts end.0) [] ts end.2 in
+          (done.0, leads_on (subst (λ (u : Stand). Leads f text s from u to) (logged_there s ts end.0) end.1) done.1, done.2, done.3, done.4)
+      request_logged false logged = λ s ts next.
+          let end = request_leads s ts next in
+          leads_fails (subst (λ (u : Stand). Leads f text s from u to) (logged_there s ts end.0) end.1) (logged (named_there s ts end.0) [] ts end.2)
 
 -- ---- a free
 pub is_outside : (f g : Profile) (page : ℕ) → g ≡ f → (IsPage g page → ⊥) → is_page f page ≡ false
@@ -419,73 +517,45 @@ module _ (f : Profile) (text : List ℕ) (old : Judge) (from : Cursor) (k : ℕ)
         subst (λ (u : Stand). Stands f old (with_due (record u { left = ts }) []) from) (sym same) (other_plan [] ts next.stands),
       )) is led
 
-module _ (f : Profile) (text : List ℕ) (old : Judge) (from : Cursor) (k : ℕ) (block : Name) (within : IsWithin text from) (act : Act)
-    (frees : FreesBlock f old from act k block) where
-  pub freed_outside : (IsPage (profile_of old.machine) (address_of block / 4096) → ⊥) → (to : Cursor) (is : Bool)
-      → ((s : Stand) (more : List Due) → s.due ≡ Writes (Record.Said k (Said.Outside block)) ∷ more → IsLed f text s from (with_due s more) to is)
+module _ (f : Profile) (text : List ℕ) (old : Judge) (from : Cursor) (k : ℕ) (entry : Entry) (within : IsWithin text from) (act : Act)
+    (frees : FreesEntry f old from act k entry) where
+  pub freed_outside : (IsPage (profile_of old.machine) (address_of entry.name / 4096) → ⊥) → (to : Cursor) (is : Bool)
+      → ((s : Stand) (more : List Due) → s.due ≡ Writes (Record.Said k (Said.Outside entry.name)) ∷ more → IsLed f text s from (with_due s more) to is)
       → ActTaken f text old from old to act is
   freed_outside none to is led =
-      spoken f text old from k within act (Said.Outside block)
-      (λ s stands. frees s stands ∙ ap (λ (x : Bool). freeing_at x (is_aligned block) s k block)
-      (is_outside f (profile_of old.machine) (address_of block / 4096) stands.profile none)) to is led
+      spoken f text old from k within act (Said.Outside entry.name)
+      (λ s stands. frees s stands ∙ ap (λ (x : Bool). freeing_at x (is_aligned entry.name) s k entry)
+      (is_outside f (profile_of old.machine) (address_of entry.name / 4096) stands.profile none)) to is led
 
-  module _ (inside : IsPage (profile_of old.machine) (address_of block / 4096)) where
-    pub freed_unaligned : address_of block % 16 ≢ 0 → (to : Cursor) (is : Bool)
-        → ((s : Stand) (more : List Due) → s.due ≡ Writes (Record.Said k (Said.Unaligned block)) ∷ more → IsLed f text s from (with_due s more) to is)
+  module _ (inside : IsPage (profile_of old.machine) (address_of entry.name / 4096)) where
+    pub freed_unaligned : address_of entry.name % 16 ≢ 0 → (to : Cursor) (is : Bool)
+        → ((s : Stand) (more : List Due) → s.due ≡ Writes (Record.Said k (Said.Unaligned entry.name)) ∷ more → IsLed f text s from (with_due s more) to is)
         → ActTaken f text old from old to act is
     freed_unaligned odd to is led =
-        spoken f text old from k within act (Said.Unaligned block)
-        (λ s stands. frees s stands ∙ (λ i. freeing_at (is_inside f (profile_of old.machine) (address_of block / 4096) stands.profile inside i)
-        (ne_eqb (address_of block % 16) 0 odd i) s k block)) to is led
+        spoken f text old from k within act (Said.Unaligned entry.name)
+        (λ s stands. frees s stands ∙ (λ i. freeing_at (is_inside f (profile_of old.machine) (address_of entry.name / 4096) stands.profile inside i)
+        (ne_eqb (address_of entry.name % 16) 0 odd i) s k entry)) to is led
 
-    module _ (even : address_of block % 16 ≡ 0) (held : k < logs_held old.logs) where
-      logs_it : (full : Bool) → full ≡ nat_le 64 (length (logged old.logs k)) → (s : Stand) → Stands f old s from → begun_act f s act ≡ logging full s k block
-      logs_it full is s stands =
-          frees s stands ∙ (λ i. freeing_at (is_inside f (profile_of old.machine) (address_of block / 4096) stands.profile inside i)
-          (eq-eqb (address_of block % 16) 0 even i) s k block)
-          ∙ ap (λ (x : Bool). logging x s k block) (ap (λ (log : List Name). nat_le 64 (length log)) (stands.logs k held) ∙ sym is)
+    module _ (even : address_of entry.name % 16 ≡ 0) where
+      logs_it : (s : Stand) → Stands f old s from → begun_act f s act ≡ logging (is_full s k) s k entry []
+      logs_it s stands =
+          frees s stands ∙ (λ i. freeing_at (is_inside f (profile_of old.machine) (address_of entry.name / 4096) stands.profile inside i)
+          (eq-eqb (address_of entry.name % 16) 0 even i) s k entry)
 
-      -- the log is full
-      pub freed_full : true ≡ nat_le 64 (length (logged old.logs k)) → (new : Judge) (to : Cursor) (is : Bool)
-          → LogEmptied f text old from new to k (block ∷ []) is → ActTaken f text old from new to act is
-      freed_full full new to is emptied = flushed f text old new from to k within act (block ∷ []) (logs_it true full) is emptied
-
-      -- it isn't
-      pub freed_logged : false ≡ nat_le 64 (length (logged old.logs k)) → (logs : Logs) → logged logs k ≡ logged old.logs k ++ block ∷ []
-          → ((j : ℕ) → j ≢ k → logged logs j ≡ logged old.logs j) → logs_held logs ≡ logs_held old.logs
-          → ActTaken f text old from (record old { logs = logs }) from act true
-      freed_logged room logs added others count = act_of_none f text old from act within (record old { logs = logs })
-          (λ s ts next.
-          let stands = next.stands in
-          let same = logs_it false room s stands in (
-            ap (λ (u : Stand). u.due) same ∙ next.due,
-            subst (λ (u : Stand). Stands f (record old { logs = logs }) (record u { left = ts }) from) (sym same) (record {
-              profile = stands.profile;
-              events = stands.events;
-              names = stands.names;
-              logs = λ j has. log_at s stands j (subst (λ m. j < m) count has);
-              awake = stands.awake;
-              epoch = stands.epoch;
-              small = stands.small;
-              kept = kept_same (record s { logs = with_at s.logs k (s.logs k ++ block ∷ []); left = ts }) s from from refl refl (omega arith) stands.kept;
-            }),
-          ))
-        where
-          log_at : (s : Stand) → Stands f old s from → (j : ℕ) → j < logs_held old.logs → with_at s.logs k (s.logs k ++ block ∷ []) j ≡ logged logs j
-          log_at s stands j has = elim (cases_eq j k) [
-            | inl is ↦
-                let t : (j == k) ≡ true = eq-eqb j k is in
-                ap (λ (x : Bool). if x then s.logs k ++ block ∷ [] else s.logs j) t ∙ ap (λ (log : List Name). log ++ block ∷ []) (stands.logs k held)
-                ∙ sym added ∙ ap (logged logs) (sym is)
-            | inr other ↦
-                let t : (j == k) ≡ false = ne_eqb j k other in
-                ap (λ (x : Bool). if x then s.logs k ++ block ∷ [] else s.logs j) t ∙ stands.logs j has ∙ sym (others j other)
-          ]
+      -- its entry is logged
+      pub freed_logged : (new : Judge) (to : Cursor) (is : Bool) → EntryLogged f text old from new to k entry is → ActTaken f text old from new to act is
+      freed_logged new to true logged = λ s ts next.
+          let e = logged s [] ts next.stands in
+          let same : after_task f s (Does act) ts ≡ being_logged s k entry [] ts = ap (λ (u : Stand). record u { left = ts }) (logs_it s next.stands) in
+          (e.0, leads_on (begins f text old from act within s ts next) (subst (λ (u : Stand). Leads f text u from e.0 to) (sym same) e.1), e.2, e.3, e.4)
+      freed_logged new to false logged = λ s ts next.
+          let same : after_task f s (Does act) ts ≡ being_logged s k entry [] ts = ap (λ (u : Stand). record u { left = ts }) (logs_it s next.stands) in
+          leads_fails (begins f text old from act within s ts next) (subst (λ (u : Stand). Fails f text u from to.lines) (sym same) (logged s [] ts next.stands))
 
 -- ---- a free of what a name stands for
-module _ (f : Profile) (text : List ℕ) (old : Judge) (from : Cursor) (k name : ℕ) (within : IsWithin text from) (act : Act) (frees : FreesNamed f act k name) where
-  named_as : (block : Option (Option Name)) → block ≡ meant old.names name → (s : Stand) → Stands f old s from → begun_act f s act ≡ freeing_named f s k name block
-  named_as block is s stands = frees s ∙ ap (freeing_named f s k name) (stands.names name ∙ sym is)
+module _ (f : Profile) (text : List ℕ) (old : Judge) (from : Cursor) (k name room : ℕ) (within : IsWithin text from) (act : Act) (frees : FreesNamed f act k name room) where
+  named_as : (block : Option (Option Block)) → block ≡ meant old.names name → (s : Stand) → Stands f old s from → begun_act f s act ≡ freeing_named f s k name room block
+  named_as block is s stands = frees s ∙ ap (freeing_named f s k name room) (stands.names name ∙ sym is)
 
   pub unasked_freed : None ≡ meant old.names name → ActTaken f text old from old from act true
   unasked_freed is = nothing_begun f text old from act within (named_as None is)
@@ -495,8 +565,64 @@ module _ (f : Profile) (text : List ℕ) (old : Judge) (from : Cursor) (k name :
       → ActTaken f text old from old to act is
   refused_freed is to taken led = spoken f text old from k within act (Said.Skipped name) (named_as (Some None) is) to taken led
 
-  pub given_freed : (block : Name) → Some (Some block) ≡ meant old.names name → FreesBlock f old from act k block
+  pub given_freed : (block : Block) → Some (Some block) ≡ meant old.names name → FreesEntry f old from act k (entry_of block.name room)
   given_freed block is = named_as (Some (Some block)) is
+
+-- ---- another size
+-- it is said, and the name stands for this
+pub said_named : (f : Profile) (text : List ℕ) (old : Judge) (from : Cursor) (k name : ℕ) → IsWithin text from → (act : Act) (found : Option Block) (said : Said)
+    → SaysNamed f old from act k name found said → (names : Names) → ((n : ℕ) → meant names n ≡ (if name == n then Some found else meant old.names n)) → (to : Cursor) (is : Bool)
+    → ((s : Stand) (more : List Due) → s.due ≡ Writes (Record.Said k said) ∷ more → IsLed f text s from (with_due s more) to is)
+    → ActTaken f text old from (record old { names = names }) to act is
+said_named f text old from k name within act found said says names sets to is led = act_of_line f text old from act within (record old { names = names }) to (Record.Said k said)
+    (λ s ts next.
+    let stands = next.stands in
+    let same = says s stands in
+    let named : Stand = record (with_name s name found) { due = []; left = ts } in (
+      ap (λ (u : Stand). u.due) same,
+      subst (λ (u : Stand). Stands f (record old { names = names }) (with_due (record u { left = ts }) []) from) (sym same) (record {
+        profile = stands.profile;
+        events = stands.events;
+        names = λ n. (λ i. if name == n then Some found else stands.names n i) ∙ sym (sets n);
+        logs = stands.logs;
+        awake = stands.awake;
+        epoch = stands.epoch;
+        small = stands.small;
+        kept = kept_same named s from from refl refl (omega arith) stands.kept;
+      }),
+    )) is led
+
+pub suits_it : (block : Block) (size align : ℕ) → IsSuited block size align → suits block size align ≡ true
+suits_it block size align is =
+    and_from (nat_le (max size 1) block.room) (address_of block.name % align == 0) (le-leb (max size 1) block.room is.0) (eq-eqb (address_of block.name % align) 0 is.1)
+
+pub suits_not : (block : Block) (size align : ℕ) → (IsSuited block size align → ⊥) → suits block size align ≡ false
+suits_not block size align never = false_from_ne_true (suits block size align)
+    (λ is.
+    let both = and_parts (nat_le (max size 1) block.room) (address_of block.name % align == 0) is in
+    never (leb-true (max size 1) block.room both.0, eqb-true (address_of block.name % align) 0 both.1))
+
+module _ (f : Profile) (text : List ℕ) (old : Judge) (from : Cursor) (k name size align : ℕ) (within : IsWithin text from) (act : Act) where
+  -- the block is kept, or another one is asked for in its place
+  pub resized_kept : (block : Block) → IsSuited block size align → Resizes f old from act k name block size align → SaysNamed f old from act k name (Some block) (Said.Kept block.name name)
+  resized_kept block suited resizes = λ s stands. resizes s stands ∙ ap (λ (x : Bool). remaking x s k (request_for block name size align) block) (suits_it block size align suited)
+
+  pub resized_asks : (block : Block) → (IsSuited block size align → ⊥) → Resizes f old from act k name block size align → Asks f old from act k (request_for block name size align) (Some block.name)
+  resized_asks block unsuited resizes = λ s stands. resizes s stands ∙ ap (λ (x : Bool). remaking x s k (request_for block name size align) block) (suits_not block size align unsuited)
+
+  -- what its old name stands for
+  module _ (replaced : ℕ) (remakes : Remakes f act k name replaced size align) where
+    remade_as : (found : Option (Option Block)) → found ≡ meant old.names replaced → (s : Stand) → Stands f old s from → begun_act f s act ≡ remaking_named s k name size align found
+    remade_as found is s stands = remakes s ∙ ap (remaking_named s k name size align) (stands.names replaced ∙ sym is)
+
+    pub unasked_remade : None ≡ meant old.names replaced → ActTaken f text old from old from act true
+    unasked_remade is = nothing_begun f text old from act within (remade_as None is)
+
+    pub refused_remade : Some None ≡ meant old.names replaced → SaysNamed f old from act k name None (Said.Skipped name)
+    refused_remade is = remade_as (Some None) is
+
+    pub given_remade : (block : Block) → Some (Some block) ≡ meant old.names replaced → Resizes f old from act k name block size align
+    given_remade block is = remade_as (Some (Some block)) is
 
 -- ---- an operation
 -- what holds of the judge's own profile holds of each that it stands in

@@ -1,5 +1,5 @@
 -- The numbers of a plan's acts fit their places.
-use Rattle.std.proofs.Common.{◌≡◌, ℕ, zero, suc, ◌+◌, ◌^◌, ◌<◌, ◌≤◌, Bool, true, false, cond, List, [], ◌∷◌, ◌++◌, map, max, length, refl, sym, subst, arith}
+use Rattle.std.proofs.Common.{◌≡◌, ℕ, zero, suc, ◌+◌, ◌*◌, ◌^◌, ◌<◌, ◌≤◌, Bool, true, false, cond, List, [], ◌∷◌, ◌++◌, map, max, length, refl, sym, subst, arith}
 use Rattle.std.specs.Prelude.{MatchOption}
 use Rattle.std.specs.List.{AllByRecursion, filter}
 use Rattle.pas_profile.specs.Directories.{IsKind}
@@ -20,7 +20,7 @@ use Rattle.pas_trace.specs.declared.plan.Task.{Task}
 use Rattle.pas_trace.specs.declared.plan.Work.{Work}
 use Rattle.pas_check.specs.Bounds.{FitsRequest}
 use Rattle.pas_check.specs.Calls.{asked_for}
-use Rattle.pas_check.specs.Checks.{AllFit, ArePlanned, FitsAct, FitsWhat, IsPlanned, IsThread}
+use Rattle.pas_check.specs.Checks.{AllFit, ArePlanned, FitsAct, FitsHeaps, FitsWhat, IsPlanned, IsThread}
 
 -- ---- a request's
 kind_routed : (shared : Bool) (classes size align : ℕ) (route : Route) → IsRouteOf classes size align route → IsKind (kind_of_route shared route)
@@ -34,14 +34,20 @@ room_small (Class class) size few = let small = class_size_le class in omega (ar
 room_small Bitfit size few = omega (arith, few)
 room_small Large size few = omega (arith, few)
 
-request_fits : (f : Profile) (k name heap size align : ℕ) → IsValid f → IsAdmitted f size align heap → k < 2 ^ 8 → name < 2 ^ 32 → FitsRequest f k (asked_for name heap size align)
-request_fits f k name heap size align valid may few low = record {
+request_fits : (f : Profile) (k name heap size align : ℕ) → IsValid f → size ≤ f.pages * 4096 → k < 2 ^ 8 → name < 2 ^ 32 → heap < 32 → FitsRequest f k (asked_for name heap size align)
+request_fits f k name heap size align valid within few low one = record {
   actor = few;
   name = low;
-  heap = (let of = may.of_profile in let most = valid.heaps in omega (arith, of, most));
+  heap = omega (arith, one);
   kind = kind_routed (is_shared f heap) f.classes size align (route_in f size align) (route_is f.classes size align);
-  room = (let within = may.within in let most = valid.pages in room_small (route_in f size align) (max size 1) (omega (arith, within, most)));
+  room = (let most = valid.pages in room_small (route_in f size align) (max size 1) (omega (arith, within, most)));
 }
+
+heaps_fit : (f : Profile) (k name heap size align : ℕ) → IsValid f → IsAdmitted f size align heap → k < 2 ^ 8 → name < 2 ^ 32 → FitsHeaps f k (asked_for name heap size align)
+heaps_fit f k name heap size align valid may few low = (
+  (let of = may.of_profile in let most = valid.heaps in omega (arith, of, most)),
+  λ other one. request_fits f k name other size align valid may.within few low one,
+)
 
 -- ---- lists of acts
 all_both : (f : Profile) (xs ys : List Act) → AllFit f xs → AllFit f ys → AllFit f (xs ++ ys)
@@ -87,10 +93,11 @@ module _ (f : Profile) (limit : ℕ) (valid : IsValid f) (few : limit ≤ 2 ^ 32
 
   -- ---- an operation
   task_fits : (k : ℕ) (asked : List ℕ) (task : Task) → k < 2 ^ 8 → MatchOption (request_of task) (Unit {0}) (λ r. r.name < limit) → IsSoundTask f asked task
-      → MatchOption (request_of task) (Unit {0}) (λ r. FitsRequest f k r)
-  task_fits k asked (Task.Request name heap size align) small below sound = request_fits f k name heap size align valid sound.0 small (omega (arith, below, few))
-  task_fits k asked (Task.Free name) small below sound = tt
-  task_fits k asked (Task.FreeRaw block) small below sound = tt
+      → MatchOption (request_of task) (Unit {0}) (FitsHeaps f k)
+  task_fits k asked (Task.Request name heap size align) small below sound = heaps_fit f k name heap size align valid sound.0 small (omega (arith, below, few))
+  task_fits k asked (Task.Remake name old heap size align) small below sound = heaps_fit f k name heap size align valid sound.0 small (omega (arith, below, few))
+  task_fits k asked (Task.Free name room) small below sound = tt
+  task_fits k asked (Task.FreeRaw block room) small below sound = tt
   task_fits k asked Task.Flush small below sound = tt
   task_fits k asked Task.Stop small below sound = tt
 
@@ -109,7 +116,7 @@ module _ (f : Profile) (limit : ℕ) (valid : IsValid f) (few : limit ≤ 2 ^ 32
       let below : MatchOption (request_of task) (Unit {0}) (λ r. r.name < limit) =
       subst (λ (w : Work). MatchOption (of_task request_of w) (Unit {0}) (λ r. r.name < limit)) is planned.named in
       let sound : IsSoundTask f planned.sound.0 task = subst (IsSoundWork f planned.sound.0) is planned.sound.1 in
-      let fits : FitsWhat f op.actor op.what = subst (λ (w : Work). MatchOption (of_task request_of w) (Unit {0}) (λ r. FitsRequest f op.actor r)) (sym is)
+      let fits : FitsWhat f op.actor op.what = subst (λ (w : Work). MatchOption (of_task request_of w) (Unit {0}) (FitsHeaps f op.actor)) (sym is)
       (task_fits op.actor planned.sound.0 task small below sound) in
       (((some, small), fits), (tt, tt))
   work_fits idle op (Work.Chore chore) all is planned = chore_fits idle chore all (subst (IsSoundWork f planned.sound.0) is planned.sound.1)

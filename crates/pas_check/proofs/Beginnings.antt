@@ -1,47 +1,61 @@
 -- A task is begun without a line: what may come then is what might before.
-use Rattle.std.proofs.Common.{◌≡◌, ℕ, ◌+◌, ◌/◌, nat_le, Bool, true, false, List, [], ◌∷◌, ◌++◌, length, Option, None, Some, inl, inr, refl, ap, sym, subst, ◌∙◌}
+use Rattle.std.proofs.Common.{◌≡◌, ℕ, ◌+◌, ◌/◌, nat_le, Bool, true, false, List, [], ◌∷◌, ◌++◌, Option, None, Some, inl, inr, refl, ap, sym, subst, ◌∙◌}
 use Rattle.pas_profile.specs.Blocks.{address_of}
-use Rattle.pas_profile.specs.declared.name.Name.{Name}
+use Rattle.pas_profile.specs.declared.name.Block.{Block}
 use Rattle.pas_profile.specs.declared.profile.Profile.{Profile}
 use Rattle.pas_trace.specs.Acts.{Operates, Settles, ReadsEpoch, StopsIdle, Wakes, Ends}
-use Rattle.pas_trace.specs.Named.{standing_for}
+use Rattle.pas_trace.specs.declared.item.Request.{Request}
 use Rattle.pas_trace.specs.declared.plan.What.{What}
-use Rattle.pas_trace.specs.declared.plan.What.TheVariants.{Alloc, Free, Raw, Flush, Stop, Tick, Pass, Idle}
-use Rattle.pas_check.specs.Begins.{after_task, begun, begun_from, begun_what, entries_due, freeing, freeing_at, freeing_named, is_aligned, is_page, logging, past_outcomes, ready, ready_with, settled_with, stopping}
+use Rattle.pas_trace.specs.declared.plan.What.TheVariants.{Alloc, Free, FreeSized, Raw, RawSized, Remake, Flush, Stop, Tick, Pass, Idle}
+use Rattle.pas_check.specs.Begins.{after_task, begun, begun_from, begun_what, entries_due, entry_of, freeing, freeing_at, freeing_named, is_aligned, is_full, is_page, logging, past_outcomes, ready, ready_with, remaking, remaking_named, request_for, settled_with, stopping, suits, unsized}
 use Rattle.pas_check.specs.Going.{AreAlike}
+use Rattle.pas_check.specs.Named.{standing_for}
 use Rattle.pas_check.specs.States.{Due, Task, Does, Stand, with_due}
 use Rattle.pas_check.specs.Takes.{Takes, TakesDue, TakesFirst}
+use Rattle.pas_check.specs.declared.entry.Entry.{Entry}
 use Rattle.pas_check.proofs.Leads.{first_none}
 
 -- no outcome of a pass is due first
 abbrev pub BeginsNoPass : List Due → Type 0
 BeginsNoPass due = past_outcomes due ≡ due
 
-entries_no_pass : (k : ℕ) (log : List Name) (more : List Due) → BeginsNoPass more → BeginsNoPass (entries_due k log ++ more)
+entries_no_pass : (k : ℕ) (log : List Entry) (more : List Due) → BeginsNoPass more → BeginsNoPass (entries_due k log ++ more)
 entries_no_pass k [] more no_pass = no_pass
-entries_no_pass k (name ∷ log) more no_pass = refl
+entries_no_pass k (entry ∷ log) more no_pass = refl
 
-logging_no_pass : (full : Bool) (s : Stand) (k : ℕ) (name : Name) → BeginsNoPass s.due → BeginsNoPass (logging full s k name).due
-logging_no_pass true s k name no_pass = entries_no_pass k (s.logs k) [] refl
-logging_no_pass false s k name no_pass = no_pass
+logging_no_pass : (full : Bool) (s : Stand) (k : ℕ) (entry : Entry) → BeginsNoPass (logging full s k entry []).due
+logging_no_pass true s k entry = entries_no_pass k (s.logs k) [] refl
+logging_no_pass false s k entry = refl
 
-freeing_at_no_pass : (inside aligned : Bool) (s : Stand) (k : ℕ) (name : Name) → BeginsNoPass s.due → BeginsNoPass (freeing_at inside aligned s k name).due
-freeing_at_no_pass false aligned s k name no_pass = refl
-freeing_at_no_pass true false s k name no_pass = refl
-freeing_at_no_pass true true s k name no_pass = logging_no_pass (nat_le 64 (length (s.logs k))) s k name no_pass
+freeing_at_no_pass : (inside aligned : Bool) (s : Stand) (k : ℕ) (entry : Entry) → BeginsNoPass s.due → BeginsNoPass (freeing_at inside aligned s k entry).due
+freeing_at_no_pass false aligned s k entry no_pass = refl
+freeing_at_no_pass true false s k entry no_pass = refl
+freeing_at_no_pass true true s k entry no_pass = logging_no_pass (is_full s k) s k entry
 
-freeing_no_pass : (f : Profile) (s : Stand) (k : ℕ) (name : Name) → BeginsNoPass s.due → BeginsNoPass (freeing f s k name).due
-freeing_no_pass f s k name no_pass = freeing_at_no_pass (is_page f (address_of name / 4096)) (is_aligned name) s k name no_pass
+freeing_no_pass : (f : Profile) (s : Stand) (k : ℕ) (entry : Entry) → BeginsNoPass s.due → BeginsNoPass (freeing f s k entry).due
+freeing_no_pass f s k entry no_pass = freeing_at_no_pass (is_page f (address_of entry.name / 4096)) (is_aligned entry.name) s k entry no_pass
 
-named_no_pass : (f : Profile) (s : Stand) (k name : ℕ) (block : Option (Option Name)) → BeginsNoPass s.due → BeginsNoPass (freeing_named f s k name block).due
-named_no_pass f s k name None no_pass = no_pass
-named_no_pass f s k name (Some None) no_pass = refl
-named_no_pass f s k name (Some (Some block)) no_pass = freeing_no_pass f s k block no_pass
+named_no_pass : (f : Profile) (s : Stand) (k name room : ℕ) (block : Option (Option Block)) → BeginsNoPass s.due → BeginsNoPass (freeing_named f s k name room block).due
+named_no_pass f s k name room None no_pass = no_pass
+named_no_pass f s k name room (Some None) no_pass = refl
+named_no_pass f s k name room (Some (Some block)) no_pass = freeing_no_pass f s k (entry_of block.name room) no_pass
+
+remaking_no_pass : (suited : Bool) (s : Stand) (k : ℕ) (r : Request) (old : Block) → BeginsNoPass (remaking suited s k r old).due
+remaking_no_pass true s k r old = refl
+remaking_no_pass false s k r old = refl
+
+remade_no_pass : (s : Stand) (k name size align : ℕ) (block : Option (Option Block)) → BeginsNoPass s.due → BeginsNoPass (remaking_named s k name size align block).due
+remade_no_pass s k name size align None no_pass = no_pass
+remade_no_pass s k name size align (Some None) no_pass = refl
+remade_no_pass s k name size align (Some (Some old)) no_pass = remaking_no_pass (suits old size align) s k (request_for old name size align) old
 
 what_no_pass : (f : Profile) (s : Stand) (k : ℕ) (what : What) → BeginsNoPass s.due → BeginsNoPass (begun_what f s k what).due
 what_no_pass f s k (Alloc name heap size align) no_pass = refl
-what_no_pass f s k (Free name) no_pass = named_no_pass f s k name (standing_for s.names name) no_pass
-what_no_pass f s k (Raw block) no_pass = freeing_no_pass f s k block no_pass
+what_no_pass f s k (Free name) no_pass = named_no_pass f s k name 0 (standing_for s.names name) no_pass
+what_no_pass f s k (FreeSized name room) no_pass = named_no_pass f s k name room (standing_for s.names name) no_pass
+what_no_pass f s k (Raw block) no_pass = freeing_no_pass f s k (unsized block) no_pass
+what_no_pass f s k (RawSized room block) no_pass = freeing_no_pass f s k (entry_of block room) no_pass
+what_no_pass f s k (Remake name old heap size align) no_pass = remade_no_pass s k name size align (standing_for s.names old) no_pass
 what_no_pass f s k Flush no_pass = entries_no_pass k (s.logs k) [] refl
 what_no_pass f s k Stop no_pass = entries_no_pass k (s.logs k) [] refl
 what_no_pass f s k (Tick e) no_pass = no_pass

@@ -10,7 +10,7 @@ use Rattle.pas_check.specs.States.{Task, Does, Reports, Stand}
 use Rattle.pas_check.specs.Tasks.{ActTaken, PassTaken}
 use Rattle.pas_check.specs.declared.acting.Judge.{Judge}
 use Rattle.pas_check.specs.declared.cutting.Cursor.{Cursor}
-use Rattle.pas_check.proofs.Actings.{nothing_begun}
+use Rattle.pas_check.proofs.Actings.{heaps_of, nothing_begun}
 use Rattle.pas_check.proofs.Followed.{is_followed}
 use Rattle.pas_check.proofs.Leads.{leads_fails, leads_on}
 
@@ -39,14 +39,14 @@ module _ (text : List ℕ) (old new : Judge) (from to : Cursor) where
       let epoch = so.stands.epoch in
       let small = so.stands.small in
       let r = done f so.stand ts (record { stands = so.stands; due = so.due; left = so.left })
-      (is_followed f more so.fit.1 (record so.stand { left = ts }) (omega (arith, epoch, small)) refl) in
+      (is_followed f more so.fit.1 (record so.stand { left = ts }) (omega (arith, epoch, small)) (heaps_of so.stands) refl) in
       record { stand = r.0; led = leads_on so.led r.1; stands = r.2; due = r.3; left = r.4; fit = so.fit.1 }
   pass_taken false done = λ more f first so.
       let ts : List Task = map Does more ++ Reports ∷ [] in
       let epoch = so.stands.epoch in
       let small = so.stands.small in
       leads_fails so.led (done f so.stand ts (record { stands = so.stands; due = so.due; left = so.left })
-      (is_followed f more so.fit.1 (record so.stand { left = ts }) (omega (arith, epoch, small)) refl))
+      (is_followed f more so.fit.1 (record so.stand { left = ts }) (omega (arith, epoch, small)) (heaps_of so.stands) refl))
 
 -- one after another, in the middle of which the judge is another one
 pub taken_on : (text : List ℕ) (old mid new : Judge) (from at to : Cursor) (acts between left : List Act) (taken : Bool) → TakenTo text old from mid at acts between true

@@ -127,6 +127,9 @@ said_line k (Said.Guarded low high name) =
     number_first k (codes " guarded " ++ (decimal low ++ (codes " " ++ (decimal high ++ (codes " name " ++ (decimal name ++ codes "\n"))))))
     ∙ number_first low (codes " " ++ (decimal high ++ (codes " name " ++ (decimal name ++ codes "\n"))))
     ∙ number_first high (codes " name " ++ (decimal name ++ codes "\n")) ∙ number_first name (codes "\n")
+said_line k (Said.Kept block name) =
+    number_first k (codes " kept" ++ (name_text block ++ (codes " name " ++ (decimal name ++ codes "\n"))))
+    ∙ name_first block (codes " name " ++ (decimal name ++ codes "\n")) ∙ number_first name (codes "\n")
 said_line k (Said.Lowered low high) =
     number_first k (codes " lowered " ++ (decimal low ++ (codes " " ++ (decimal high ++ codes "\n"))))
     ∙ number_first low (codes " " ++ (decimal high ++ codes "\n")) ∙ number_first high (codes "\n")

@@ -1,5 +1,5 @@
 -- The event of an entry of a log. In a run it is the one that the definition names; and there is only one.
-use Rattle.std.proofs.Common.{◌≡◌, ℕ, List, Option, Some, None, inl, inr, refl, ap, sym, ◌∙◌, arith}
+use Rattle.std.proofs.Common.{◌≡◌, ℕ, List, Option, Some, None, inl, inr, refl, ap, sym, subst, ◌∙◌, arith}
 use Rattle.pas_profile.specs.declared.profile.Profile.{Profile}
 use Rattle.pas_profile.specs.declared.name.Name.{Name}
 use Rattle.pas_profile.specs.declared.event.Event.{Event}
@@ -7,11 +7,13 @@ use Rattle.pas_profile.specs.declared.event.Why.{Why}
 use Rattle.pas_profile.specs.declared.event.Why.TheVariants.{Ended, NoBlock, SizeDiffers}
 use Rattle.pas_profile.specs.Blocks.{address_of}
 use Rattle.pas_machine.specs.Laws.{IsCounted}
-use Rattle.pas_machine.specs.Machine.{Run, Admits, IsLive, IsReason}
+use Rattle.pas_machine.specs.Machine.{Run, Admits, HasOtherRoom, IsLive, IsReason}
 use Rattle.pas_machine.specs.State.{Live, live_in, gives_in, ends_in}
 use Rattle.pas_machine.proofs.LiveBlocks.{all_counted}
+use Rattle.pas_check.specs.Calls.{Differs}
 use Rattle.pas_check.specs.States.{Stand}
-use Rattle.pas_check.specs.Takes.{NamesNoRoom, IsEventOf}
+use Rattle.pas_check.specs.Takes.{MayRefuse, IsEventOf}
+use Rattle.pas_check.specs.declared.entry.Entry.{Entry}
 
 -- a live block's turn is the number of ends at its address
 turn_counts : (o : Option Live) (b : Live) (gives ends : ℕ) → o ≡ Some b → IsCounted o gives ends → b.block.name.turn ≡ ends
@@ -22,31 +24,40 @@ live_turn : (f : Profile) (es : List Event) (name : Name) → Run f es → IsLiv
 live_turn f es name run live =
     sym live.2 ∙ turn_counts (live_in es (address_of name)) live.0 (gives_in es (address_of name)) (ends_in es (address_of name)) live.1 (all_counted f es run (address_of name))
 
--- a name that lives can't be refused, where no room is named
-pub no_reason : (f : Profile) (es : List Event) (name : Name) → Run f es → IsLive es name → (why : Why) → NamesNoRoom why → IsReason es name why → ⊥
-no_reason f es name run live Ended plain reason = let turn = live_turn f es name run live in absurd (omega (arith, turn, reason))
-no_reason f es name run live NoBlock plain reason = reason.1 live
-no_reason f es name run live (SizeDiffers room) plain reason = plain
+-- a name that lives with the room of its entry, if it names one, can't be refused
+pub no_reason : (f : Profile) (es : List Event) (entry : Entry) → Run f es → IsLive es entry.name → (Differs es entry → ⊥) → (why : Why) → MayRefuse entry why → IsReason es entry.name why → ⊥
+no_reason f es entry run live same Ended may reason = let turn = live_turn f es entry.name run live in absurd (omega (arith, turn, reason))
+no_reason f es entry run live same NoBlock may reason = reason.1 live
+no_reason f es entry run live same (SizeDiffers asked) may reason = same (may.0, subst (HasOtherRoom es entry.name) may.1 reason.1)
+
+-- one that lives with another room can be refused for it
+pub room_reason : (f : Profile) (es : List Event) (entry : Entry) → Run f es → Differs es entry → IsReason es entry.name (SizeDiffers entry.room)
+room_reason f es entry run differs =
+    let other = differs.1 in
+    let turn = live_turn f es entry.name run (other.block, other.lives, other.turn_is) in
+    (omega (arith, turn), other)
 
 -- THE EVENT of an entry, where it may come next
-pub end_is : (f : Profile) (s : Stand) (k : ℕ) (name : Name) → Run f s.events → Admits f s.events (Event.End k name s.epoch) → IsEventOf s k name (Event.End k name s.epoch)
-end_is f s k name run admitted = inr (no_reason f s.events name run admitted.1, refl)
+pub end_is : (f : Profile) (s : Stand) (k : ℕ) (entry : Entry) → Run f s.events → Admits f s.events (Event.End k entry.name s.epoch) → (Differs s.events entry → ⊥) → IsEventOf s k entry (Event.End k entry.name s.epoch)
+end_is f s k entry run admitted same = inr (no_reason f s.events entry run admitted.1 same, refl)
 
-pub reject_is : (f : Profile) (s : Stand) (k : ℕ) (name : Name) (why : Why) → NamesNoRoom why → Admits f s.events (Event.Reject k name why) → IsEventOf s k name (Event.Reject k name why)
-reject_is f s k name why plain admitted = inl (why, plain, admitted.1, refl)
+pub reject_is : (f : Profile) (s : Stand) (k : ℕ) (entry : Entry) (why : Why) → MayRefuse entry why → Admits f s.events (Event.Reject k entry.name why) → IsEventOf s k entry (Event.Reject k entry.name why)
+reject_is f s k entry why may admitted = inl (why, may, admitted.1, refl)
 
 -- there is one
-one_reason : (es : List Event) (name : Name) (w v : Why) → NamesNoRoom w → NamesNoRoom v → IsReason es name w → IsReason es name v → w ≡ v
-one_reason es name Ended Ended p q a b = refl
-one_reason es name Ended NoBlock p q a b = let few = b.0 in absurd (omega (arith, a, few))
-one_reason es name NoBlock Ended p q a b = let few = a.0 in absurd (omega (arith, b, few))
-one_reason es name NoBlock NoBlock p q a b = refl
-one_reason es name (SizeDiffers room) v p q a b = absurd p
-one_reason es name Ended (SizeDiffers room) p q a b = absurd q
-one_reason es name NoBlock (SizeDiffers room) p q a b = absurd q
+one_reason : (es : List Event) (entry : Entry) (w v : Why) → MayRefuse entry w → MayRefuse entry v → IsReason es entry.name w → IsReason es entry.name v → w ≡ v
+one_reason es entry Ended Ended p q a b = refl
+one_reason es entry Ended NoBlock p q a b = let few = b.0 in absurd (omega (arith, a, few))
+one_reason es entry Ended (SizeDiffers asked) p q a b = let few = b.0 in absurd (omega (arith, a, few))
+one_reason es entry NoBlock Ended p q a b = let few = a.0 in absurd (omega (arith, b, few))
+one_reason es entry NoBlock NoBlock p q a b = refl
+one_reason es entry NoBlock (SizeDiffers asked) p q a b = let other = b.1 in absurd (a.1 (other.block, other.lives, other.turn_is))
+one_reason es entry (SizeDiffers asked) Ended p q a b = let few = a.0 in absurd (omega (arith, b, few))
+one_reason es entry (SizeDiffers asked) NoBlock p q a b = let other = a.1 in absurd (b.1 (other.block, other.lives, other.turn_is))
+one_reason es entry (SizeDiffers asked) (SizeDiffers other) p q a b = ap SizeDiffers (p.1 ∙ sym q.1)
 
-pub one_event : (s : Stand) (k : ℕ) (name : Name) (e g : Event) → IsEventOf s k name e → IsEventOf s k name g → e ≡ g
-one_event s k name e g (inl a) (inl b) = a.3 ∙ ap (Event.Reject k name) (one_reason s.events name a.0 b.0 a.1 b.1 a.2 b.2) ∙ sym b.3
-one_event s k name e g (inl a) (inr b) = absurd (b.0 a.0 a.1 a.2)
-one_event s k name e g (inr a) (inl b) = absurd (a.0 b.0 b.1 b.2)
-one_event s k name e g (inr a) (inr b) = a.1 ∙ sym b.1
+pub one_event : (s : Stand) (k : ℕ) (entry : Entry) (e g : Event) → IsEventOf s k entry e → IsEventOf s k entry g → e ≡ g
+one_event s k entry e g (inl a) (inl b) = a.3 ∙ ap (Event.Reject k entry.name) (one_reason s.events entry a.0 b.0 a.1 b.1 a.2 b.2) ∙ sym b.3
+one_event s k entry e g (inl a) (inr b) = absurd (b.0 a.0 a.1 a.2)
+one_event s k entry e g (inr a) (inl b) = absurd (a.0 b.0 b.1 b.2)
+one_event s k entry e g (inr a) (inr b) = a.1 ∙ sym b.1

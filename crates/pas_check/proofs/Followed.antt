@@ -1,22 +1,23 @@
 -- What follows a pass fits its places, where the acts that are left do.
-use Rattle.std.proofs.Common.{◌≡◌, ℕ, ◌+◌, ◌/◌, ◌^◌, ◌<◌, nat_le, max, Bool, true, false, List, [], ◌∷◌, ◌++◌, map, length, Option, None, Some, inl, inr, refl, ap, sym, subst, ◌∙◌, arith}
-use Rattle.std.proofs.lemmas.Option.{none-some}
+use Rattle.std.proofs.Common.{◌≡◌, ℕ, ◌+◌, ◌/◌, ◌^◌, ◌<◌, ◌==◌, if◌then◌else◌, nat_le, max, Bool, true, false, List, [], ◌∷◌, ◌++◌, map, Option, None, Some, inl, inr, refl, ap, sym, subst, ◌∙◌, arith}
+use Rattle.std.proofs.lemmas.Option.{none-some, same_Some}
 use Rattle.pas_profile.specs.Blocks.{address_of}
 use Rattle.pas_profile.specs.declared.event.Event.{Event}
-use Rattle.pas_profile.specs.declared.name.Name.{Name}
+use Rattle.pas_profile.specs.declared.name.Block.{Block}
 use Rattle.pas_profile.specs.declared.profile.Profile.{Profile}
 use Rattle.pas_report.specs.declared.record.Record.{Record}
 use Rattle.pas_report.specs.declared.record.Said.{Said}
 use Rattle.pas_trace.specs.Acts.{Act, Operates, Settles, Ticks, MakesPass, ReadsEpoch, StopsIdle, MarksPhase, Wakes, MarksClose, Ends}
-use Rattle.pas_trace.specs.Named.{standing_for}
 use Rattle.pas_trace.specs.declared.plan.What.{What}
-use Rattle.pas_trace.specs.declared.plan.What.TheVariants.{Alloc, Free, Raw, Flush, Stop, Tick, Pass, Idle}
-use Rattle.pas_check.specs.Begins.{after_task, begun_act, begun_from, begun_what, entries_due, flushing, freeing, freeing_at, freeing_named, is_aligned, is_page, logging, past_outcomes, settled_with, stopping, tells}
-use Rattle.pas_check.specs.Bounds.{FitsNext}
+use Rattle.pas_trace.specs.declared.plan.What.TheVariants.{Alloc, Free, FreeSized, Raw, RawSized, Remake, Flush, Stop, Tick, Pass, Idle}
+use Rattle.pas_check.specs.Begins.{after_task, begun_act, begun_from, begun_what, entries_due, entry_of, flushing, freeing, freeing_at, freeing_named, is_aligned, is_full, is_page, logging, past_outcomes, remaking, remaking_named, request_for, settled_with, stopping, suits, tells, unsized}
+use Rattle.pas_check.specs.Bounds.{FitsNext, FitsRequest, HaveHeaps}
 use Rattle.pas_check.specs.Calls.{IsFollowed, outcome_in}
-use Rattle.pas_check.specs.Checks.{AllFit, FitsAct, FitsWhat, IsThread}
+use Rattle.pas_check.specs.Checks.{AllFit, FitsAct, FitsHeaps, FitsWhat, IsThread}
+use Rattle.pas_check.specs.Named.{Named, standing_for}
 use Rattle.pas_check.specs.States.{Due, Writes, Task, Does, Reports, Stand}
 use Rattle.pas_check.specs.Takes.{IsOutcome}
+use Rattle.pas_check.specs.declared.entry.Entry.{Entry}
 use Rattle.pas_check.proofs.Beginnings.{begins_no_pass}
 use Rattle.pas_check.proofs.Examinings.{outcome_is}
 
@@ -29,42 +30,65 @@ record IsBegun (f : Profile) (s b : Stand) : Type 0 where
   fits : FitsNext f b.due
   events : b.events ≡ s.events
   epoch : b.epoch < 2 ^ 64
+  heaps : HaveHeaps b.names
 
-entries_fit : (f : Profile) (k : ℕ) (log : List Name) (more : List Due) → IsThread k → FitsNext f more → FitsNext f (entries_due k log ++ more)
+-- a name more
+heaps_if : (t : Bool) (found : Option Block) (old : Option (Option Block)) (block : Block) → ((b : Block) → found ≡ Some b → b.heap < 32) → (old ≡ Some (Some block) → block.heap < 32)
+    → (if t then Some found else old) ≡ Some (Some block) → block.heap < 32
+heaps_if true found old block new before is = new block (same_Some found (Some block) is)
+heaps_if false found old block new before is = before is
+
+heaps_more : (names : List Named) (name : ℕ) (found : Option Block) → HaveHeaps names → ((b : Block) → found ≡ Some b → b.heap < 32) → HaveHeaps (record { name = name; block = found } ∷ names)
+heaps_more names name found heaps new n block is = heaps_if (name == n) found (standing_for names n) block new (heaps n block) is
+
+entries_fit : (f : Profile) (k : ℕ) (log : List Entry) (more : List Due) → IsThread k → FitsNext f more → FitsNext f (entries_due k log ++ more)
 entries_fit f k [] more thread fits = fits
-entries_fit f k (name ∷ log) more thread fits = (thread.1, inl thread.0)
+entries_fit f k (entry ∷ log) more thread fits = (thread.1, inl thread.0)
 
-module _ (f : Profile) (s : Stand) (due : s.due ≡ []) (small : s.epoch < 2 ^ 64) where
+module _ (f : Profile) (s : Stand) (due : s.due ≡ []) (small : s.epoch < 2 ^ 64) (heaps : HaveHeaps s.names) where
   same : IsBegun f s s
-  same = record { fits = subst (FitsNext f) (sym due) tt; events = refl; epoch = small }
+  same = record { fits = subst (FitsNext f) (sym due) tt; events = refl; epoch = small; heaps = heaps }
 
   said : (k : ℕ) (words : Said) → IsThread k → IsBegun f s (tells s k words)
-  said k words thread = record { fits = inl thread; events = refl; epoch = small }
+  said k words thread = record { fits = inl thread; events = refl; epoch = small; heaps = heaps }
 
-  flushes : (k : ℕ) (log : List Name) (more : List Due) → IsThread k → FitsNext f more → IsBegun f s (flushing s k log more)
-  flushes k log more thread fits = record { fits = entries_fit f k (s.logs k) more thread fits; events = refl; epoch = small }
+  flushes : (k : ℕ) (log : List Entry) (more : List Due) → IsThread k → FitsNext f more → IsBegun f s (flushing s k log more)
+  flushes k log more thread fits = record { fits = entries_fit f k (s.logs k) more thread fits; events = refl; epoch = small; heaps = heaps }
 
-  logs : (full : Bool) (k : ℕ) (name : Name) → IsThread k → IsBegun f s (logging full s k name)
-  logs true k name thread = flushes k (name ∷ []) [] thread tt
-  logs false k name thread = record { fits = subst (FitsNext f) (sym due) tt; events = refl; epoch = small }
+  logs : (full : Bool) (k : ℕ) (entry : Entry) → IsThread k → IsBegun f s (logging full s k entry [])
+  logs true k entry thread = flushes k (entry ∷ []) [] thread tt
+  logs false k entry thread = record { fits = tt; events = refl; epoch = small; heaps = heaps }
 
-  frees_at : (inside aligned : Bool) (k : ℕ) (name : Name) → IsThread k → IsBegun f s (freeing_at inside aligned s k name)
-  frees_at false aligned k name thread = said k (Said.Outside name) thread
-  frees_at true false k name thread = said k (Said.Unaligned name) thread
-  frees_at true true k name thread = logs (nat_le 64 (length (s.logs k))) k name thread
+  frees_at : (inside aligned : Bool) (k : ℕ) (entry : Entry) → IsThread k → IsBegun f s (freeing_at inside aligned s k entry)
+  frees_at false aligned k entry thread = said k (Said.Outside entry.name) thread
+  frees_at true false k entry thread = said k (Said.Unaligned entry.name) thread
+  frees_at true true k entry thread = logs (is_full s k) k entry thread
 
-  frees : (k : ℕ) (name : Name) → IsThread k → IsBegun f s (freeing f s k name)
-  frees k name thread = frees_at (is_page f (address_of name / 4096)) (is_aligned name) k name thread
+  frees : (k : ℕ) (entry : Entry) → IsThread k → IsBegun f s (freeing f s k entry)
+  frees k entry thread = frees_at (is_page f (address_of entry.name / 4096)) (is_aligned entry.name) k entry thread
 
-  frees_named : (k name : ℕ) (block : Option (Option Name)) → IsThread k → IsBegun f s (freeing_named f s k name block)
-  frees_named k name None thread = same
-  frees_named k name (Some None) thread = said k (Said.Skipped name) thread
-  frees_named k name (Some (Some block)) thread = frees k block thread
+  frees_named : (k name room : ℕ) (block : Option (Option Block)) → IsThread k → IsBegun f s (freeing_named f s k name room block)
+  frees_named k name room None thread = same
+  frees_named k name room (Some None) thread = said k (Said.Skipped name) thread
+  frees_named k name room (Some (Some block)) thread = frees k (entry_of block.name room) thread
+
+  remakes_as : (suited : Bool) (k name size align : ℕ) (old : Block) → old.heap < 32 → IsThread k → FitsRequest f k (request_for old name size align) → IsBegun f s (remaking suited s k (request_for old name size align) old)
+  remakes_as true k name size align old one thread fits = record { fits = inl thread; events = refl; epoch = small; heaps = heaps_more s.names name (Some old) heaps (λ b is. subst (λ (c : Block). c.heap < 32) (same_Some old b is) one) }
+  remakes_as false k name size align old one thread fits = record { fits = fits; events = refl; epoch = small; heaps = heaps }
+
+  remakes : (k name heap size align : ℕ) (block : Option (Option Block)) → ((b : Block) → block ≡ Some (Some b) → b.heap < 32) → IsThread k
+      → FitsHeaps f k (record { name = name; heap = heap; size = size; align = align }) → IsBegun f s (remaking_named s k name size align block)
+  remakes k name heap size align None one thread fits = same
+  remakes k name heap size align (Some None) one thread fits = record { fits = inl thread; events = refl; epoch = small; heaps = heaps_more s.names name None heaps (λ b is. absurd (none-some b is)) }
+  remakes k name heap size align (Some (Some old)) one thread fits = remakes_as (suits old size align) k name size align old (one old refl) thread (fits.1 old.heap (one old refl))
 
   operates : (k : ℕ) (what : What) → IsThread k → FitsWhat f k what → IsBegun f s (begun_what f s k what)
-  operates k (Alloc name heap size align) thread fits = record { fits = fits; events = refl; epoch = small }
-  operates k (Free name) thread fits = frees_named k name (standing_for s.names name) thread
-  operates k (Raw block) thread fits = frees k block thread
+  operates k (Alloc name heap size align) thread fits = record { fits = fits.1 heap fits.0; events = refl; epoch = small; heaps = heaps }
+  operates k (Free name) thread fits = frees_named k name 0 (standing_for s.names name) thread
+  operates k (FreeSized name room) thread fits = frees_named k name room (standing_for s.names name) thread
+  operates k (Raw block) thread fits = frees k (unsized block) thread
+  operates k (RawSized room block) thread fits = frees k (entry_of block room) thread
+  operates k (Remake name old heap size align) thread fits = remakes k name heap size align (standing_for s.names old) (heaps old) thread fits
   operates k Flush thread fits = flushes k [] [] thread tt
   operates k Stop thread fits = flushes k [] [] thread tt
   operates k (Tick e) thread fits = same
@@ -80,13 +104,13 @@ module _ (f : Profile) (s : Stand) (due : s.due ≡ []) (small : s.epoch < 2 ^ 6
   begins (Settles k) fits = same
   begins (Ticks e) fits =
       let great : max s.epoch e < 2 ^ 64 = omega (arith, fits, small) in
-      record { fits = inr ((omega arith, great), no_outcome (Record.Said 0 (Said.Tick (max s.epoch e))) (λ n. refl)); events = refl; epoch = great }
-  begins MakesPass fits = record { fits = inr ((omega arith, small), no_outcome (Record.Said 0 (Said.Pass s.epoch)) (λ n. refl)); events = refl; epoch = small }
+      record { fits = inr ((omega arith, great), no_outcome (Record.Said 0 (Said.Tick (max s.epoch e))) (λ n. refl)); events = refl; epoch = great; heaps = heaps }
+  begins MakesPass fits = record { fits = inr ((omega arith, small), no_outcome (Record.Said 0 (Said.Pass s.epoch)) (λ n. refl)); events = refl; epoch = small; heaps = heaps }
   begins ReadsEpoch fits = same
   begins (StopsIdle k n) fits = stops (nat_le (s.idle_since k + n) s.epoch) k fits
-  begins (MarksPhase n) fits = record { fits = inr (fits, no_outcome (Record.Phase n) (λ e. refl)); events = refl; epoch = small }
-  begins (Wakes k) fits = record { fits = subst (FitsNext f) (sym due) tt; events = refl; epoch = small }
-  begins MarksClose fits = record { fits = inr (tt, no_outcome Record.Close (λ e. refl)); events = refl; epoch = small }
+  begins (MarksPhase n) fits = record { fits = inr (fits, no_outcome (Record.Phase n) (λ e. refl)); events = refl; epoch = small; heaps = heaps }
+  begins (Wakes k) fits = record { fits = subst (FitsNext f) (sym due) tt; events = refl; epoch = small; heaps = heaps }
+  begins MarksClose fits = record { fits = inr (tt, no_outcome Record.Close (λ e. refl)); events = refl; epoch = small; heaps = heaps }
   begins (Ends k) fits = flushes k [] [] fits tt
 
 -- ---- .. up to the first that has a line
@@ -106,18 +130,18 @@ settles f es b other (d ∷ ds) is fits no_pass events epoch rest = record {
   epoch = epoch;
 }
 
-well_from : (f : Profile) (es : List Event) (acts : List Act) → AllFit f acts → (u : Stand) → u.due ≡ [] → u.events ≡ es → u.epoch < 2 ^ 64
+well_from : (f : Profile) (es : List Event) (acts : List Act) → AllFit f acts → (u : Stand) → u.due ≡ [] → u.events ≡ es → u.epoch < 2 ^ 64 → HaveHeaps u.names
     → IsWell f es (begun_from f u (map Does acts ++ Reports ∷ []))
-well_from f es [] fit u due events epoch = record { fits = tt; no_pass = refl; events = events; epoch = epoch }
-well_from f es (act ∷ acts) fit u due events epoch =
+well_from f es [] fit u due events epoch heaps = record { fits = tt; no_pass = refl; events = events; epoch = epoch }
+well_from f es (act ∷ acts) fit u due events epoch heaps =
     let rest : List Task = map Does acts ++ Reports ∷ [] in
     let b : Stand = after_task f u (Does act) rest in
-    let begun = begins f u due epoch act fit.0 in
+    let begun = begins f u due epoch heaps act fit.0 in
     settles f es b (begun_from f b rest) b.due refl begun.fits (begins_no_pass f u (Does act) (subst (λ (ds : List Due). past_outcomes ds ≡ ds) (sym due) refl))
-    (begun.events ∙ events) begun.epoch (λ none. well_from f es acts fit.1 b none (begun.events ∙ events) begun.epoch)
+    (begun.events ∙ events) begun.epoch (λ none. well_from f es acts fit.1 b none (begun.events ∙ events) begun.epoch begun.heaps)
 
-pub is_followed : (f : Profile) (acts : List Act) → AllFit f acts → (s : Stand) → s.epoch < 2 ^ 64 → s.left ≡ map Does acts ++ Reports ∷ [] → IsFollowed f s
-is_followed f acts fit s epoch left =
+pub is_followed : (f : Profile) (acts : List Act) → AllFit f acts → (s : Stand) → s.epoch < 2 ^ 64 → HaveHeaps s.names → s.left ≡ map Does acts ++ Reports ∷ [] → IsFollowed f s
+is_followed f acts fit s epoch heaps left =
     let well : (es : List Event) → IsWell f es (begun_from f (record s { events = es; due = [] }) s.left)
-    = λ es. subst (λ (ts : List Task). IsWell f es (begun_from f (record s { events = es; due = [] }) ts)) (sym left) (well_from f es acts fit (record s { events = es; due = [] }) refl refl epoch) in
+    = λ es. subst (λ (ts : List Task). IsWell f es (begun_from f (record s { events = es; due = [] }) ts)) (sym left) (well_from f es acts fit (record s { events = es; due = [] }) refl refl epoch heaps) in
     record { fits = λ es. (well es).fits; no_pass = λ es. (well es).no_pass; events = λ es. (well es).events; epoch = λ es. (well es).epoch }

@@ -1,6 +1,7 @@
 mod Digits
 mod Readings
 pub mod Cuts
+mod Marks
 pub mod Verdicts
 pub mod Entries
 mod Examinings

@@ -2,39 +2,39 @@
 use Rattle.std.proofs.Common.{◌≡◌, ◌≢◌, ℕ, ◌+◌, ◌-◌, ◌*◌, ◌<◌, ◌≤◌, List, [], ◌∷◌, ◌++◌, length, take, drop, get_or, set, inl, inr, ap, ◌∙◌, arith, length-drop, get_or-set_other, get_or-set_same}
 use Rattle.std.proofs.lemmas.Bool.{cases_lt}
 use Rattle.std.proofs.lemmas.List.{drop-set-add, drop-set-lt, length-take-le, take-set-le, take_more_set}
-use Rattle.pas_profile.specs.declared.name.Name.{Name}
 use Rattle.pas_check.specs.Tables.{log_of}
+use Rattle.pas_check.specs.declared.entry.Entry.{Entry}
 
-module _ (names : List Name) (counts : List ℕ) (sized : length names ≡ 64 * length counts) (few : (j : ℕ) → get_or counts j 0 ≤ 64) where
-  left_there : (k : ℕ) → k < length counts → 64 ≤ length (drop (64 * k) names)
-  left_there k held = let e = length-drop (64 * k) names in omega (arith, e, sized, held)
+module _ (entries : List Entry) (counts : List ℕ) (sized : length entries ≡ 64 * length counts) (few : (j : ℕ) → get_or counts j 0 ≤ 64) where
+  left_there : (k : ℕ) → k < length counts → 64 ≤ length (drop (64 * k) entries)
+  left_there k held = let e = length-drop (64 * k) entries in omega (arith, e, sized, held)
 
-  pub length_is : (k : ℕ) → k < length counts → length (log_of names counts k) ≡ get_or counts k 0
-  length_is k held = let some = left_there k held in let most = few k in length-take-le (get_or counts k 0) (drop (64 * k) names) (omega (arith, some, most))
+  pub length_is : (k : ℕ) → k < length counts → length (log_of entries counts k) ≡ get_or counts k 0
+  length_is k held = let some = left_there k held in let most = few k in length-take-le (get_or counts k 0) (drop (64 * k) entries) (omega (arith, some, most))
 
-  module _ (k c : ℕ) (name : Name) (held : k < length counts) (is : c ≡ get_or counts k 0) (room : c < 64) where
-    pub log_added : log_of (set names (64 * k + c) name) (set counts k (c + 1)) k ≡ log_of names counts k ++ name ∷ []
+  module _ (k c : ℕ) (entry : Entry) (held : k < length counts) (is : c ≡ get_or counts k 0) (room : c < 64) where
+    pub log_added : log_of (set entries (64 * k + c) entry) (set counts k (c + 1)) k ≡ log_of entries counts k ++ entry ∷ []
     log_added =
         let some = left_there k held in
-        let here : c < length (drop (64 * k) names) = omega (arith, some, room) in
-        (λ i. take (get_or-set_same counts k (c + 1) 0 held i) (drop-set-add (64 * k) names c name i)) ∙ take_more_set (drop (64 * k) names) c name here
-        ∙ ap (λ n. take n (drop (64 * k) names) ++ name ∷ []) is
+        let here : c < length (drop (64 * k) entries) = omega (arith, some, room) in
+        (λ i. take (get_or-set_same counts k (c + 1) 0 held i) (drop-set-add (64 * k) entries c entry i)) ∙ take_more_set (drop (64 * k) entries) c entry here
+        ∙ ap (λ n. take n (drop (64 * k) entries) ++ entry ∷ []) is
 
-    log_other : (j : ℕ) → j ≢ k → take (get_or counts j 0) (drop (64 * j) (set names (64 * k + c) name)) ≡ take (get_or counts j 0) (drop (64 * j) names)
+    log_other : (j : ℕ) → j ≢ k → take (get_or counts j 0) (drop (64 * j) (set entries (64 * k + c) entry)) ≡ take (get_or counts j 0) (drop (64 * j) entries)
     log_other j other = elim (cases_lt j k) [
       | inl before ↦
           let most = few j in
           let e : 64 * k + c ≡ 64 * j + (64 * k + c - 64 * j) = omega (arith, before) in
-          ap (λ n. take (get_or counts j 0) (drop (64 * j) (set names n name))) e ∙ ap (take (get_or counts j 0)) (drop-set-add (64 * j) names (64 * k + c - 64 * j) name)
-          ∙ take-set-le (get_or counts j 0) (drop (64 * j) names) (64 * k + c - 64 * j) name (omega (arith, most, before))
-      | inr from ↦ ap (take (get_or counts j 0)) (drop-set-lt (64 * j) names (64 * k + c) name (omega (arith, from, other, room)))
+          ap (λ n. take (get_or counts j 0) (drop (64 * j) (set entries n entry))) e ∙ ap (take (get_or counts j 0)) (drop-set-add (64 * j) entries (64 * k + c - 64 * j) entry)
+          ∙ take-set-le (get_or counts j 0) (drop (64 * j) entries) (64 * k + c - 64 * j) entry (omega (arith, most, before))
+      | inr from ↦ ap (take (get_or counts j 0)) (drop-set-lt (64 * j) entries (64 * k + c) entry (omega (arith, from, other, room)))
     ]
 
-    pub logs_kept : (j : ℕ) → j ≢ k → log_of (set names (64 * k + c) name) (set counts k (c + 1)) j ≡ log_of names counts j
-    logs_kept j other = ap (λ n. take n (drop (64 * j) (set names (64 * k + c) name))) (get_or-set_other counts k j (c + 1) 0 other) ∙ log_other j other
+    pub logs_kept : (j : ℕ) → j ≢ k → log_of (set entries (64 * k + c) entry) (set counts k (c + 1)) j ≡ log_of entries counts j
+    logs_kept j other = ap (λ n. take n (drop (64 * j) (set entries (64 * k + c) entry))) (get_or-set_other counts k j (c + 1) 0 other) ∙ log_other j other
 
-pub log_cleared : (names : List Name) (counts : List ℕ) (k : ℕ) → k < length counts → log_of names (set counts k 0) k ≡ []
-log_cleared names counts k held = ap (λ n. take n (drop (64 * k) names)) (get_or-set_same counts k 0 0 held)
+pub log_cleared : (entries : List Entry) (counts : List ℕ) (k : ℕ) → k < length counts → log_of entries (set counts k 0) k ≡ []
+log_cleared entries counts k held = ap (λ n. take n (drop (64 * k) entries)) (get_or-set_same counts k 0 0 held)
 
-pub clear_kept : (names : List Name) (counts : List ℕ) (k j : ℕ) → j ≢ k → log_of names (set counts k 0) j ≡ log_of names counts j
-clear_kept names counts k j other = ap (λ n. take n (drop (64 * j) names)) (get_or-set_other counts k j 0 0 other)
+pub clear_kept : (entries : List Entry) (counts : List ℕ) (k j : ℕ) → j ≢ k → log_of entries (set counts k 0) j ≡ log_of entries counts j
+clear_kept entries counts k j other = ap (λ n. take n (drop (64 * j) entries)) (get_or-set_other counts k j 0 0 other)

@@ -6,7 +6,6 @@ use Rattle.pas_profile.specs.declared.event.Why.{Why}
 use Rattle.pas_profile.specs.declared.event.Outcome.{Outcome}
 use Rattle.pas_profile.specs.declared.event.Outcome.TheVariants.{Unbacked, Bare, Young, InUse, NotOffered}
 use Rattle.pas_profile.specs.declared.name.Block.{Block}
-use Rattle.pas_profile.specs.declared.name.Name.{Name}
 use Rattle.pas_profile.specs.declared.profile.Profile.{Profile}
 use Rattle.pas_report.specs.Lines.{hex_digits, line_of, line_of_answer, line_of_event}
 use Rattle.pas_report.specs.declared.record.Record.{Record}
@@ -14,13 +13,14 @@ use Rattle.pas_report.specs.declared.record.Said.{Said}
 use Rattle.pas_trace.specs.declared.item.Request.{Request}
 use Rattle.pas_check.specs.Begins.{past_outcomes, ready}
 use Rattle.pas_check.specs.Bounds.{FitsFirst, FitsNext, IsOfThread, IsSmall}
-use Rattle.pas_check.specs.Ranges.{Fits, FitsEvent, FitsName}
+use Rattle.pas_check.specs.Ranges.{Fits, FitsEntry, FitsEvent}
 use Rattle.pas_check.specs.Readings.{byte_at, of_u8, past_digits}
 use Rattle.pas_check.specs.States.{Due, Writes, Frees, Serves, Examines, Heads, Shows, Totals, Stand}
 use Rattle.pas_check.specs.Takes.{IsEventOf, IsOutcome, IsPreparing, IsRefusal, Takes, TakesDue, TakesFirst, TakesOutcome, directory_of, record_of}
+use Rattle.pas_check.specs.declared.entry.Entry.{Entry}
 use Rattle.pas_check.proofs.Digits.{past_number, u8_back}
 use Rattle.pas_check.proofs.OneNext.{gives_fits, one_next, one_outcome, outcome_fits, prepares_fits, refusal_fits, same_record}
-use Rattle.pas_check.proofs.Takings.{plain_fits}
+use Rattle.pas_check.proofs.Takings.{why_fits}
 
 -- ---- the lines of outcomes begin with a number
 behind_actor : (epoch page : ℕ) (o : Outcome) → byte_at 0 (past_digits (line_of (record_of epoch page o))) ≡ 32
@@ -57,6 +57,7 @@ module _ (k : ℕ) (few : k < 2 ^ 8) where
   said_spaced (Said.Outside block) = (_, refl)
   said_spaced (Said.Unaligned block) = (_, refl)
   said_spaced (Said.Skipped name) = (_, refl)
+  said_spaced (Said.Kept block name) = (_, refl)
   said_spaced (Said.Tick epoch) = (_, refl)
   said_spaced (Said.Pass epoch) = (_, refl)
   said_spaced (Said.Bare page) = (_, refl)
@@ -67,14 +68,14 @@ module _ (k : ℕ) (few : k < 2 ^ 8) where
   said_spaced (Said.Guarded low high name) = (_, refl)
   said_spaced (Said.Lowered low high) = (_, refl)
 
-  entry_spaced : (s : Stand) (name : Name) (e : Event) → IsEventOf s k name e → Spaced (line_of_event e)
-  entry_spaced s name e (inl is) = subst (λ g. Spaced (line_of_event g)) (sym is.3) (refused is.0)
+  entry_spaced : (s : Stand) (entry : Entry) (e : Event) → IsEventOf s k entry e → Spaced (line_of_event e)
+  entry_spaced s entry e (inl is) = subst (λ g. Spaced (line_of_event g)) (sym is.3) (refused is.0)
     where
-      refused : (why : Why) → Spaced (line_of_event (Event.Reject k name why))
+      refused : (why : Why) → Spaced (line_of_event (Event.Reject k entry.name why))
       refused Why.Ended = (_, refl)
       refused Why.NoBlock = (_, refl)
       refused (Why.SizeDiffers room) = (_, refl)
-  entry_spaced s name e (inr is) = subst (λ g. Spaced (line_of_event g)) (sym is.1) (_, refl)
+  entry_spaced s entry e (inr is) = subst (λ g. Spaced (line_of_event g)) (sym is.1) (_, refl)
 
 -- ---- what is no record of an outcome
 event_of_outcome : (e : Event) (epoch page : ℕ) (o : Outcome) → Record.Event e ≡ record_of epoch page o → e ≡ Event.Unback 0 page epoch
@@ -84,9 +85,9 @@ event_of_outcome e epoch page (Young stamp) same = absurd (cc)
 event_of_outcome e epoch page (InUse word value) same = absurd (cc)
 event_of_outcome e epoch page NotOffered same = absurd (cc)
 
-no_entry : (s : Stand) (k : ℕ) (name : Name) (e : Event) → IsEventOf s k name e → IsOutcome (Record.Event e) → ⊥
-no_entry s k name e (inl is) out = let same = event_of_outcome e out.0 out.1 out.2 out.3 in let here = is.3 in absurd (cc (same, here))
-no_entry s k name e (inr is) out = let same = event_of_outcome e out.0 out.1 out.2 out.3 in let here = is.1 in absurd (cc (same, here))
+no_entry : (s : Stand) (k : ℕ) (entry : Entry) (e : Event) → IsEventOf s k entry e → IsOutcome (Record.Event e) → ⊥
+no_entry s k entry e (inl is) out = let same = event_of_outcome e out.0 out.1 out.2 out.3 in let here = is.3 in absurd (cc (same, here))
+no_entry s k entry e (inr is) out = let same = event_of_outcome e out.0 out.1 out.2 out.3 in let here = is.1 in absurd (cc (same, here))
 
 no_give : (k : ℕ) (e : Event) → (block : Block) → e ≡ Event.Give k block → IsOutcome (Record.Event e) → ⊥
 no_give k e block is out = let same = event_of_outcome e out.0 out.1 out.2 out.3 in absurd (cc (same, is))
@@ -114,9 +115,9 @@ module _ (f : Profile) (s : Stand) (k : ℕ) where
   no_refusal r said (inl is) out = no_space r.name out.0 out.1 out.2 (ap (Record.Said k) (sym is) ∙ out.3)
   no_refusal r said (inr is) out = no_held is.0 r.name out.0 out.1 out.2 (ap (Record.Said k) (sym is.2) ∙ out.3)
 
-entry_fits : (s : Stand) (k : ℕ) (name : Name) (e : Event) → k < 2 ^ 8 → FitsName name → s.epoch < 2 ^ 64 → IsEventOf s k name e → FitsEvent e
-entry_fits s k name e few fits small (inl is) = subst FitsEvent (sym is.3) (few, fits, plain_fits is.0 is.1)
-entry_fits s k name e few fits small (inr is) = subst FitsEvent (sym is.1) (few, fits, small)
+entry_fits : (s : Stand) (k : ℕ) (entry : Entry) (e : Event) → k < 2 ^ 8 → FitsEntry entry → s.epoch < 2 ^ 64 → IsEventOf s k entry e → FitsEvent e
+entry_fits s k entry e few fits small (inl is) = subst FitsEvent (sym is.3) (few, fits.name, why_fits entry is.0 fits.room is.1)
+entry_fits s k entry e few fits small (inr is) = subst FitsEvent (sym is.1) (few, fits.name, small)
 
 -- ---- the line of an outcome answers nothing else that is due
 module _ (f : Profile) (s : Stand) (small : IsSmall f s) (last : ℕ) (rest : List Due) (line : List ℕ) (a : Stand) (x : TakesOutcome f s last rest line a) where
@@ -145,19 +146,19 @@ module _ (f : Profile) (s : Stand) (small : IsSmall f s) (last : ℕ) (rest : Li
   no_writing Record.Close (inl of) has = of
   no_writing item (inr fits) has = no_record item fits.0 fits.1 has
 
-  no_entry_of : (t : Stand) (k : ℕ) (name : Name) (e : Event) → t.epoch < 2 ^ 64 → (k < 2 ^ 8) × ((0 < k) ⊎ FitsName name) → IsEventOf t k name e → line ≡ line_of_event e → ⊥
-  no_entry_of t k name e epoch (few, inl some) is has = no_thread k some (line_of_event e) (spaced_actor k few (line_of_event e) (entry_spaced k few t name e is)) has
-  no_entry_of t k name e epoch (few, inr fits) is has = no_record (Record.Event e) (entry_fits t k name e few fits epoch is) (no_entry t k name e is) has
+  no_entry_of : (t : Stand) (k : ℕ) (entry : Entry) (e : Event) → t.epoch < 2 ^ 64 → (k < 2 ^ 8) × ((0 < k) ⊎ FitsEntry entry) → IsEventOf t k entry e → line ≡ line_of_event e → ⊥
+  no_entry_of t k entry e epoch (few, inl some) is has = no_thread k some (line_of_event e) (spaced_actor k few (line_of_event e) (entry_spaced k few t entry e is)) has
+  no_entry_of t k entry e epoch (few, inr fits) is has = no_record (Record.Event e) (entry_fits t k entry e few fits epoch is) (no_entry t k entry e is) has
 
   pub outcome_apart : (t : Stand) → IsSmall f t → (due : List Due) → FitsNext f due → past_outcomes due ≡ due → (b : Stand) → TakesDue f t due line b → ⊥
   outcome_apart t new [] fits no_pass b y = y
   outcome_apart t new (Writes item ∷ more) fits no_pass b y = no_writing item fits y.0
-  outcome_apart t new (Frees k name ∷ more) fits no_pass b y = no_entry_of t k name y.event new.epoch fits y.of_entry y.line_is
-  outcome_apart t new (Serves k r ∷ more) fits no_pass b (inl y) =
+  outcome_apart t new (Frees k entry ∷ more) fits no_pass b y = no_entry_of t k entry y.event new.epoch fits y.of_entry y.line_is
+  outcome_apart t new (Serves k r old ∷ more) fits no_pass b (inl y) =
       no_record (Record.Event y.event) (prepares_fits f t new k r fits y.event y.prepares y.admitted) (no_preparing f t k r y.event y.prepares) y.line_is
-  outcome_apart t new (Serves k r ∷ more) fits no_pass b (inr (inl y)) =
+  outcome_apart t new (Serves k r old ∷ more) fits no_pass b (inr (inl y)) =
       no_record (Record.Event (Event.Give k y.block)) (gives_fits f t new k r fits y.block y.is_for y.admitted) (no_give k (Event.Give k y.block) y.block refl) y.line_is
-  outcome_apart t new (Serves k r ∷ more) fits no_pass b (inr (inr y)) =
+  outcome_apart t new (Serves k r old ∷ more) fits no_pass b (inr (inr y)) =
       no_record (Record.Said k y.said) (fits.actor, refusal_fits f t new k r fits y.said y.refuses) (no_refusal f t k r y.said y.refuses) y.line_is
   outcome_apart t new (Examines page ∷ more) fits no_pass b y = let e : length more ≡ suc (length more) = ap length no_pass in absurd (omega (arith, e))
   outcome_apart t new (Heads ∷ more) fits no_pass b y = no_text _ (λ e. omega (arith, e)) y.0
@@ -168,8 +169,8 @@ module _ (f : Profile) (s : Stand) (small : IsSmall f s) (last : ℕ) (rest : Li
 fits_first : (f : Profile) (due : List Due) → FitsNext f due → FitsFirst f due
 fits_first f [] fits = fits
 fits_first f (Writes item ∷ more) fits = tt
-fits_first f (Frees k name ∷ more) fits = tt
-fits_first f (Serves k r ∷ more) fits = fits
+fits_first f (Frees k entry ∷ more) fits = tt
+fits_first f (Serves k r old ∷ more) fits = fits
 fits_first f (Examines page ∷ more) fits = fits
 fits_first f (Heads ∷ more) fits = fits
 fits_first f (Shows page d ∷ more) fits = fits
@@ -179,8 +180,8 @@ module _ (f : Profile) (s : Stand) (small : IsSmall f s) where
   one_first : (due : List Due) (line : List ℕ) (a b : Stand) → TakesFirst f s due line a → TakesFirst f s due line b → a ≡ b
   one_first [] line a b x y = absurd x
   one_first (Writes item ∷ more) line a b x y = absurd x
-  one_first (Frees k name ∷ more) line a b x y = absurd x
-  one_first (Serves k r ∷ more) line a b x y = absurd x
+  one_first (Frees k entry ∷ more) line a b x y = absurd x
+  one_first (Serves k r old ∷ more) line a b x y = absurd x
   one_first (Examines page ∷ more) line a b x y = one_outcome f s small page more line a b x y
   one_first (Heads ∷ more) line a b x y = absurd x
   one_first (Shows page d ∷ more) line a b x y = absurd x
@@ -190,8 +191,8 @@ module _ (f : Profile) (s : Stand) (small : IsSmall f s) where
     first_apart : (due : List Due) (line : List ℕ) (a b : Stand) → TakesFirst f s due line a → TakesDue f (ready f s) (ready f s).due line b → ⊥
     first_apart [] line a b x y = x
     first_apart (Writes item ∷ more) line a b x y = x
-    first_apart (Frees k name ∷ more) line a b x y = x
-    first_apart (Serves k r ∷ more) line a b x y = x
+    first_apart (Frees k entry ∷ more) line a b x y = x
+    first_apart (Serves k r old ∷ more) line a b x y = x
     first_apart (Examines page ∷ more) line a b x y = outcome_apart f s small page more line a x (ready f s) new (ready f s).due fits no_pass b y
     first_apart (Heads ∷ more) line a b x y = x
     first_apart (Shows page d ∷ more) line a b x y = x

@@ -10,12 +10,14 @@ use Rattle.pas_profile.specs.declared.event.Event.{Event}
 use Rattle.pas_profile.specs.declared.event.Outcome.{Outcome}
 use Rattle.pas_profile.specs.declared.event.Outcome.TheVariants.{Unbacked, Bare, Young, InUse, NotOffered}
 use Rattle.pas_profile.specs.declared.name.Block.{Block}
+use Rattle.pas_profile.specs.declared.name.Name.{Name}
 use Rattle.pas_profile.specs.declared.profile.Profile.{Profile}
 use Rattle.pas_machine.specs.Machine.{Run, Admits}
 use Rattle.pas_machine.specs.State.{deed_in, backed_in}
 use Rattle.pas_report.specs.Lines.{line_of}
 use Rattle.pas_report.specs.declared.record.Record.{Record}
 use Rattle.pas_report.specs.declared.record.Said.{Said}
+use Rattle.pas_check.specs.Begins.{replacing}
 use Rattle.pas_check.specs.Bounds.{FitsRequest, FitsFirst, IsSmall}
 use Rattle.pas_trace.specs.declared.item.Request.{Request}
 use Rattle.pas_check.specs.Ranges.{FitsEvent, FitsSaid, Fits}
@@ -93,8 +95,8 @@ module _ (f : Profile) (s : Stand) (small : IsSmall f s) (k : ℕ) (r : Request)
   said_is : (a b : Said) → Record.Said k a ≡ Record.Said k b → a ≡ b
   said_is a b same = cc
 
-  module _ (more : List Due) (line : List ℕ) (a b : Stand) where
-    one_request : TakesRequest f s k r more line a → TakesRequest f s k r more line b → a ≡ b
+  module _ (replaced : Option Name) (more : List Due) (line : List ℕ) (a b : Stand) where
+    one_request : TakesRequest f s k r replaced more line a → TakesRequest f s k r replaced more line b → a ≡ b
     one_request (inl x) (inl y) =
         x.next_is ∙ ap (with_one s) (event_is x.event y.event (same_record line (Record.Event x.event) (Record.Event y.event)
         (prepares_fits x.event x.prepares x.admitted) (prepares_fits y.event y.prepares y.admitted) x.line_is y.line_is)) ∙ sym y.next_is
@@ -107,7 +109,7 @@ module _ (f : Profile) (s : Stand) (small : IsSmall f s) (k : ℕ) (r : Request)
         absurd (no_give y.event x.block y.prepares (event_is y.event (Event.Give k x.block) (same_record line (Record.Event y.event) (Record.Event (Event.Give k x.block))
         (prepares_fits y.event y.prepares y.admitted) (gives_fits x.block x.is_for x.admitted) y.line_is x.line_is)))
     one_request (inr (inl x)) (inr (inl y)) =
-        x.next_is ∙ ap (λ (c : Block). with_due (with_name (with_one s (Event.Give k c)) r.name (Some c.name)) more)
+        x.next_is ∙ ap (λ (c : Block). replacing replaced (with_name (with_one s (Event.Give k c)) r.name (Some c)) k more)
         (block_is x.block y.block (same_record line (Record.Event (Event.Give k x.block)) (Record.Event (Event.Give k y.block)) (gives_fits x.block x.is_for x.admitted) (gives_fits y.block y.is_for y.admitted) x.line_is y.line_is))
         ∙ sym y.next_is
     one_request (inr (inl x)) (inr (inr y)) =
@@ -164,8 +166,8 @@ one_outcome f s small last more line a b x y =
 pub one_next : (f : Profile) (s : Stand) → IsSmall f s → (due : List Due) → FitsFirst f due → (line : List ℕ) (a b : Stand) → TakesDue f s due line a → TakesDue f s due line b → a ≡ b
 one_next f s small [] fits line a b x y = absurd x
 one_next f s small (Writes item ∷ more) fits line a b x y = x.1 ∙ sym y.1
-one_next f s small (Frees k name ∷ more) fits line a b x y = x.next_is ∙ ap (λ e. with_due (with_one s e) more) (one_event s k name x.event y.event x.of_entry y.of_entry) ∙ sym y.next_is
-one_next f s small (Serves k r ∷ more) fits line a b x y = one_request f s small k r fits more line a b x y
+one_next f s small (Frees k entry ∷ more) fits line a b x y = x.next_is ∙ ap (λ e. with_due (with_one s e) more) (one_event s k entry x.event y.event x.of_entry y.of_entry) ∙ sym y.next_is
+one_next f s small (Serves k r old ∷ more) fits line a b x y = one_request f s small k r fits old more line a b x y
 one_next f s small (Examines page ∷ more) fits line a b x y = one_outcome f s small page more line a b x y
 one_next f s small (Heads ∷ more) fits line a b x y = x.1 ∙ sym y.1
 one_next f s small (Shows page d ∷ more) fits line a b x y = x.next_is ∙ sym y.next_is

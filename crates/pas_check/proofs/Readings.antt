@@ -21,7 +21,7 @@ use Rattle.pas_report.specs.declared.record.Said.{Said}
 use Rattle.pas_report.specs.declared.record.Record.{Record}
 use Rattle.pas_report.specs.Lines.{hex_digits, kind_text, name_text, line_of, line_of_event, line_of_answer, CanShow}
 use Rattle.pas_check.specs.Ranges.{FitsName, FitsBlock, FitsEvent, FitsSaid, Fits}
-use Rattle.pas_check.specs.Readings.{number_at, past_digits, hex_after, byte_at, of_u8, of_u32, name_at, past_name, kind_at, directory_at, deed_at, back_at, unback_at, give_at, freed_at, held_at, in_use_at, young_at, size_differs_at, guarded_at, lowered_at, word_at, record_at}
+use Rattle.pas_check.specs.Readings.{number_at, past_digits, hex_after, byte_at, of_u8, of_u32, name_at, past_name, kind_at, directory_at, deed_at, back_at, unback_at, give_at, freed_at, held_at, in_use_at, young_at, size_differs_at, kept_at, guarded_at, lowered_at, word_at, record_at}
 use Rattle.pas_check.proofs.Digits.{number_back, past_number, u8_back, u32_back, hex8_back, hex16_back}
 
 -- ---- names
@@ -126,6 +126,12 @@ in_use_is page word value fits few small =
     ∙ (λ i. Said.InUse page (u8_back word 32 last few refl i) (hex_after 16 0 (drop 9 (of_word i))))
     ∙ ap (Said.InUse page word) (hex16_back value (codes "\n") small)
 
+kept_is : (block : Name) (name : ℕ) → FitsName block → name < 2 ^ 32 → kept_at (codes " kept" ++ (name_text block ++ (codes " name " ++ (decimal name ++ codes "\n")))) ≡ Said.Kept block name
+kept_is block name fits small =
+    let rest : List ℕ = codes "name " ++ (decimal name ++ codes "\n") in
+    let past : past_name (name_text block ++ 32 ∷ rest) ≡ 32 ∷ rest = past_is block 32 rest fits refl in
+    (λ i. Said.Kept (name_is block 32 rest fits refl i) (of_u32 (drop 6 (past i)))) ∙ ap (Said.Kept block) (u32_back name 10 [] small refl)
+
 guarded_is : (low high name : ℕ) → low < 2 ^ 32 → high < 2 ^ 32 → name < 2 ^ 32
     → guarded_at (codes " guarded " ++ (decimal low ++ (codes " " ++ (decimal high ++ (codes " name " ++ (decimal name ++ codes "\n")))))) ≡ Said.Guarded low high name
 guarded_is low high name fits few small =
@@ -178,6 +184,7 @@ read_said k (Said.Held page name) few fits = by_actor k (codes "held " ++ (decim
 read_said k (Said.Outside block) few fits = by_actor k (codes "outside" ++ (name_text block ++ codes "\n")) few ∙ ap (λ n. Record.Said k (Said.Outside n)) (name_is block 10 [] fits refl)
 read_said k (Said.Unaligned block) few fits = by_actor k (codes "unaligned" ++ (name_text block ++ codes "\n")) few ∙ ap (λ n. Record.Said k (Said.Unaligned n)) (name_is block 10 [] fits refl)
 read_said k (Said.Skipped name) few fits = by_actor k (codes "skipped name " ++ (decimal name ++ codes "\n")) few ∙ ap (λ n. Record.Said k (Said.Skipped n)) (u32_back name 10 [] fits refl)
+read_said k (Said.Kept block name) few fits = by_actor k (codes "kept" ++ (name_text block ++ (codes " name " ++ (decimal name ++ codes "\n")))) few ∙ ap (Record.Said k) (kept_is block name fits.0 fits.1)
 read_said k (Said.Tick epoch) few fits = by_actor k (codes "tick " ++ (decimal epoch ++ codes "\n")) few ∙ ap (λ n. Record.Said k (Said.Tick n)) (number_back epoch 10 [] fits refl)
 read_said k (Said.Pass epoch) few fits = by_actor k (codes "pass " ++ (decimal epoch ++ codes "\n")) few ∙ ap (λ n. Record.Said k (Said.Pass n)) (number_back epoch 10 [] fits refl)
 read_said k (Said.Bare page) few fits = by_actor k (codes "bare page " ++ (decimal page ++ codes "\n")) few ∙ ap (λ n. Record.Said k (Said.Bare n)) (u32_back page 10 [] fits refl)

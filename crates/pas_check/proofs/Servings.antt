@@ -1,6 +1,6 @@
 -- Gives and refusals of a request, taken or not.
 use Rattle.std.specs.Prelude.{MatchBool}
-use Rattle.std.proofs.Common.{◌≡◌, ◌≢◌, ℕ, ◌+◌, ◌*◌, ◌-◌, ◌/◌, ◌^◌, ◌<◌, ◌≤◌, nat_le, nat_lt, Bool, true, false, List, Option, Some, None, inl, inr, refl, ap, sym, subst, ◌∙◌, arith}
+use Rattle.std.proofs.Common.{◌≡◌, ◌≢◌, ℕ, ◌+◌, ◌*◌, ◌-◌, ◌/◌, ◌^◌, ◌<◌, ◌≤◌, nat_le, nat_lt, Bool, true, false, List, Option, Some, None, inl, inr, refl, ap, subst, ◌∙◌, arith}
 use Rattle.std.proofs.lemmas.Bool.{leb-true, ltb-true, le-leb, lt-ltb, and_from, and_parts, cases_lt}
 use Rattle.std.proofs.lemmas.Option.{none-some}
 use Rattle.pas_profile.specs.Classes.{IsClass}
@@ -14,7 +14,6 @@ use Rattle.pas_profile.specs.declared.directory.Directory.{Directory}
 use Rattle.pas_profile.specs.declared.directory.Route.TheVariants.{Class}
 use Rattle.pas_profile.specs.declared.event.Event.{Event}
 use Rattle.pas_profile.specs.declared.name.Block.{Block}
-use Rattle.pas_profile.specs.declared.name.Name.{Name}
 use Rattle.pas_profile.specs.declared.profile.Profile.{Profile}
 use Rattle.pas_machine.specs.Machines.{profile_of, StandsFor}
 use Rattle.pas_machine.specs.Places.{IsEach}
@@ -25,7 +24,7 @@ use Rattle.pas_report.specs.declared.record.Record.{Record}
 use Rattle.pas_trace.specs.declared.item.Request.{Request}
 use Rattle.pas_check.specs.Calls.{GiveTaken, IsGiven, IsWanted, LiesOn, RefusalSeen, RefusesBy}
 use Rattle.pas_check.specs.Ranges.{Fits, FitsEvent}
-use Rattle.pas_check.specs.States.{Stand, with_due, with_name, with_one}
+use Rattle.pas_check.specs.States.{Stand}
 use Rattle.pas_check.specs.declared.serving.Wanted.{Wanted}
 use Rattle.pas_profile.proofs.ClassFacts.{class_known, route_is}
 use Rattle.pas_check.proofs.OneNext.{deed_page, gives_fits, refusal_fits}
@@ -78,27 +77,18 @@ module _ (old : Machine) (k : ℕ) (w : Wanted) (line : List ℕ) where
   pub give_unread : ((g : Event) → FitsEvent g → line ≡ line_of_event g → None ≡ Some g) → GiveTaken old old k w line None
   give_unread none = (
     refl,
-    λ s r more next wants small fits stands takes.
+    λ s r replaced more next wants small fits stands takes.
         let e = Event.Give k takes.block in
         none-some e (none e (gives_fits (profile_of old) s small k r fits takes.block takes.is_for takes.admitted) takes.line_is),
   )
 
-  pub give_taken : (new : Machine) (e : Event) → line ≡ line_of_event e → ((g : Event) → FitsEvent g → line ≡ line_of_event g → e ≡ g) → (found : Option Name) → IsGiven old new k w e found → GiveTaken old new k w line found
-  give_taken new e has only (Some name) given = λ s r more wants stands.
-      let g = given s r wants stands in (
-        Event.Give k g.0,
-        record {
-          block = g.0;
-          is_for = g.3;
-          admitted = g.4;
-          line_is = has ∙ ap line_of_event g.1;
-          next_is = ap (λ n. with_due (with_name (with_one s (Event.Give k g.0)) r.name (Some n)) more) (sym g.2);
-        },
-        g.5,
-      )
+  pub give_taken : (new : Machine) (e : Event) → line ≡ line_of_event e → ((g : Event) → FitsEvent g → line ≡ line_of_event g → e ≡ g) → (found : Option Block) → IsGiven old new k w e found → GiveTaken old new k w line found
+  give_taken new e has only (Some block) given = λ s r replaced more wants stands.
+      let g = given s r wants stands in
+      (record { block = block; is_for = g.1; admitted = g.2; line_is = has ∙ ap line_of_event g.0; next_is = refl }, g.3)
   give_taken new e has only None given = (
     given.0,
-    λ s r more next wants small fits stands takes.
+    λ s r replaced more next wants small fits stands takes.
         given.1 s r takes.block wants stands (only (Event.Give k takes.block) (gives_fits (profile_of old) s small k r fits takes.block takes.is_for takes.admitted) takes.line_is) takes.is_for takes.admitted,
   )
 

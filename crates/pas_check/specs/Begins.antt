@@ -2,17 +2,20 @@
 use Rattle.std.specs.Prelude.{ℕ, zero, suc, ◌+◌, ◌/◌, ◌%◌, ◌==◌, nat_le, ◌&&◌, Bool, true, false, List, [], ◌∷◌, ◌++◌, length, map, max, Option, None, Some}
 use Rattle.pas_profile.specs.declared.directory.Directory.{Directory}
 use Rattle.pas_profile.specs.declared.event.Event.{Event}
+use Rattle.pas_profile.specs.declared.name.Block.{Block}
 use Rattle.pas_profile.specs.declared.name.Name.{Name}
 use Rattle.pas_profile.specs.declared.profile.Profile.{Profile}
 use Rattle.pas_profile.specs.Blocks.{address_of}
 use Rattle.pas_machine.specs.State.{deed_in}
 use Rattle.pas_trace.specs.declared.plan.What.{What}
-use Rattle.pas_trace.specs.declared.plan.What.TheVariants.{Alloc, Free, Raw, Flush, Stop, Tick, Pass, Idle}
+use Rattle.pas_trace.specs.declared.plan.What.TheVariants.{Alloc, Free, FreeSized, Raw, RawSized, Remake, Flush, Stop, Tick, Pass, Idle}
 use Rattle.pas_report.specs.declared.record.Record.{Record}
 use Rattle.pas_report.specs.declared.record.Said.{Said}
+use Rattle.pas_trace.specs.declared.item.Request.{Request}
 use Rattle.pas_trace.specs.Acts.{Act, Operates, Settles, Ticks, MakesPass, ReadsEpoch, StopsIdle, MarksPhase, Wakes, MarksClose, Ends}
-use Rattle.pas_trace.specs.Named.{standing_for}
-use Rattle.pas_check.specs.States.{Due, Writes, Frees, Serves, Examines, Heads, Shows, Totals, Task, Does, Reports, Stand, with_at, with_due}
+use Rattle.pas_check.specs.Named.{standing_for}
+use Rattle.pas_check.specs.States.{Due, Writes, Frees, Serves, Examines, Heads, Shows, Totals, Task, Does, Reports, Stand, with_at, with_due, with_name}
+use Rattle.pas_check.specs.declared.entry.Entry.{Entry}
 
 -- the line of just this record is due
 abbrev pub says : Stand → Record → Stand
@@ -23,17 +26,28 @@ abbrev pub tells : Stand → ℕ → Said → Stand
 tells s k said = says s (Record.Said k said)
 
 -- ---- logs
-abbrev pub entries_due : ℕ → List Name → List Due
-entries_due k log = map (λ name. Frees k name) log
+-- the entry of a free that names this room
+abbrev pub entry_of : Name → ℕ → Entry
+entry_of name room = record { name = name; room = room }
 
--- the entries of thread k's log are due, and then these; its log has these names from then on
-abbrev pub flushing : Stand → ℕ → List Name → List Due → Stand
+-- .. and of one that names none
+abbrev pub unsized : Name → Entry
+unsized name = entry_of name 0
+
+abbrev pub entries_due : ℕ → List Entry → List Due
+entries_due k log = map (λ entry. Frees k entry) log
+
+-- the entries of thread k's log are due, and then these; its log has these from then on
+abbrev pub flushing : Stand → ℕ → List Entry → List Due → Stand
 flushing s k log more = record s { due = entries_due k (s.logs k) ++ more; logs = with_at s.logs k log }
 
--- Thread k frees this name: it is logged at the end, and a full log of 64 is flushed first.
-abbrev pub logging : Bool → Stand → ℕ → Name → Stand
-logging true s k name = flushing s k (name ∷ []) []
-logging false s k name = record s { logs = with_at s.logs k (s.logs k ++ name ∷ []) }
+-- Thread k frees so: the entry is logged at the end, and a full log of 64 is flushed first. Then these are due.
+abbrev pub logging : Bool → Stand → ℕ → Entry → List Due → Stand
+logging true s k entry more = flushing s k (entry ∷ []) more
+logging false s k entry more = record s { due = more; logs = with_at s.logs k (s.logs k ++ entry ∷ []) }
+
+abbrev pub is_full : Stand → ℕ → Bool
+is_full s k = nat_le 64 (length (s.logs k))
 
 abbrev pub is_page : Profile → ℕ → Bool
 is_page f page = nat_le 1 page && nat_le page f.pages
@@ -42,25 +56,53 @@ abbrev pub is_aligned : Name → Bool
 is_aligned name = address_of name % 16 == 0
 
 -- a name whose page isn't one of the region, or else whose address is no multiple of 16, isn't logged: this is said
-abbrev pub freeing_at : Bool → Bool → Stand → ℕ → Name → Stand
-freeing_at false aligned s k name = tells s k (Said.Outside name)
-freeing_at true false s k name = tells s k (Said.Unaligned name)
-freeing_at true true s k name = logging (nat_le 64 (length (s.logs k))) s k name
+abbrev pub freeing_at : Bool → Bool → Stand → ℕ → Entry → Stand
+freeing_at false aligned s k entry = tells s k (Said.Outside entry.name)
+freeing_at true false s k entry = tells s k (Said.Unaligned entry.name)
+freeing_at true true s k entry = logging (is_full s k) s k entry []
 
-abbrev pub freeing : Profile → Stand → ℕ → Name → Stand
-freeing f s k name = freeing_at (is_page f (address_of name / 4096)) (is_aligned name) s k name
+abbrev pub freeing : Profile → Stand → ℕ → Entry → Stand
+freeing f s k entry = freeing_at (is_page f (address_of entry.name / 4096)) (is_aligned entry.name) s k entry
 
--- a name of the trace whose request was refused is skipped
-abbrev pub freeing_named : Profile → Stand → ℕ → ℕ → Option (Option Name) → Stand
-freeing_named f s k name None = s
-freeing_named f s k name (Some None) = tells s k (Said.Skipped name)
-freeing_named f s k name (Some (Some block)) = freeing f s k block
+-- A free of what a name of the trace stands for, which names this room, or none where it is 0. A name whose request was refused is skipped.
+abbrev pub freeing_named : Profile → Stand → ℕ → ℕ → ℕ → Option (Option Block) → Stand
+freeing_named f s k name room None = s
+freeing_named f s k name room (Some None) = tells s k (Said.Skipped name)
+freeing_named f s k name room (Some (Some block)) = freeing f s k (entry_of block.name room)
+
+-- ---- another size for a block
+-- whether the block has room for so many bytes, where none count as one, and stands at a multiple of the alignment
+abbrev pub suits : Block → ℕ → ℕ → Bool
+suits old size align = nat_le (max size 1) old.room && (address_of old.name % align == 0)
+
+-- the request for another block of its heap
+abbrev pub request_for : Block → ℕ → ℕ → ℕ → Request
+request_for old name size align = record { name = name; heap = old.heap; size = size; align = align }
+
+-- A block that suits is kept, which is said, and the new name stands for it too. For another one a request is made, which replaces it.
+abbrev pub remaking : Bool → Stand → ℕ → Request → Block → Stand
+remaking true s k r old = tells (with_name s r.name (Some old)) k (Said.Kept old.name r.name)
+remaking false s k r old = with_due s (Serves k r (Some old.name) ∷ [])
+
+-- What a name of the trace stands for gets another size, under a new name. A name whose request was refused is skipped, and the new name counts as refused.
+abbrev pub remaking_named : Stand → ℕ → ℕ → ℕ → ℕ → Option (Option Block) → Stand
+remaking_named s k name size align None = s
+remaking_named s k name size align (Some None) = tells (with_name s name None) k (Said.Skipped name)
+remaking_named s k name size align (Some (Some old)) = remaking (suits old size align) s k (request_for old name size align) old
+
+-- the name that a request replaces, if there is one, is logged once the request is served. Then these are due
+abbrev pub replacing : Option Name → Stand → ℕ → List Due → Stand
+replacing None s k more = with_due s more
+replacing (Some old) s k more = logging (is_full s k) s k (unsized old) more
 
 -- ---- acts
 abbrev pub begun_what : Profile → Stand → ℕ → What → Stand
-begun_what f s k (Alloc name heap size align) = with_due s (Serves k record { name = name; heap = heap; size = size; align = align } ∷ [])
-begun_what f s k (Free name) = freeing_named f s k name (standing_for s.names name)
-begun_what f s k (Raw block) = freeing f s k block
+begun_what f s k (Alloc name heap size align) = with_due s (Serves k record { name = name; heap = heap; size = size; align = align } None ∷ [])
+begun_what f s k (Free name) = freeing_named f s k name 0 (standing_for s.names name)
+begun_what f s k (FreeSized name room) = freeing_named f s k name room (standing_for s.names name)
+begun_what f s k (Raw block) = freeing f s k (unsized block)
+begun_what f s k (RawSized room block) = freeing f s k (entry_of block room)
+begun_what f s k (Remake name old heap size align) = remaking_named s k name size align (standing_for s.names old)
 begun_what f s k Flush = flushing s k [] []
 begun_what f s k Stop = flushing s k [] []
 begun_what f s k (Tick e) = s
@@ -123,8 +165,8 @@ ready_with f s (d ∷ ds) = with_due s (d ∷ ds)
 abbrev pub past_outcomes : List Due → List Due
 past_outcomes [] = []
 past_outcomes (Writes item ∷ more) = Writes item ∷ more
-past_outcomes (Frees k name ∷ more) = Frees k name ∷ more
-past_outcomes (Serves k r ∷ more) = Serves k r ∷ more
+past_outcomes (Frees k entry ∷ more) = Frees k entry ∷ more
+past_outcomes (Serves k r old ∷ more) = Serves k r old ∷ more
 past_outcomes (Examines page ∷ more) = more
 past_outcomes (Heads ∷ more) = Heads ∷ more
 past_outcomes (Shows page d ∷ more) = Shows page d ∷ more

@@ -4,13 +4,15 @@ use Rattle.pas_profile.specs.Directories.{IsKind}
 use Rattle.pas_profile.specs.Profiles.{IsValid}
 use Rattle.pas_profile.specs.Requests.{room_in}
 use Rattle.pas_profile.specs.declared.directory.Directory.{Directory}
+use Rattle.pas_profile.specs.declared.name.Block.{Block}
 use Rattle.pas_profile.specs.declared.profile.Profile.{Profile}
 use Rattle.pas_machine.specs.Machine.{Run}
 use Rattle.pas_machine.specs.State.{deed_in, gives_in, epoch_in}
 use Rattle.pas_report.specs.declared.record.Record.{Record}
 use Rattle.pas_trace.specs.declared.item.Request.{Request}
+use Rattle.pas_check.specs.Named.{Named, standing_for}
 use Rattle.pas_check.specs.States.{Due, Writes, Frees, Serves, Examines, Heads, Shows, Totals, Stand}
-use Rattle.pas_check.specs.Ranges.{Fits, FitsName}
+use Rattle.pas_check.specs.Ranges.{Fits, FitsEntry}
 use Rattle.pas_check.specs.Takes.{IsOutcome, directory_of}
 use Rattle.pas_check.specs.declared.cutting.Cursor.{Cursor}
 
@@ -25,8 +27,8 @@ pub record FitsRequest (f : Profile) (k : ℕ) (r : Request) : Type 0 where
 abbrev pub FitsFirst : Profile → List Due → Type 0
 FitsFirst f [] = Unit {0}
 FitsFirst f (Writes item ∷ more) = Unit {0}
-FitsFirst f (Frees k name ∷ more) = Unit {0}
-FitsFirst f (Serves k r ∷ more) = FitsRequest f k r
+FitsFirst f (Frees k entry ∷ more) = Unit {0}
+FitsFirst f (Serves k r old ∷ more) = FitsRequest f k r
 FitsFirst f (Examines page ∷ more) = Unit {0}
 FitsFirst f (Heads ∷ more) = Unit {0}
 FitsFirst f (Shows page d ∷ more) = Unit {0}
@@ -44,12 +46,16 @@ IsOfThread Record.Close = ⊥
 abbrev pub FitsNext : Profile → List Due → Type 0
 FitsNext f [] = Unit {0}
 FitsNext f (Writes item ∷ more) = IsOfThread item ⊎ (Fits item × (IsOutcome item → ⊥))
-FitsNext f (Frees k name ∷ more) = (k < 2 ^ 8) × ((0 < k) ⊎ FitsName name)
-FitsNext f (Serves k r ∷ more) = FitsRequest f k r
+FitsNext f (Frees k entry ∷ more) = (k < 2 ^ 8) × ((0 < k) ⊎ FitsEntry entry)
+FitsNext f (Serves k r old ∷ more) = FitsRequest f k r
 FitsNext f (Examines page ∷ more) = Unit {0}
 FitsNext f (Heads ∷ more) = Unit {0}
 FitsNext f (Shows page d ∷ more) = Unit {0}
 FitsNext f (Totals ∷ more) = Unit {0}
+
+-- each block that a name stands for is of one of 32 heaps
+abbrev pub HaveHeaps : List Named → Type 0
+HaveHeaps names = (name : ℕ) (block : Block) → standing_for names name ≡ Some (Some block) → block.heap < 32
 
 -- the events so far are a run of few blocks, at small epochs
 pub record IsSmall (f : Profile) (s : Stand) : Type 0 where

@@ -13,17 +13,18 @@ use Rattle.pas_profile.specs.Requests.{room_in}
 use Rattle.pas_bits.specs.Runs.{in_run}
 use Rattle.pas_profile.specs.Blocks.{address_of, grain_of, length_of}
 use Rattle.pas_machine.specs.State.{deed_in}
-use Rattle.pas_machine.specs.Machine.{Admits}
+use Rattle.pas_machine.specs.Machine.{Admits, HasOtherRoom}
 use Rattle.pas_machine.specs.Machines.{profile_of, StandsFor}
 use Rattle.pas_machine.specs.declared.machine.Machine.{Machine}
 use Rattle.pas_trace.specs.declared.item.Request.{Request}
-use Rattle.pas_check.specs.Begins.{begun_from, entries_due, past_outcomes}
+use Rattle.pas_check.specs.Begins.{begun_from, entries_due, past_outcomes, replacing}
 use Rattle.pas_check.specs.Bounds.{FitsNext, FitsRequest, IsKept, IsSmall}
 use Rattle.pas_check.specs.Leading.{Fails, Leads}
 use Rattle.pas_check.specs.States.{Due, Examines, Serves, Stand, with_due, with_name, with_one}
-use Rattle.pas_check.specs.Takes.{IsFor, IsRefusal, MayCome, NamesNoRoom, TakesEntry, TakesGive, TakesOutcome, TakesPreparing, TakesRefusal, after_outcome, directory_of}
+use Rattle.pas_check.specs.Takes.{IsFor, IsRefusal, MayCome, MayRefuse, TakesEntry, TakesGive, TakesOutcome, TakesPreparing, TakesRefusal, after_outcome, directory_of}
 use Rattle.pas_check.specs.declared.cutting.Cursor.{Cursor}
 use Rattle.pas_check.specs.declared.examining.Examined.{Examined}
+use Rattle.pas_check.specs.declared.entry.Entry.{Entry}
 use Rattle.pas_check.specs.declared.serving.Wanted.{Wanted}
 
 -- the event of a record
@@ -39,19 +40,32 @@ IsStepped old new e true = (es : List Event) → StandsFor old es → Admits (pr
 IsStepped old new e false = (new ≡ old) × ((es : List Event) → StandsFor old es → Admits (profile_of old) es e → ⊥)
 
 -- ---- an entry
--- the end of the name by actor k, or a refusal of it that names no room
-abbrev pub MayAnswer : ℕ → Name → ℕ → Event → Type 0
-MayAnswer k name epoch e = (e ≡ Event.End k name epoch) ⊎ ((why : Why) × NamesNoRoom why × (e ≡ Event.Reject k name why))
+-- the end of the entry's name by actor k, or a refusal of it for a reason that the entry may have
+abbrev pub MayAnswer : ℕ → Entry → ℕ → Event → Type 0
+MayAnswer k entry epoch e = (e ≡ Event.End k entry.name epoch) ⊎ ((why : Why) × MayRefuse entry why × (e ≡ Event.Reject k entry.name why))
+
+-- the entry names a room, and the block of its name lives with another one
+abbrev pub Differs : List Event → Entry → Type 0
+Differs es entry = (0 < entry.room) × HasOtherRoom es entry.name entry.room
+
+-- .. which the event doesn't heed: it is the end of the name
+abbrev pub IsHeedless : List Event → Entry → Event → Type 0
+IsHeedless es entry (Event.Deed k page d) = ⊥
+IsHeedless es entry (Event.Back k page) = ⊥
+IsHeedless es entry (Event.Unback k page epoch) = ⊥
+IsHeedless es entry (Event.Give k block) = ⊥
+IsHeedless es entry (Event.End k name epoch) = Differs es entry
+IsHeedless es entry (Event.Reject k name why) = ⊥
 
 -- The line is that of the entry, wherever the machine stands for what stood before, and it stands for what stands after it; or no line of the entry is
 -- this one, and the machine is as it was.
-abbrev pub EntryTaken : Machine → Machine → ℕ → Name → ℕ → List ℕ → Bool → Type 0
-EntryTaken old new k name epoch line true = (s : Stand) (more : List Due) → StandsFor old s.events → s.epoch ≡ epoch
-    → (e : Event) × TakesEntry (profile_of old) s k name more line (with_due (with_one s e) more) × StandsFor new (e ∷ s.events)
-EntryTaken old new k name epoch line false = (new ≡ old) × ((s : Stand) (more : List Due) (next : Stand) → StandsFor old s.events → s.epoch ≡ epoch → TakesEntry (profile_of old) s k name more line next → ⊥)
+abbrev pub EntryTaken : Machine → Machine → ℕ → Entry → ℕ → List ℕ → Bool → Type 0
+EntryTaken old new k entry epoch line true = (s : Stand) (more : List Due) → StandsFor old s.events → s.epoch ≡ epoch
+    → (e : Event) × TakesEntry (profile_of old) s k entry more line (with_due (with_one s e) more) × StandsFor new (e ∷ s.events)
+EntryTaken old new k entry epoch line false = (new ≡ old) × ((s : Stand) (more : List Due) (next : Stand) → StandsFor old s.events → s.epoch ≡ epoch → TakesEntry (profile_of old) s k entry more line next → ⊥)
 
 -- The lines of so many entries lead from where the entries of the log are due to where those that are left are; or one of them can't be taken.
-abbrev pub EntriesTaken : Machine → Machine → List ℕ → Cursor → Cursor → ℕ → List Name → List Name → ℕ → Bool → Type 0
+abbrev pub EntriesTaken : Machine → Machine → List ℕ → Cursor → Cursor → ℕ → List Entry → List Entry → ℕ → Bool → Type 0
 EntriesTaken old new text from to k log left epoch true = (s : Stand) (more : List Due) → StandsFor old s.events → s.epoch ≡ epoch → IsKept s from
     → s.due ≡ entries_due k log ++ more
     → (t : Stand) × Leads (profile_of old) text s from t to × (t ≡ record s { events = t.events; due = entries_due k left ++ more }) × StandsFor new t.events × IsKept t to
@@ -82,6 +96,7 @@ outcome_in_said (Said.Held page name) = None
 outcome_in_said (Said.Outside block) = None
 outcome_in_said (Said.Unaligned block) = None
 outcome_in_said (Said.Skipped name) = None
+outcome_in_said (Said.Kept block name) = None
 outcome_in_said (Said.Tick epoch) = None
 outcome_in_said (Said.Pass epoch) = None
 outcome_in_said (Said.Bare page) = Some record { page = page; outcome = Bare }
@@ -129,19 +144,20 @@ LiesOn es block d = (x : ℕ) → in_run (grain_of block.name) (length_of block)
 abbrev pub IsFitting : Block → Wanted → Type 0
 IsFitting block w = (block.heap ≡ w.directory.heap) × (block.room ≡ w.room) × (address_of block.name % w.align ≡ 0)
 
--- The event was a give of what is wanted, under this name, and was taken; or it is none that may come, and the machine is as it was.
-abbrev pub IsGiven : Machine → Machine → ℕ → Wanted → Event → Option Name → Type 0
-IsGiven old new k w e (Some name) = (s : Stand) (r : Request) → IsWanted (profile_of old) r w → StandsFor old s.events
-    → (block : Block) × (e ≡ Event.Give k block) × (block.name ≡ name) × IsFor (profile_of old) s r block × Admits (profile_of old) s.events (Event.Give k block) × StandsFor new (Event.Give k block ∷ s.events)
+-- The event was a give of what is wanted, of this block, and was taken; or it is none that may come, and the machine is as it was.
+abbrev pub IsGiven : Machine → Machine → ℕ → Wanted → Event → Option Block → Type 0
+IsGiven old new k w e (Some block) = (s : Stand) (r : Request) → IsWanted (profile_of old) r w → StandsFor old s.events
+    → (e ≡ Event.Give k block) × IsFor (profile_of old) s r block × Admits (profile_of old) s.events (Event.Give k block) × StandsFor new (Event.Give k block ∷ s.events)
 IsGiven old new k w e None = (new ≡ old) × ((s : Stand) (r : Request) (block : Block) → IsWanted (profile_of old) r w → StandsFor old s.events
     → e ≡ Event.Give k block → IsFor (profile_of old) s r block → Admits (profile_of old) s.events (Event.Give k block) → ⊥)
 
--- The line is that of a give of what is wanted, under this name; or it is none, and the machine is as it was.
-abbrev pub GiveTaken : Machine → Machine → ℕ → Wanted → List ℕ → Option Name → Type 0
-GiveTaken old new k w line (Some name) = (s : Stand) (r : Request) (more : List Due) → IsWanted (profile_of old) r w → StandsFor old s.events
-    → (e : Event) × TakesGive (profile_of old) s k r more line (with_due (with_name (with_one s e) r.name (Some name)) more) × StandsFor new (e ∷ s.events)
-GiveTaken old new k w line None = (new ≡ old) × ((s : Stand) (r : Request) (more : List Due) (next : Stand) → IsWanted (profile_of old) r w → IsSmall (profile_of old) s
-    → FitsRequest (profile_of old) k r → StandsFor old s.events → TakesGive (profile_of old) s k r more line next → ⊥)
+-- The line is that of a give of what is wanted, of this block; or it is none, and the machine is as it was.
+abbrev pub GiveTaken : Machine → Machine → ℕ → Wanted → List ℕ → Option Block → Type 0
+GiveTaken old new k w line (Some block) = (s : Stand) (r : Request) (replaced : Option Name) (more : List Due) → IsWanted (profile_of old) r w → StandsFor old s.events
+    → TakesGive (profile_of old) s k r replaced more line (replacing replaced (with_name (with_one s (Event.Give k block)) r.name (Some block)) k more)
+    × StandsFor new (Event.Give k block ∷ s.events)
+GiveTaken old new k w line None = (new ≡ old) × ((s : Stand) (r : Request) (replaced : Option Name) (more : List Due) (next : Stand) → IsWanted (profile_of old) r w → IsSmall (profile_of old) s
+    → FitsRequest (profile_of old) k r → StandsFor old s.events → TakesGive (profile_of old) s k r replaced more line next → ⊥)
 
 -- the record is a refusal of the request
 abbrev pub RefusesBy : Profile → Stand → ℕ → Request → Record → Type 0
@@ -156,30 +172,35 @@ RefusalSeen machine k w line false = (s : Stand) (r : Request) (more : List Due)
 
 -- ---- the lines of a request
 -- the line ends the request: its name stands for the block that was given, or for nothing where it is a refusal; or the line does neither
-abbrev pub EndingTaken : Machine → Machine → ℕ → Wanted → List ℕ → Option (Option Name) → Type 0
-EndingTaken old new k w line (Some (Some name)) = GiveTaken old new k w line (Some name)
+abbrev pub EndingTaken : Machine → Machine → ℕ → Wanted → List ℕ → Option (Option Block) → Type 0
+EndingTaken old new k w line (Some (Some block)) = GiveTaken old new k w line (Some block)
 EndingTaken old new k w line (Some None) = GiveTaken old new k w line None × RefusalSeen new k w line true
 EndingTaken old new k w line None = GiveTaken old new k w line None × RefusalSeen new k w line false
 
 -- where the request may stand, and its lines begin
-pub record IsAsked (machine : Machine) (s : Stand) (at : Cursor) (k : ℕ) (w : Wanted) (r : Request) (more : List Due) : Type 0 where
+pub record IsAsked (machine : Machine) (s : Stand) (at : Cursor) (k : ℕ) (w : Wanted) (r : Request) (replaced : Option Name) (more : List Due) : Type 0 where
   pub wants : IsWanted (profile_of machine) r w
   pub stands : StandsFor machine s.events
   pub kept : IsKept s at
   pub fits : FitsRequest (profile_of machine) k r
   pub epoch : s.epoch < 2 ^ 64
-  pub due : s.due ≡ Serves k r ∷ more
+  pub due : s.due ≡ Serves k r replaced ∷ more
 
 -- the lines so far, which are deeds and backs, lead to where the request goes on
 abbrev pub RequestGoes : Machine → Machine → List ℕ → Cursor → Cursor → ℕ → Wanted → Type 0
-RequestGoes old new text from to k w = (s : Stand) (r : Request) (more : List Due) → IsAsked old s from k w r more
+RequestGoes old new text from to k w = (s : Stand) (r : Request) (replaced : Option Name) (more : List Due) → IsAsked old s from k w r replaced more
     → (t : Stand) × Leads (profile_of old) text s from t to × (t ≡ record s { events = t.events }) × StandsFor new t.events × IsKept t to
 
+-- what stands after the request, whose name has come to this
+abbrev pub after_request : Stand → ℕ → Request → Option Name → Option Block → List Due → Stand
+after_request s k r replaced None more = with_due (with_name s r.name None) more
+after_request s k r replaced (Some block) more = replacing replaced (with_name s r.name (Some block)) k more
+
 -- they lead to where its name stands for the block, or for nothing; or one of them can't be taken
-abbrev pub RequestTaken : Machine → Machine → List ℕ → Cursor → Cursor → ℕ → Wanted → Option (Option Name) → Type 0
-RequestTaken old new text from to k w (Some block) = (s : Stand) (r : Request) (more : List Due) → IsAsked old s from k w r more
-    → (t : Stand) × Leads (profile_of old) text s from t to × (t ≡ with_due (with_name (record s { events = t.events }) r.name block) more) × StandsFor new t.events × IsKept t to
-RequestTaken old new text from to k w None = (s : Stand) (r : Request) (more : List Due) → IsAsked old s from k w r more → Fails (profile_of old) text s from to.lines
+abbrev pub RequestTaken : Machine → Machine → List ℕ → Cursor → Cursor → ℕ → Wanted → Option (Option Block) → Type 0
+RequestTaken old new text from to k w (Some found) = (s : Stand) (r : Request) (replaced : Option Name) (more : List Due) → IsAsked old s from k w r replaced more
+    → (es : List Event) × Leads (profile_of old) text s from (after_request (record s { events = es }) k r replaced found more) to × StandsFor new es × IsKept (record s { events = es }) to
+RequestTaken old new text from to k w None = (s : Stand) (r : Request) (replaced : Option Name) (more : List Due) → IsAsked old s from k w r replaced more → Fails (profile_of old) text s from to.lines
 
 -- ---- the lines of a pass
 -- what stands after a pass that left these events, where the next act that has a line is begun

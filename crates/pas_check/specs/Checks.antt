@@ -6,6 +6,7 @@ use Rattle.pas_machine.specs.Machines.{profile_of}
 use Rattle.pas_trace.specs.Acts.{Act, Operates, Settles, Ticks, MakesPass, ReadsEpoch, StopsIdle, MarksPhase, Wakes, MarksClose, Ends}
 use Rattle.pas_trace.specs.Asked.{request_in}
 use Rattle.pas_trace.specs.EveryPlan.{IsActorOf, IsBelow, IsSoundWhat}
+use Rattle.pas_trace.specs.declared.item.Request.{Request}
 use Rattle.pas_trace.specs.declared.plan.Op.{Op}
 use Rattle.pas_trace.specs.declared.plan.Plan.{Plan}
 use Rattle.pas_trace.specs.declared.plan.What.{What}
@@ -47,8 +48,12 @@ ArePlanned f limit ops = AllByRecursion (IsPlanned f limit) ops
 abbrev pub IsThread : ℕ → Type 0
 IsThread k = (0 < k) × (k < 2 ^ 8)
 
+-- the request fits in its heap, and in whichever it is made
+abbrev pub FitsHeaps : Profile → ℕ → Request → Type 0
+FitsHeaps f k r = (r.heap < 32) × ((heap : ℕ) → heap < 32 → FitsRequest f k (record r { heap = heap }))
+
 abbrev pub FitsWhat : Profile → ℕ → What → Type 0
-FitsWhat f k what = MatchOption (request_in what) (Unit {0}) (λ r. FitsRequest f k r)
+FitsWhat f k what = MatchOption (request_in what) (Unit {0}) (FitsHeaps f k)
 
 abbrev pub FitsAct : Profile → Act → Type 0
 FitsAct f (Operates op) = IsThread op.actor × FitsWhat f op.actor op.what

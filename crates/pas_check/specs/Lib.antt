@@ -1,4 +1,7 @@
 pub mod Lines
+pub mod Inputs
+pub mod Named
+pub mod Meanings
 pub mod States
 pub mod Begins
 pub mod Takes

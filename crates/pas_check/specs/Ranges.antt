@@ -8,10 +8,15 @@ use Rattle.pas_profile.specs.declared.event.Why.{Why}
 use Rattle.pas_profile.specs.Blocks.{address_of}
 use Rattle.pas_report.specs.declared.record.Said.{Said}
 use Rattle.pas_report.specs.declared.record.Record.{Record}
+use Rattle.pas_check.specs.declared.entry.Entry.{Entry}
 
 pub record FitsName (name : Name) : Type 0 where
   pub address : address_of name < 2 ^ 32
   pub turn : name.turn < 2 ^ 64
+
+pub record FitsEntry (entry : Entry) : Type 0 where
+  pub name : FitsName entry.name
+  pub room : entry.room < 2 ^ 32
 
 pub record FitsBlock (block : Block) : Type 0 where
   pub name : FitsName block.name
@@ -37,6 +42,7 @@ FitsSaid (Said.Held page name) = (page < 2 ^ 32) × (name < 2 ^ 32)
 FitsSaid (Said.Outside block) = FitsName block
 FitsSaid (Said.Unaligned block) = FitsName block
 FitsSaid (Said.Skipped name) = name < 2 ^ 32
+FitsSaid (Said.Kept block name) = FitsName block × (name < 2 ^ 32)
 FitsSaid (Said.Tick epoch) = epoch < 2 ^ 64
 FitsSaid (Said.Pass epoch) = epoch < 2 ^ 64
 FitsSaid (Said.Bare page) = page < 2 ^ 32

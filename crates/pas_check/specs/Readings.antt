@@ -92,6 +92,9 @@ freed_at k bs = Event.End k (name_at (drop 6 bs)) (number_at (drop 7 (past_name 
 abbrev pub size_differs_at : ℕ → List ℕ → Event
 size_differs_at k bs = Event.Reject k (name_at (drop 13 bs)) (Why.SizeDiffers (of_u32 (drop 7 (past_name (drop 13 bs)))))
 
+abbrev pub kept_at : List ℕ → Said
+kept_at bs = Said.Kept (name_at (drop 5 bs)) (of_u32 (drop 6 (past_name (drop 5 bs))))
+
 abbrev pub guarded_at : List ℕ → Said
 guarded_at bs =
     let high = drop 1 (past_digits (drop 9 bs)) in
@@ -133,7 +136,8 @@ word_at letter k bs =
     (if letter == 116 then Record.Said k (Said.Tick (number_at (drop 6 bs))) else
     (if letter == 112 then Record.Said k (Said.Pass (number_at (drop 6 bs))) else
     (if letter == 121 then Record.Said k (young_at bs) else
-    (if letter == 108 then Record.Said k (lowered_at bs) else Record.Said k (in_use_at bs))))))))))))))
+    (if letter == 108 then Record.Said k (lowered_at bs) else
+    (if letter == 107 then Record.Said k (kept_at bs) else Record.Said k (in_use_at bs)))))))))))))))
 
 -- the record that a line may be of: a mark, or what its actor says
 abbrev pub record_at : List ℕ → Record

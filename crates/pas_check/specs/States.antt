@@ -2,22 +2,25 @@
 use Rattle.std.specs.Prelude.{ℕ, ◌==◌, if◌then◌else◌, List, [], ◌∷◌, ◌++◌, map, Option}
 use Rattle.pas_profile.specs.declared.directory.Directory.{Directory}
 use Rattle.pas_profile.specs.declared.event.Event.{Event}
+use Rattle.pas_profile.specs.declared.name.Block.{Block}
 use Rattle.pas_profile.specs.declared.name.Name.{Name}
 use Rattle.pas_report.specs.declared.record.Record.{Record}
 use Rattle.pas_trace.specs.Plans.{ops_of}
 use Rattle.pas_trace.specs.declared.plan.Plan.{Plan}
 use Rattle.pas_trace.specs.Acts.{Act, acts_of}
-use Rattle.pas_trace.specs.Named.{Named}
 use Rattle.pas_trace.specs.declared.item.Request.{Request}
+use Rattle.pas_check.specs.Named.{Named}
+use Rattle.pas_check.specs.declared.entry.Entry.{Entry}
 
 -- ---- what is due
 -- What the next lines are to answer. `Writes`: the line of just this record. `Frees`: the line of an entry of thread k's log. `Serves`: those of a request of
--- thread k, which are deeds and backs, as many as there are, and then a give or a refusal. `Examines`: the outcomes of a pass on pages after this one, as many
+-- thread k, which are deeds and backs, as many as there are, and then a give or a refusal; after a give the name that it replaces is logged, if there is one.
+-- `Examines`: the outcomes of a pass on pages after this one, as many
 -- as there are. The report: its head, the line of each page with a deed, which has this directory, and the line of the totals.
 pub data Due : Type 0 where
   Writes : Record → Due
-  Frees : ℕ → Name → Due
-  Serves : ℕ → Request → Due
+  Frees : ℕ → Entry → Due
+  Serves : ℕ → Request → Option Name → Due
   Examines : ℕ → Due
   Heads : Due
   Shows : ℕ → Directory → Due
@@ -38,7 +41,7 @@ with_at table k value j = if j == k then value else table j
 pub record Stand : Type 0 where
   pub events : List Event
   pub names : List Named
-  pub logs : ℕ → List Name
+  pub logs : ℕ → List Entry
   pub idle_since : ℕ → ℕ
   pub epoch : ℕ
   pub due : List Due
@@ -53,7 +56,7 @@ abbrev pub with_one : Stand → Event → Stand
 with_one s e = record s { events = e ∷ s.events }
 
 -- .. after a request: its name stands for this block, or for nothing
-abbrev pub with_name : Stand → ℕ → Option Name → Stand
+abbrev pub with_name : Stand → ℕ → Option Block → Stand
 with_name s name block = record s { names = record { name = name; block = block } ∷ s.names }
 
 -- the tasks of a plan: its acts in order, and then the report

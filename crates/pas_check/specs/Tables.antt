@@ -1,20 +1,15 @@
 -- What a check keeps beside the machine.
-use Rattle.std.specs.Prelude.{ℕ, ◌*◌, ◌≡◌, List, Option, None, Some, slice_index, slice_index_or, length, take, drop}
-use Rattle.pas_profile.specs.declared.name.Name.{Name}
-use Rattle.pas_trace.specs.Named.{Named, standing_for}
-use Rattle.pas_check.specs.declared.naming.Meaning.{Meaning}
-use Rattle.pas_check.specs.declared.naming.Meaning.TheVariants.{Unasked, Refused, Given}
+use Rattle.std.specs.Prelude.{ℕ, ◌*◌, ◌≡◌, List, Option, slice_index, length, take, drop}
+use Rattle.pas_profile.specs.declared.name.Block.{Block}
+use Rattle.pas_check.specs.Meanings.{meaning_at, meaning_of}
+use Rattle.pas_check.specs.Named.{Named, standing_for}
 use Rattle.pas_check.specs.declared.naming.Names.{Names}
+use Rattle.pas_check.specs.declared.entry.Entry.{Entry}
 use Rattle.pas_check.specs.declared.logging.Logs.{Logs}
 
 -- what a name stands for; None where no request had it
-abbrev pub meaning_of : Meaning → Option (Option Name)
-meaning_of Unasked = None
-meaning_of Refused = Some None
-meaning_of (Given block) = Some (Some block)
-
-abbrev pub meant : Names → ℕ → Option (Option Name)
-meant names name = meaning_of (slice_index_or names.meanings.items name Unasked)
+abbrev pub meant : Names → ℕ → Option (Option Block)
+meant names name = meaning_of (meaning_at names.meanings.items name)
 
 -- for how many names there is room, from 0 on
 abbrev pub names_held : Names → ℕ
@@ -25,12 +20,12 @@ abbrev pub AreNamed : Names → List Named → Type 0
 AreNamed names list = (name : ℕ) → standing_for list name ≡ meant names name
 
 -- ---- the logs
--- thread k's names, of which there are counts k from the place 64 k on
-abbrev pub log_of : List Name → List ℕ → ℕ → List Name
-log_of names counts k = take (slice_index counts k) (drop (64 * k) names)
+-- thread k's entries, of which there are counts k from the place 64 k on
+abbrev pub log_of : List Entry → List ℕ → ℕ → List Entry
+log_of entries counts k = take (slice_index counts k) (drop (64 * k) entries)
 
-abbrev pub logged : Logs → ℕ → List Name
-logged logs k = log_of logs.names.items logs.counts.items k
+abbrev pub logged : Logs → ℕ → List Entry
+logged logs k = log_of logs.entries.items logs.counts.items k
 
 -- how many logs there are
 abbrev pub logs_held : Logs → ℕ

@@ -1,12 +1,12 @@
 -- Which line may come next, by what stands before it, and what follows from it.
-use Rattle.std.specs.Prelude.{ℕ, ◌+◌, ◌*◌, ◌-◌, ◌/◌, ◌%◌, ◌^◌, ◌<◌, ◌≡◌, ◌≢◌, ◌⊎◌, true, false, not, List, [], ◌∷◌, None, Some, codes}
+use Rattle.std.specs.Prelude.{ℕ, ◌+◌, ◌*◌, ◌-◌, ◌/◌, ◌%◌, ◌^◌, ◌<◌, ◌≡◌, ◌≢◌, ◌⊎◌, true, false, not, List, [], ◌∷◌, Option, None, Some, codes}
 use Rattle.pas_profile.specs.declared.directory.Directory.{Directory}
 use Rattle.pas_profile.specs.declared.event.Event.{Event}
 use Rattle.pas_profile.specs.declared.event.Outcome.{Outcome}
 use Rattle.pas_profile.specs.declared.event.Outcome.TheVariants.{Unbacked, Bare, Young, InUse, NotOffered}
 use Rattle.pas_profile.specs.declared.event.Why.{Why}
-use Rattle.pas_profile.specs.declared.name.Name.{Name}
 use Rattle.pas_profile.specs.declared.name.Block.{Block}
+use Rattle.pas_profile.specs.declared.name.Name.{Name}
 use Rattle.pas_profile.specs.declared.profile.Profile.{Profile}
 use Rattle.pas_profile.specs.Profiles.{IsPage}
 use Rattle.pas_profile.specs.Requests.{room_in, directory_for}
@@ -22,24 +22,25 @@ use Rattle.pas_report.specs.declared.record.Record.{Record}
 use Rattle.pas_report.specs.declared.record.Said.{Said}
 use Rattle.pas_trace.specs.declared.item.Request.{Request}
 use Rattle.pas_check.specs.States.{Due, Writes, Frees, Serves, Examines, Heads, Shows, Totals, Stand, with_due, with_one, with_name}
-use Rattle.pas_check.specs.Begins.{ready}
+use Rattle.pas_check.specs.Begins.{ready, replacing}
+use Rattle.pas_check.specs.declared.entry.Entry.{Entry}
 
 -- ---- an entry of a log
--- a reason for which the end of a name is refused, where no room was named with it
-abbrev pub NamesNoRoom : Why → Type 0
-NamesNoRoom Why.Ended = Unit {0}
-NamesNoRoom Why.NoBlock = Unit {0}
-NamesNoRoom (Why.SizeDiffers room) = ⊥
+-- A reason for which the end of an entry may be refused. That the block's room differs is one only where the entry names a room, and it tells that room.
+abbrev pub MayRefuse : Entry → Why → Type 0
+MayRefuse entry Why.Ended = Unit {0}
+MayRefuse entry Why.NoBlock = Unit {0}
+MayRefuse entry (Why.SizeDiffers asked) = (0 < entry.room) × (asked ≡ entry.room)
 
--- Its event is the refusal with the true reason, and where there is none the end with the greatest tick so far. The entry names no room.
-abbrev pub IsEventOf : Stand → ℕ → Name → Event → Type 0
-IsEventOf s k name e =
-    ((why : Why) × NamesNoRoom why × IsReason s.events name why × (e ≡ Event.Reject k name why))
-    ⊎ (((why : Why) → NamesNoRoom why → IsReason s.events name why → ⊥) × (e ≡ Event.End k name s.epoch))
+-- Its event is the refusal with the true reason, and where there is none the end with the greatest tick so far.
+abbrev pub IsEventOf : Stand → ℕ → Entry → Event → Type 0
+IsEventOf s k entry e =
+    ((why : Why) × MayRefuse entry why × IsReason s.events entry.name why × (e ≡ Event.Reject k entry.name why))
+    ⊎ (((why : Why) → MayRefuse entry why → IsReason s.events entry.name why → ⊥) × (e ≡ Event.End k entry.name s.epoch))
 
-pub record TakesEntry (f : Profile) (s : Stand) (k : ℕ) (name : Name) (more : List Due) (line : List ℕ) (next : Stand) : Type 0 where
+pub record TakesEntry (f : Profile) (s : Stand) (k : ℕ) (entry : Entry) (more : List Due) (line : List ℕ) (next : Stand) : Type 0 where
   pub event : Event
-  pub of_entry : IsEventOf s k name event
+  pub of_entry : IsEventOf s k entry event
   pub admitted : Admits f s.events event
   pub line_is : line ≡ line_of_event event
   pub next_is : next ≡ with_due (with_one s event) more
@@ -68,13 +69,13 @@ pub record IsFor (f : Profile) (s : Stand) (r : Request) (block : Block) : Type 
   pub aligned : address_of block.name % r.align ≡ 0
   pub deeds : (x : ℕ) → in_run (grain_of block.name) (length_of block) x ≡ true → deed_in s.events (x / 256) ≡ Some (directory_of f r)
 
--- it is given
-pub record TakesGive (f : Profile) (s : Stand) (k : ℕ) (r : Request) (more : List Due) (line : List ℕ) (next : Stand) : Type 0 where
+-- it is given, and the name that it replaces is logged, if there is one
+pub record TakesGive (f : Profile) (s : Stand) (k : ℕ) (r : Request) (old : Option Name) (more : List Due) (line : List ℕ) (next : Stand) : Type 0 where
   pub block : Block
   pub is_for : IsFor f s r block
   pub admitted : Admits f s.events (Event.Give k block)
   pub line_is : line ≡ line_of_event (Event.Give k block)
-  pub next_is : next ≡ with_due (with_name (with_one s (Event.Give k block)) r.name (Some block.name)) more
+  pub next_is : next ≡ replacing old (with_name (with_one s (Event.Give k block)) r.name (Some block)) k more
 
 -- it is refused: no page can serve it, or a page of its directory is in some actor's hands
 abbrev pub IsRefusal : Profile → Stand → Request → Said → Type 0
@@ -88,8 +89,8 @@ pub record TakesRefusal (f : Profile) (s : Stand) (k : ℕ) (r : Request) (more 
   pub line_is : line ≡ line_of_answer k said
   pub next_is : next ≡ with_due (with_name s r.name None) more
 
-abbrev pub TakesRequest : Profile → Stand → ℕ → Request → List Due → List ℕ → Stand → Type 0
-TakesRequest f s k r more line next = TakesPreparing f s k r line next ⊎ TakesGive f s k r more line next ⊎ TakesRefusal f s k r more line next
+abbrev pub TakesRequest : Profile → Stand → ℕ → Request → Option Name → List Due → List ℕ → Stand → Type 0
+TakesRequest f s k r old more line next = TakesPreparing f s k r line next ⊎ TakesGive f s k r old more line next ⊎ TakesRefusal f s k r more line next
 
 -- ---- an outcome of a pass
 -- what may come of a page of the region
@@ -158,8 +159,8 @@ head_line = codes "report\n"
 abbrev pub TakesDue : Profile → Stand → List Due → List ℕ → Stand → Type 0
 TakesDue f s [] line next = ⊥
 TakesDue f s (Writes item ∷ more) line next = IsJust s (line_of item) more line next
-TakesDue f s (Frees k name ∷ more) line next = TakesEntry f s k name more line next
-TakesDue f s (Serves k r ∷ more) line next = TakesRequest f s k r more line next
+TakesDue f s (Frees k entry ∷ more) line next = TakesEntry f s k entry more line next
+TakesDue f s (Serves k r old ∷ more) line next = TakesRequest f s k r old more line next
 TakesDue f s (Examines page ∷ more) line next = TakesOutcome f s page more line next
 TakesDue f s (Heads ∷ more) line next = IsJust s head_line more line next
 TakesDue f s (Shows page d ∷ more) line next = TakesPage s page d more line next
@@ -169,8 +170,8 @@ TakesDue f s (Totals ∷ more) line next = IsJust s (total_line f s.events) more
 abbrev pub TakesFirst : Profile → Stand → List Due → List ℕ → Stand → Type 0
 TakesFirst f s [] line next = ⊥
 TakesFirst f s (Writes item ∷ more) line next = ⊥
-TakesFirst f s (Frees k name ∷ more) line next = ⊥
-TakesFirst f s (Serves k r ∷ more) line next = ⊥
+TakesFirst f s (Frees k entry ∷ more) line next = ⊥
+TakesFirst f s (Serves k r old ∷ more) line next = ⊥
 TakesFirst f s (Examines page ∷ more) line next = TakesOutcome f s page more line next
 TakesFirst f s (Heads ∷ more) line next = ⊥
 TakesFirst f s (Shows page d ∷ more) line next = ⊥

@@ -1,19 +1,23 @@
 -- What the acts of a replay do to what a check keeps.
-use Rattle.std.specs.Prelude.{ℕ, ◌^◌, ◌<◌, ◌≡◌, Bool, true, false, List, [], ◌∷◌, length, slice_index}
+use Rattle.std.specs.Prelude.{ℕ, ◌%◌, ◌^◌, ◌<◌, ◌≤◌, ◌≡◌, max, Bool, true, false, List, [], ◌∷◌, Option, length, slice_index}
+use Rattle.pas_profile.specs.declared.name.Block.{Block}
 use Rattle.pas_profile.specs.declared.name.Name.{Name}
 use Rattle.pas_profile.specs.declared.profile.Profile.{Profile}
+use Rattle.pas_profile.specs.Blocks.{address_of}
 use Rattle.pas_machine.specs.Machines.{profile_of, StandsFor}
+use Rattle.pas_report.specs.declared.record.Said.{Said}
 use Rattle.pas_trace.specs.Acts.{Act, MakesPass}
-use Rattle.pas_trace.specs.Named.{standing_for}
 use Rattle.pas_trace.specs.declared.item.Request.{Request}
-use Rattle.pas_check.specs.Begins.{begun_act, flushing, freeing, freeing_named}
+use Rattle.pas_check.specs.Begins.{begun_act, flushing, freeing, freeing_named, is_full, logging, remaking, remaking_named, request_for, suits, tells}
 use Rattle.pas_check.specs.Bounds.{IsKept}
 use Rattle.pas_check.specs.Calls.{IsFollowed}
 use Rattle.pas_check.specs.Leading.{Fails, Leads}
-use Rattle.pas_check.specs.States.{Due, Serves, Task, Does, Stand, with_due}
+use Rattle.pas_check.specs.Named.{standing_for}
+use Rattle.pas_check.specs.States.{Due, Serves, Task, Does, Stand, with_due, with_name}
 use Rattle.pas_check.specs.Tables.{AreNamed, logged, logs_held}
 use Rattle.pas_check.specs.declared.acting.Judge.{Judge}
 use Rattle.pas_check.specs.declared.cutting.Cursor.{Cursor}
+use Rattle.pas_check.specs.declared.entry.Entry.{Entry}
 
 -- the judge stands for the state, at the cursor
 pub record Stands (f : Profile) (judge : Judge) (s : Stand) (at : Cursor) : Type 0 where
@@ -42,19 +46,19 @@ ActTaken f text old from new to act false = (s : Stand) (ts : List Task) → IsN
 abbrev pub Flushes : Profile → Act → ℕ → Type 0
 Flushes f act k = (s : Stand) → begun_act f s act ≡ flushing s k [] []
 
--- an act that only frees the block, by thread k, where the judge stands for the state
-abbrev pub FreesBlock : Profile → Judge → Cursor → Act → ℕ → Name → Type 0
-FreesBlock f judge at act k block = (s : Stand) → Stands f judge s at → begun_act f s act ≡ freeing f s k block
+-- an act that only frees by the entry, by thread k, where the judge stands for the state
+abbrev pub FreesEntry : Profile → Judge → Cursor → Act → ℕ → Entry → Type 0
+FreesEntry f judge at act k entry = (s : Stand) → Stands f judge s at → begun_act f s act ≡ freeing f s k entry
 
--- an act that only frees what the name of the trace stands for
-abbrev pub FreesNamed : Profile → Act → ℕ → ℕ → Type 0
-FreesNamed f act k name = (s : Stand) → begun_act f s act ≡ freeing_named f s k name (standing_for s.names name)
+-- an act that only frees what the name of the trace stands for, and names this room
+abbrev pub FreesNamed : Profile → Act → ℕ → ℕ → ℕ → Type 0
+FreesNamed f act k name room = (s : Stand) → begun_act f s act ≡ freeing_named f s k name room (standing_for s.names name)
 
--- where thread k's log is being emptied, and has these names afterwards, when this is due
-abbrev pub emptying : Stand → ℕ → List Name → List Due → List Task → Stand
+-- where thread k's log is being emptied, and has these entries afterwards, when this is due
+abbrev pub emptying : Stand → ℕ → List Entry → List Due → List Task → Stand
 emptying s k log more ts = record (flushing s k log more) { left = ts }
 
-abbrev pub LogEmptied : Profile → List ℕ → Judge → Cursor → Judge → Cursor → ℕ → List Name → Bool → Type 0
+abbrev pub LogEmptied : Profile → List ℕ → Judge → Cursor → Judge → Cursor → ℕ → List Entry → Bool → Type 0
 LogEmptied f text old from new to k log true = (s : Stand) (more : List Due) (ts : List Task) → Stands f old s from
     → (t : Stand) × Leads f text (emptying s k log more ts) from t to × Stands f new t to × (t.due ≡ more) × (t.left ≡ ts)
 LogEmptied f text old from new to k log false = (s : Stand) (more : List Due) (ts : List Task) → Stands f old s from → Fails f text (emptying s k log more ts) from to.lines
@@ -65,6 +69,32 @@ PassTaken f text old from new to true = (s : Stand) (ts : List Task) → IsNext 
     → (t : Stand) × Leads f text s from t to × Stands f new t to × (t.due ≡ []) × (t.left ≡ ts)
 PassTaken f text old from new to false = (s : Stand) (ts : List Task) → IsNext f old s from MakesPass ts → IsFollowed f (record s { left = ts }) → Fails f text s from to.lines
 
--- an act that only asks for what thread k's request says
-abbrev pub Asks : Profile → Act → ℕ → Request → Type 0
-Asks f act k r = (s : Stand) → begun_act f s act ≡ with_due s (Serves k r ∷ [])
+-- an act that only asks for what thread k's request says, and replaces the block of this name, if there is one
+abbrev pub Asks : Profile → Judge → Cursor → Act → ℕ → Request → Option Name → Type 0
+Asks f judge at act k r replaced = (s : Stand) → Stands f judge s at → begun_act f s act ≡ with_due s (Serves k r replaced ∷ [])
+
+-- an act of which only this is said, by thread k, after which the name stands for the block, or for nothing
+abbrev pub SaysNamed : Profile → Judge → Cursor → Act → ℕ → ℕ → Option Block → Said → Type 0
+SaysNamed f judge at act k name block said = (s : Stand) → Stands f judge s at → begun_act f s act ≡ tells (with_name s name block) k said
+
+-- an act that only gives what the name of the trace stands for another size, under a new name
+abbrev pub Remakes : Profile → Act → ℕ → ℕ → ℕ → ℕ → ℕ → Type 0
+Remakes f act k name old size align = (s : Stand) → begun_act f s act ≡ remaking_named s k name size align (standing_for s.names old)
+
+-- an act that only gives the block another size, under a new name
+abbrev pub Resizes : Profile → Judge → Cursor → Act → ℕ → ℕ → Block → ℕ → ℕ → Type 0
+Resizes f judge at act k name block size align = (s : Stand) → Stands f judge s at → begun_act f s act ≡ remaking (suits block size align) s k (request_for block name size align) block
+
+-- the block has room for so many bytes, where none count as one, and stands at a multiple of the alignment
+abbrev pub IsSuited : Block → ℕ → ℕ → Type 0
+IsSuited block size align = (max size 1 ≤ block.room) × (address_of block.name % align ≡ 0)
+
+-- where thread k's entry is logged, when this is due
+abbrev pub being_logged : Stand → ℕ → Entry → List Due → List Task → Stand
+being_logged s k entry more ts = record (logging (is_full s k) s k entry more) { left = ts }
+
+-- the lines lead to where the entry is logged; or one of them can't be taken
+abbrev pub EntryLogged : Profile → List ℕ → Judge → Cursor → Judge → Cursor → ℕ → Entry → Bool → Type 0
+EntryLogged f text old from new to k entry true = (s : Stand) (more : List Due) (ts : List Task) → Stands f old s from
+    → (t : Stand) × Leads f text (being_logged s k entry more ts) from t to × Stands f new t to × (t.due ≡ more) × (t.left ≡ ts)
+EntryLogged f text old from new to k entry false = (s : Stand) (more : List Due) (ts : List Task) → Stands f old s from → Fails f text (being_logged s k entry more ts) from to.lines

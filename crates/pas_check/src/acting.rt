@@ -1,6 +1,7 @@
 //! The acts of a replay, each with the lines that answer it.
-ghost use Rattle.std.specs.Prelude.{ℕ, ◌≡◌, ◌≢◌, ◌%◌, ◌+◌, ◌<◌, ◌≤◌, true, List, [], ◌∷◌, length, slice_index, IfOk, MatchBool};
+ghost use Rattle.std.specs.Prelude.{ℕ, ◌≡◌, ◌≢◌, ◌%◌, ◌+◌, ◌*◌, ◌<◌, ◌≤◌, true, List, [], ◌∷◌, None, Some, length, slice_index, IfOk, IfSome, MatchBool};
 ghost use Rattle.pas_profile.specs.Directories.{IsKind};
+ghost use Rattle.pas_profile.specs.Classes.{IsAlignment};
 ghost use Rattle.pas_profile.specs.Profiles.{IsValid};
 ghost use Rattle.pas_profile.specs.Blocks.{address_of};
 ghost use Rattle.pas_profile.specs.declared.profile.Profile.{Profile};
@@ -12,11 +13,12 @@ ghost use Rattle.pas_check.specs.Calls.{IsWanted};
 ghost use Rattle.pas_check.specs.Checks.{IsSizedAs};
 ghost use Rattle.pas_check.specs.Leading.{IsWithin, StaysWithin};
 ghost use Rattle.pas_check.specs.Tables.{logs_held, names_held};
-ghost use Rattle.pas_check.specs.Tasks.{ActTaken, Asks, Flushes, FreesBlock, FreesNamed, LogEmptied, PassTaken};
+ghost use Rattle.pas_check.specs.Tasks.{ActTaken, Asks, EntryLogged, Flushes, FreesEntry, FreesNamed, IsSuited, LogEmptied, PassTaken, Remakes, Resizes, SaysNamed};
 ghost use Rattle.pas_check.specs.declared.cutting.Cursor.{Cursor as TheCursor};
 
 use crate::cutting::Cursor;
 use crate::emptying::take_entries;
+use crate::entry::Entry;
 use crate::examining::take_outcomes;
 use crate::following::take_record;
 use crate::logging::Logs;
@@ -24,7 +26,7 @@ use crate::naming::Names;
 use crate::requesting::take_request;
 use crate::serving::{Wanted, wanted_for};
 use pas_machine::Machine;
-use pas_profile::{Name, NoMemory};
+use pas_profile::{Block, Name, NoMemory};
 use pas_report::{Record, Said};
 use pas_trace::{Op, Plan, What};
 use std::alloc::Global;
@@ -132,18 +134,18 @@ fn empty_log(judge: &mut Judge, text: &[u8], cursor: &mut Cursor, k: u8) -> Resu
     }
 }
 
-/// Takes the lines of the entries of the thread's log, which has just this name from then on.
+/// Takes the lines of the entries of the thread's log, which has just this entry from then on.
 fn refill_log(
     judge: &mut Judge,
     text: &[u8],
     cursor: &mut Cursor,
     k: u8,
-    block: Name,
+    entry: Entry,
 ) -> Result<bool, NoMemory>
     requires within { IsWithin text.now cursor.old }
     requires short { length text.now ≤ 16777216 }
     requires held { k < logs_held judge.old.logs }
-    ensures taken { IfOk result (λ taken. (f : Profile) → LogEmptied f text.now judge.old cursor.old judge.new cursor.new k (block ∷ []) taken) }
+    ensures taken { IfOk result (λ taken. (f : Profile) → LogEmptied f text.now judge.old cursor.old judge.new cursor.new k (entry ∷ []) taken) }
     ensures within { IfOk result (StaysWithin text.now cursor.new) }
     ensures sized { IfOk result (λ taken. IsSizedAs judge.old judge.new) }
 {
@@ -157,12 +159,34 @@ fn refill_log(
     ) {
         Ok(true) => {
             judge.logs.clear(k);
-            judge.logs.add(k, block);
+            judge.logs.add(k, entry);
             Ok(true)
         }
         Ok(false) => Ok(false),
         Err(NoMemory) => Err(NoMemory),
     }
+}
+
+/// Logs the entry. Takes the lines of the entries of a full log, which is emptied before; where it isn't full there are none.
+fn log_entry(
+    judge: &mut Judge,
+    text: &[u8],
+    cursor: &mut Cursor,
+    k: u8,
+    entry: Entry,
+) -> Result<bool, NoMemory>
+    requires within { IsWithin text.now cursor.old }
+    requires short { length text.now ≤ 16777216 }
+    requires held { k < logs_held judge.old.logs }
+    ensures taken { IfOk result (λ taken. (f : Profile) → EntryLogged f text.now judge.old cursor.old judge.new cursor.new k entry taken) }
+    ensures within { IfOk result (StaysWithin text.now cursor.new) }
+    ensures sized { IfOk result (λ taken. IsSizedAs judge.old judge.new) }
+{
+    if judge.logs.is_full(k) {
+        return refill_log(judge, text, cursor, k, entry);
+    }
+    judge.logs.add(k, entry);
+    Ok(true)
 }
 
 /// Whether the name's address is that of a grain.
@@ -172,23 +196,24 @@ fn is_at_grain(block: Name) -> bool
     block.address.0 % 16 == 0
 }
 
-/// Takes the lines of an act that frees the block: what is said of a name outside of the region or at no grain, or the lines of a full log that is emptied
-/// before the name is logged; otherwise there are none.
-pub(crate) fn free_block(
+/// Takes the lines of an act that frees by the entry: what is said of a name outside of the region or at no grain, or the lines of a full log that is emptied
+/// before the entry is logged; otherwise there are none.
+pub(crate) fn free_entry(
     judge: &mut Judge,
     text: &[u8],
     cursor: &mut Cursor,
     k: u8,
-    block: Name,
+    entry: Entry,
 ) -> Result<bool, NoMemory>
     requires within { IsWithin text.now cursor.old }
     requires short { length text.now ≤ 16777216 }
     requires held { k < logs_held judge.old.logs }
-    ensures taken { IfOk result (λ taken. (f : Profile) (act : Act) → FreesBlock f judge.old cursor.old act k block
+    ensures taken { IfOk result (λ taken. (f : Profile) (act : Act) → FreesEntry f judge.old cursor.old act k entry
         → ActTaken f text.now judge.old cursor.old judge.new cursor.new act taken) }
     ensures within { IfOk result (StaysWithin text.now cursor.new) }
     ensures sized { IfOk result (λ taken. IsSizedAs judge.old judge.new) }
 {
+    let block = entry.name;
     if !judge.machine.has_page(block.address.0 / 4096) {
         let outside = take_record(text, cursor, &Record::Said(k, Said::Outside { block }));
         return Ok(outside);
@@ -197,26 +222,23 @@ pub(crate) fn free_block(
         let unaligned = take_record(text, cursor, &Record::Said(k, Said::Unaligned { block }));
         return Ok(unaligned);
     }
-    if judge.logs.is_full(k) {
-        return refill_log(judge, text, cursor, k, block);
-    }
-    judge.logs.add(k, block);
-    Ok(true)
+    log_entry(judge, text, cursor, k, entry)
 }
 
-/// Takes the lines of an act that frees what the name of the trace stands for: those of a free of its block, or what is said of a name whose request was
-/// refused. Where no request had the name there are none.
+/// Takes the lines of an act that frees what the name of the trace stands for, and names this room, or none where it is 0: those of a free of its block, or
+/// what is said of a name whose request was refused. Where no request had the name there are none.
 pub(crate) fn free_named(
     judge: &mut Judge,
     text: &[u8],
     cursor: &mut Cursor,
     k: u8,
     name: u32,
+    room: u32,
 ) -> Result<bool, NoMemory>
     requires within { IsWithin text.now cursor.old }
     requires short { length text.now ≤ 16777216 }
     requires held { k < logs_held judge.old.logs }
-    ensures taken { IfOk result (λ taken. (f : Profile) (act : Act) → FreesNamed f act k name → ActTaken f text.now judge.old cursor.old judge.new cursor.new act taken) }
+    ensures taken { IfOk result (λ taken. (f : Profile) (act : Act) → FreesNamed f act k name room → ActTaken f text.now judge.old cursor.old judge.new cursor.new act taken) }
     ensures within { IfOk result (StaysWithin text.now cursor.new) }
     ensures sized { IfOk result (λ taken. IsSizedAs judge.old judge.new) }
 {
@@ -226,7 +248,10 @@ pub(crate) fn free_named(
             let skipped = take_record(text, cursor, &Record::Said(k, Said::Skipped { name }));
             Ok(skipped)
         }
-        Some(Some(block)) => free_block(judge, text, cursor, k, block),
+        Some(Some(block)) => {
+            let name = block.name;
+            free_entry(judge, text, cursor, k, Entry { name, room })
+        }
     }
 }
 
@@ -313,8 +338,9 @@ pub(crate) fn request(
     requires valid { IsValid (profile_of judge.old.machine) }
     requires kind { IsKind wanted.directory.kind }
     requires align { 0 < wanted.align }
+    requires heap { wanted.directory.heap < 32 }
     requires named { wanted.name < names_held judge.old.names }
-    ensures taken { IfOk result (λ taken. (f : Profile) (act : Act) (r : Request) → Asks f act k r → IsWanted f r wanted
+    ensures taken { IfOk result (λ taken. (f : Profile) (act : Act) (r : Request) → Asks f judge.old cursor.old act k r None → IsWanted f r wanted
         → ActTaken f text.now judge.old cursor.old judge.new cursor.new act taken) }
     ensures within { IfOk result (StaysWithin text.now cursor.new) }
     ensures sized { IfOk result (λ taken. IsSizedAs judge.old judge.new) }
@@ -326,6 +352,148 @@ pub(crate) fn request(
         }
         Ok(None) => Ok(false),
         Err(NoMemory) => Err(NoMemory),
+    }
+}
+
+/// Whether the block has room for so many bytes, where none count as one, and stands at a multiple of the alignment.
+fn suits(block: &Block, size: u32, align: u32) -> bool
+    requires { 0 < align }
+    ensures { MatchBool result (IsSuited block.now size align) (IsSuited block.now size align → ⊥) }
+{
+    size.max(1) <= block.room && block.name.address.0 % align == 0
+}
+
+/// Takes the line of what is said, after which the name stands for the block, or for nothing.
+fn say_named(
+    judge: &mut Judge,
+    text: &[u8],
+    cursor: &mut Cursor,
+    k: u8,
+    name: u32,
+    block: Option<Block>,
+    said: Said,
+) -> bool
+    requires within { IsWithin text.now cursor.old }
+    requires short { length text.now ≤ 16777216 }
+    requires named { name < names_held judge.old.names }
+    requires heap { IfSome block (λ b. b.heap < 32) }
+    ensures taken { (f : Profile) (act : Act) → SaysNamed f judge.old cursor.old act k name block said
+        → ActTaken f text.now judge.old cursor.old judge.new cursor.new act result }
+    ensures within { StaysWithin text.now cursor.new result }
+    ensures sized { IsSizedAs judge.old judge.new }
+{
+    judge.names.set(name, block);
+    take_record(text, cursor, &Record::Said(k, said))
+}
+
+/// Takes the lines of an act that asks for what is wanted in place of the block of this name. Where a block is given, the name is logged, and the lines of a
+/// full log come before.
+fn replace(
+    judge: &mut Judge,
+    text: &[u8],
+    cursor: &mut Cursor,
+    k: u8,
+    wanted: Wanted,
+    replaced: Name,
+) -> Result<bool, NoMemory>
+    requires within { IsWithin text.now cursor.old }
+    requires short { length text.now ≤ 16777216 }
+    requires held { k < logs_held judge.old.logs }
+    requires valid { IsValid (profile_of judge.old.machine) }
+    requires kind { IsKind wanted.directory.kind }
+    requires align { 0 < wanted.align }
+    requires heap { wanted.directory.heap < 32 }
+    requires named { wanted.name < names_held judge.old.names }
+    ensures taken { IfOk result (λ taken. (f : Profile) (act : Act) (r : Request) → Asks f judge.old cursor.old act k r (Some replaced) → IsWanted f r wanted
+        → ActTaken f text.now judge.old cursor.old judge.new cursor.new act taken) }
+    ensures within { IfOk result (StaysWithin text.now cursor.new) }
+    ensures sized { IfOk result (λ taken. IsSizedAs judge.old judge.new) }
+{
+    match take_request(&mut judge.machine, text, cursor, k, &wanted) {
+        Ok(Some(None)) => {
+            judge.names.set(wanted.name, None);
+            Ok(true)
+        }
+        Ok(Some(Some(block))) => {
+            judge.names.set(wanted.name, Some(block));
+            let entry = Entry {
+                name: replaced,
+                room: 0,
+            };
+            log_entry(judge, text, cursor, k, entry)
+        }
+        Ok(None) => Ok(false),
+        Err(NoMemory) => Err(NoMemory),
+    }
+}
+
+/// Takes the lines of an act that gives the block another size, under a new name: it suits and is kept, or another one is asked for in its place.
+fn resize(
+    judge: &mut Judge,
+    text: &[u8],
+    cursor: &mut Cursor,
+    k: u8,
+    name: u32,
+    block: Block,
+    size: u32,
+    align: u32,
+) -> Result<bool, NoMemory>
+    requires within { IsWithin text.now cursor.old }
+    requires short { length text.now ≤ 16777216 }
+    requires held { k < logs_held judge.old.logs }
+    requires valid { IsValid (profile_of judge.old.machine) }
+    requires size { size ≤ (profile_of judge.old.machine).pages * 4096 }
+    requires align { IsAlignment align }
+    requires heap { block.heap < 32 }
+    requires named { name < names_held judge.old.names }
+    ensures taken { IfOk result (λ taken. (f : Profile) (act : Act) → Resizes f judge.old cursor.old act k name block size align
+        → ActTaken f text.now judge.old cursor.old judge.new cursor.new act taken) }
+    ensures within { IfOk result (StaysWithin text.now cursor.new) }
+    ensures sized { IfOk result (λ taken. IsSizedAs judge.old judge.new) }
+{
+    if suits(&block, size, align) {
+        let said = Said::Kept {
+            block: block.name,
+            name,
+        };
+        let kept = say_named(judge, text, cursor, k, name, Some(block), said);
+        return Ok(kept);
+    }
+    let wanted = wanted_for(&judge.machine.profile(), name, block.heap, size, align);
+    replace(judge, text, cursor, k, wanted, block.name)
+}
+
+/// Takes the lines of an act that gives what the old name stands for another size, under a new name. Where the request of the old name was refused, that is
+/// said, and the new name counts as refused.
+pub(crate) fn remake(
+    judge: &mut Judge,
+    text: &[u8],
+    cursor: &mut Cursor,
+    k: u8,
+    name: u32,
+    old: u32,
+    size: u32,
+    align: u32,
+) -> Result<bool, NoMemory>
+    requires within { IsWithin text.now cursor.old }
+    requires short { length text.now ≤ 16777216 }
+    requires held { k < logs_held judge.old.logs }
+    requires valid { IsValid (profile_of judge.old.machine) }
+    requires size { size ≤ (profile_of judge.old.machine).pages * 4096 }
+    requires align { IsAlignment align }
+    requires named { name < names_held judge.old.names }
+    ensures taken { IfOk result (λ taken. (f : Profile) (act : Act) → Remakes f act k name old size align
+        → ActTaken f text.now judge.old cursor.old judge.new cursor.new act taken) }
+    ensures within { IfOk result (StaysWithin text.now cursor.new) }
+    ensures sized { IfOk result (λ taken. IsSizedAs judge.old judge.new) }
+{
+    match judge.names.get(old) {
+        None => Ok(true),
+        Some(None) => {
+            let skipped = say_named(judge, text, cursor, k, name, None, Said::Skipped { name });
+            Ok(skipped)
+        }
+        Some(Some(block)) => resize(judge, text, cursor, k, name, block, size, align),
     }
 }
 
@@ -357,8 +525,19 @@ pub(crate) fn operate(
             let wanted = wanted_for(&judge.machine.profile(), name, heap, size, align);
             request(judge, text, cursor, k, wanted)
         }
-        What::Free { name } => free_named(judge, text, cursor, k, name),
-        What::Raw { block } => free_block(judge, text, cursor, k, block),
+        What::Free { name } => free_named(judge, text, cursor, k, name, 0),
+        What::FreeSized { name, room } => free_named(judge, text, cursor, k, name, room),
+        What::Raw { block: name } => free_entry(judge, text, cursor, k, Entry { name, room: 0 }),
+        What::RawSized { room, block: name } => {
+            free_entry(judge, text, cursor, k, Entry { name, room })
+        }
+        What::Remake {
+            name,
+            old,
+            size,
+            align,
+            ..
+        } => remake(judge, text, cursor, k, name, old, size, align),
         What::Flush | What::Stop => flush(judge, text, cursor, k),
         What::Tick(_) | What::Pass | What::Idle(_) => Ok(true),
     }

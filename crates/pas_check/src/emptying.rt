@@ -5,9 +5,10 @@ ghost use Rattle.pas_check.specs.Calls.{EntriesTaken};
 ghost use Rattle.pas_check.specs.Leading.{IsWithin, StaysWithin};
 
 use crate::cutting::{Cursor, next_line};
+use crate::entry::Entry;
 use crate::taking::take_entry;
 use pas_machine::Machine;
-use pas_profile::{Name, NoMemory};
+use pas_profile::NoMemory;
 
 /// Takes the lines of the entries of the actor's log, one for each in order, and says whether all are there. After false the cursor has counted the line that
 /// isn't its entry's, or that is wanting.
@@ -16,7 +17,7 @@ pub(crate) fn take_entries(
     text: &[u8],
     cursor: &mut Cursor,
     actor: u8,
-    log: &[Name],
+    log: &[Entry],
     epoch: u64,
 ) -> Result<bool, NoMemory>
     requires within { IsWithin text.now cursor.old }
@@ -25,11 +26,11 @@ pub(crate) fn take_entries(
     ensures taken { IfOk result (λ taken. EntriesTaken machine.old machine.new text.now cursor.old cursor.new actor log.now [] epoch taken) }
     ensures within { IfOk result (StaysWithin text.now cursor.new) }
 {
-    for name in log {
+    for entry in log {
         let Some(line) = next_line(text, cursor) else {
             return Ok(false);
         };
-        match take_entry(machine, line, actor, *name, epoch) {
+        match take_entry(machine, line, actor, *entry, epoch) {
             Ok(true) => {}
             Ok(false) => return Ok(false),
             Err(NoMemory) => return Err(NoMemory),

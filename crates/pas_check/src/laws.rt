@@ -2,7 +2,6 @@
 ghost use Rattle.std.specs.Prelude.{List, ℕ, ◌≡◌, ◌+◌, ◌++◌, ◌∷◌, [], length, map, true};
 ghost use Rattle.pas_profile.specs.declared.event.Event.{Event};
 ghost use Rattle.pas_profile.specs.declared.event.Why.{Why};
-ghost use Rattle.pas_profile.specs.declared.name.Name.{Name};
 ghost use Rattle.pas_profile.specs.declared.profile.Profile.{Profile};
 ghost use Rattle.pas_profile.specs.declared.word.Word.TheVariants as Word;
 ghost use Rattle.pas_machine.specs.Machine.{Run, Admits};
@@ -12,7 +11,8 @@ ghost use Rattle.pas_steps.specs.Lists.{Whole, word_after};
 ghost use Rattle.pas_steps.specs.declared.step.Made.{Made};
 ghost use Rattle.pas_check.specs.Lines.{lines_in};
 ghost use Rattle.pas_check.specs.States.{Due, Stand, Task};
-ghost use Rattle.pas_check.specs.Takes.{NamesNoRoom, IsEventOf, Takes, TakesDue};
+ghost use Rattle.pas_check.specs.Calls.{Differs};
+ghost use Rattle.pas_check.specs.Takes.{MayRefuse, IsEventOf, Takes, TakesDue};
 ghost use Rattle.pas_trace.specs.declared.plan.Plan.{Plan};
 ghost use Rattle.pas_report.specs.Lines.{line_of, lines_of};
 ghost use Rattle.pas_report.specs.declared.record.Record.{Record};
@@ -21,6 +21,7 @@ ghost use Rattle.pas_check.specs.Begins.{after_task, past_outcomes, ready};
 ghost use Rattle.pas_check.specs.Bounds.{FitsFirst, FitsNext, IsSmall};
 ghost use Rattle.pas_check.specs.Going.{AreAlike, SoFar};
 ghost use Rattle.pas_check.specs.Ranges.{Fits};
+ghost use Rattle.pas_check.specs.declared.entry.Entry.{Entry};
 ghost use Rattle.pas_check.specs.declared.verdict.Verdict.{Verdict};
 
 /// No two records whose numbers fit their places have one line. So a line of a transcript says one thing.
@@ -41,11 +42,14 @@ pub fn records_are_lines()
     ensures { (rs : List Record) (rest : List ℕ) → lines_in (lines_of rs ++ rest) ≡ map line_of rs ++ lines_in rest }
 {}
 
-/// The event of an entry of a log is one. In a run the end of the name, and each refusal of it that names no room, is that event.
+/// The event of an entry of a log is one. In a run the end of its name is that event, where it may come and the block hasn't another room than the entry names;
+/// and so is each refusal of it that may come, for a reason that the entry may have.
 pub fn entries_have_one_event()
-    ensures one { (s : Stand) (k : ℕ) (name : Name) (e g : Event) → IsEventOf s k name e → IsEventOf s k name g → e ≡ g }
-    ensures end { (f : Profile) (s : Stand) (k : ℕ) (name : Name) → Run f s.events → Admits f s.events (Event.End k name s.epoch) → IsEventOf s k name (Event.End k name s.epoch) }
-    ensures reject { (f : Profile) (s : Stand) (k : ℕ) (name : Name) (why : Why) → NamesNoRoom why → Admits f s.events (Event.Reject k name why) → IsEventOf s k name (Event.Reject k name why) }
+    ensures one { (s : Stand) (k : ℕ) (entry : Entry) (e g : Event) → IsEventOf s k entry e → IsEventOf s k entry g → e ≡ g }
+    ensures end { (f : Profile) (s : Stand) (k : ℕ) (entry : Entry) → Run f s.events → Admits f s.events (Event.End k entry.name s.epoch)
+        → (Differs s.events entry → ⊥) → IsEventOf s k entry (Event.End k entry.name s.epoch) }
+    ensures reject { (f : Profile) (s : Stand) (k : ℕ) (entry : Entry) (why : Why) → MayRefuse entry why → Admits f s.events (Event.Reject k entry.name why)
+        → IsEventOf s k entry (Event.Reject k entry.name why) }
 {}
 
 /// Steps that aren't ticks leave the epoch as it is.

@@ -23,6 +23,7 @@ ghost use Rattle.pas_check.specs.Readings.{
   young_at,
   size_differs_at,
   guarded_at,
+  kept_at,
   lowered_at,
   with_b,
   with_u,
@@ -189,6 +190,16 @@ fn size_differs(actor: u8, text: &[u8]) -> Event
     }
 }
 
+fn kept(text: &[u8]) -> Said
+    ensures { result ≡ kept_at text.now }
+{
+    let block = skip(text, 5);
+    Said::Kept {
+        block: name(block),
+        name: number32(skip(past_name(block), 6)),
+    }
+}
+
 fn guarded(text: &[u8]) -> Said
     ensures { result ≡ guarded_at text.now }
 {
@@ -307,6 +318,7 @@ fn worded(letter: u8, actor: u8, text: &[u8]) -> Record
         b'p' => Record::Said(actor, Said::Pass(number(skip(text, 6)))),
         b'y' => Record::Said(actor, young(text)),
         b'l' => Record::Said(actor, lowered(text)),
+        b'k' => Record::Said(actor, kept(text)),
         _ => Record::Said(actor, in_use(text)),
     }
 }

@@ -10,7 +10,7 @@ use crate::cutting::{Cursor, next_line};
 use crate::serving::{Wanted, is_refusal, take_give};
 use crate::taking::take_preparing;
 use pas_machine::Machine;
-use pas_profile::{Name, NoMemory};
+use pas_profile::{Block, NoMemory};
 
 /// Takes the line that ends the actor's request, and says what the request's name stands for from then on: the block that was given, or nothing where the
 /// request was refused. None where the line is neither.
@@ -19,13 +19,14 @@ fn take_ending(
     line: &[u8],
     actor: u8,
     wanted: &Wanted,
-) -> Result<Option<Option<Name>>, NoMemory>
+) -> Result<Option<Option<Block>>, NoMemory>
     requires align { 0 < wanted.now.align }
     ensures profile { profile_of machine.new ≡ profile_of machine.old }
+    ensures heap { IfOk result (λ ending. IfSome ending (λ found. IfSome found (λ block. block.heap ≡ wanted.now.directory.heap))) }
     ensures taken { IfOk result (λ block. EndingTaken machine.old machine.new actor wanted.now line.now block) }
 {
     match take_give(machine, line, actor, wanted) {
-        Ok(Some(name)) => Ok(Some(Some(name))),
+        Ok(Some(block)) => Ok(Some(Some(block))),
         Ok(None) => {
             if is_refusal(machine, line, actor, wanted) {
                 Ok(Some(None))
@@ -45,13 +46,14 @@ pub(crate) fn take_request(
     cursor: &mut Cursor,
     actor: u8,
     wanted: &Wanted,
-) -> Result<Option<Option<Name>>, NoMemory>
+) -> Result<Option<Option<Block>>, NoMemory>
     requires within { IsWithin text.now cursor.old }
     requires short { length text.now ≤ 16777216 }
     requires valid { IsValid (profile_of machine.old) }
     requires kind { IsKind wanted.now.directory.kind }
     requires align { 0 < wanted.now.align }
     ensures profile { profile_of machine.new ≡ profile_of machine.old }
+    ensures heap { IfOk result (λ ending. IfSome ending (λ found. IfSome found (λ block. block.heap ≡ wanted.now.directory.heap))) }
     ensures taken { IfOk result (λ block. RequestTaken machine.old machine.new text.now cursor.old cursor.new actor wanted.now block) }
     ensures within { IfOk result (λ block. IfSome block (λ b. IsWithin text.now cursor.new)) }
 {

@@ -1,7 +1,8 @@
 //! Lines that end a request: a give, or a refusal.
-ghost use Rattle.std.specs.Prelude.{ℕ, ◌≡◌, ◌≢◌, ◌<◌, IfOk, List, MatchBool, Some};
+ghost use Rattle.std.specs.Prelude.{ℕ, ◌≡◌, ◌≢◌, ◌*◌, ◌<◌, ◌≤◌, IfOk, IfSome, List, MatchBool, Some};
 ghost use Rattle.pas_profile.specs.Directories.{IsKind};
-ghost use Rattle.pas_profile.specs.Profiles.{IsAdmitted, IsValid};
+ghost use Rattle.pas_profile.specs.Classes.{IsAlignment};
+ghost use Rattle.pas_profile.specs.Profiles.{IsValid};
 ghost use Rattle.pas_profile.specs.declared.event.Event.{Event as TheEvent};
 ghost use Rattle.pas_machine.specs.State.{deed_in};
 ghost use Rattle.pas_machine.specs.Places.{IsEach};
@@ -14,7 +15,7 @@ use crate::reading::read_record;
 use crate::taking::{read_event, step};
 use pas_heap::HeapTable;
 use pas_machine::Machine;
-use pas_profile::{Block, Directory, Event, Kind, Name, NoMemory, Profile, Route};
+use pas_profile::{Block, Directory, Event, Kind, NoMemory, Profile, Route};
 use pas_report::{Record, Said};
 
 /// What a request asks for: a block for this name, of this room, at a multiple of this alignment, on pages of this directory.
@@ -26,12 +27,16 @@ pub(crate) struct Wanted {
     pub directory: Directory,
 }
 
-/// What is wanted by a request that the region may serve.
+/// What is wanted by a request of a size and an alignment that the region may serve, in one of 32 heaps.
 pub(crate) fn wanted_for(profile: &Profile, name: u32, heap: u8, size: u32, align: u32) -> Wanted
     requires valid { IsValid profile.now }
-    requires admitted { IsAdmitted profile.now size align heap }
+    requires size { size ≤ profile.now.pages * 4096 }
+    requires align { IsAlignment align }
+    requires heap { heap < 32 }
     ensures wanted { IsWanted profile.now (asked_for name heap size align) result }
     ensures kind { IsKind result.directory.kind }
+    ensures heap { result.directory.heap ≡ heap }
+    ensures align { 0 < result.align }
 {
     let kind = match profile.route(size, align) {
         Route::Class(class) => HeapTable::new(profile).kind_for(heap, class),
@@ -95,16 +100,17 @@ fn fits(block: &Block, wanted: &Wanted) -> bool
         && block.name.address.0 % wanted.align == 0
 }
 
-/// Takes the event where it is a give by the actor of what is wanted, and may come next; and says which name that block has. None where it is no such event.
+/// Takes the event where it is a give by the actor of what is wanted, and may come next; and says which block that is. None where it is no such event.
 fn give(
     machine: &mut Machine,
     event: &Event,
     actor: u8,
     wanted: &Wanted,
-) -> Result<Option<Name>, NoMemory>
+) -> Result<Option<Block>, NoMemory>
     requires align { 0 < wanted.now.align }
     ensures profile { profile_of machine.new ≡ profile_of machine.old }
-    ensures given { IfOk result (λ name. IsGiven machine.old machine.new actor wanted.now event.now name) }
+    ensures heap { IfOk result (λ found. IfSome found (λ block. block.heap ≡ wanted.now.directory.heap)) }
+    ensures given { IfOk result (λ block. IsGiven machine.old machine.new actor wanted.now event.now block) }
 {
     let Event::Give { actor: k, block } = *event else {
         return Ok(None);
@@ -113,22 +119,23 @@ fn give(
         return Ok(None);
     }
     match step(machine, event) {
-        Ok(true) => Ok(Some(block.name)),
+        Ok(true) => Ok(Some(block)),
         Ok(false) => Ok(None),
         Err(NoMemory) => Err(NoMemory),
     }
 }
 
-/// Takes the line of a give by the actor of what is wanted, and says which name the block has. None where this is no such line.
+/// Takes the line of a give by the actor of what is wanted, and says which block that is. None where this is no such line.
 pub(crate) fn take_give(
     machine: &mut Machine,
     line: &[u8],
     actor: u8,
     wanted: &Wanted,
-) -> Result<Option<Name>, NoMemory>
+) -> Result<Option<Block>, NoMemory>
     requires align { 0 < wanted.now.align }
     ensures profile { profile_of machine.new ≡ profile_of machine.old }
-    ensures taken { IfOk result (λ name. GiveTaken machine.old machine.new actor wanted.now line.now name) }
+    ensures heap { IfOk result (λ found. IfSome found (λ block. block.heap ≡ wanted.now.directory.heap)) }
+    ensures taken { IfOk result (λ block. GiveTaken machine.old machine.new actor wanted.now line.now block) }
 {
     let Some(event) = read_event(line) else {
         return Ok(None);

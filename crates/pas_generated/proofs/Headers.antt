@@ -3,11 +3,12 @@ use Rattle.std.proofs.Common.{◌≡◌, ℕ, ◌^◌, ◌<◌, ◌≤◌, nat_l
 use Rattle.std.specs.Fmt.{decimal}
 use Rattle.std.proofs.lemmas.Bool.{le-leb, and_from}
 use Rattle.pas_trace.specs.Numbers.{number_of}
-use Rattle.pas_trace.specs.Reasons.{within, profile_with, header_of_words}
+use Rattle.pas_trace.specs.Reasons.{within, header_with, header_of_words}
 use Rattle.pas_generate.specs.Lines.{header}
-use Rattle.pas_generated.specs.Meant.{region}
+use Rattle.pas_generated.specs.Meant.{heading}
 use Rattle.pas_generated.proofs.Digits.{number-back}
-use Rattle.pas_generated.proofs.Splits.{IsLine, decimal-word, word-by, last-word, word-before}
+use Rattle.pas_trace.proofs.WordLines.{IsLine}
+use Rattle.pas_generated.proofs.Splits.{decimal-word, word-by, last-word, word-before}
 
 abbrev pub header_words : ℕ → ℕ → List (List ℕ)
 header_words pages threads =
@@ -26,6 +27,6 @@ in-range least most n small lo hi =
     let tested = and_from (nat_le least n) (nat_le n most) (le-leb least n lo) (le-leb n most hi) in
     ap (within least most) (number-back n small) ∙ ap (λ (t : Bool). if t then Some n else None) tested
 
-pub header-says : (pages threads : ℕ) → 1 ≤ pages → pages ≤ 4096 → 1 ≤ threads → threads ≤ 16 → header_of_words (header_words pages threads) ≡ Some (region pages threads)
+pub header-says : (pages threads : ℕ) → 1 ≤ pages → pages ≤ 4096 → 1 ≤ threads → threads ≤ 16 → header_of_words (header_words pages threads) ≡ Some (heading pages threads)
 header-says pages threads pages_lo pages_hi threads_lo threads_hi =
-    λ i. profile_with (in-range 1 4096 pages (omega arith) pages_lo pages_hi i) (in-range 1 16 threads (omega arith) threads_lo threads_hi i) (Some 6) (Some 2)
+    λ i. header_with 1 (in-range 1 4096 pages (omega arith) pages_lo pages_hi i) (in-range 1 16 threads (omega arith) threads_lo threads_hi i) (Some 6) (Some 2)

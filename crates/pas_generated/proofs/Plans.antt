@@ -5,8 +5,9 @@ use Rattle.std.proofs.lemmas.Bool.{cases_eq, ne_eqb, false≢true}
 use Rattle.std.proofs.lemmas.List.{length-map}
 use denote.RawPtr.{null_ptr}
 use Rattle.pas_profile.specs.declared.profile.Profile.{Profile}
+use Rattle.pas_trace.specs.declared.header.Header.{Header}
 use Rattle.pas_trace.specs.Wishes.{name_made, is_name}
-use Rattle.pas_trace.specs.Reasons.{is_named, record_bound}
+use Rattle.pas_trace.specs.Reasons.{is_named, heap_of, record_bound}
 use Rattle.pas_trace.specs.Plans.{parsed, shared_in, add_last, line_of_newest, phases_after, phases_in, bound_of, bounds_upto, ops_of, IsPlanOf}
 use Rattle.pas_trace.specs.declared.item.Item.{Item}
 use Rattle.pas_trace.specs.declared.item.Item.TheVariants.{Blank, Shares, NextPhase, Operates, Scavenges}
@@ -37,18 +38,18 @@ most-add n op [] h = (omega arith, tt)
 most-add n op (p ∷ []) h = (let le = h.0 in omega (arith, le, length-append p (op ∷ [])), tt)
 most-add n op (p ∷ q ∷ ps) h = (let le = h.0 in omega (arith, le), most-add n op (q ∷ ps) h.1)
 
-most-after : (n line : ℕ) (i : Item) (ps : List (List Op)) → AtMost n ps → AtMost (n + 1) (phases_after i line ps)
-most-after n line Blank ps h = most-more n ps h
-most-after n line (Shares a) ps h = most-more n ps h
-most-after n line NextPhase ps h = most-next n ps h
-most-after n line (Operates t w) ps h = most-add n _ ps h
-most-after n line (Scavenges c) ps h = most-add n _ ps h
+most-after : (f : Profile) (heaps : ℕ → ℕ) (n line : ℕ) (i : Item) (ps : List (List Op)) → AtMost n ps → AtMost (n + 1) (phases_after f heaps i line ps)
+most-after f heaps n line Blank ps h = most-more n ps h
+most-after f heaps n line (Shares a) ps h = most-more n ps h
+most-after f heaps n line NextPhase ps h = most-next n ps h
+most-after f heaps n line (Operates t w) ps h = most-add n _ ps h
+most-after f heaps n line (Scavenges c) ps h = most-add n _ ps h
 
-most-in : (items : List Item) → AtMost (length items) (phases_in items)
-most-in [] = (omega arith, tt)
-most-in (i ∷ items) =
+most-in : (f : Profile) (items : List Item) → AtMost (length items) (phases_in f items)
+most-in f [] = (omega arith, tt)
+most-in f (i ∷ items) =
     let e : length items + 1 ≡ length (i ∷ items) = omega arith in
-    subst (λ n. AtMost n (phases_in (i ∷ items))) e (most-after (length items) (line_of_newest (i ∷ items)) i (phases_in items) (most-in items))
+    subst (λ n. AtMost n (phases_in f (i ∷ items))) e (most-after f (heap_of items) (length items) (line_of_newest (i ∷ items)) i (phases_in f items) (most-in f items))
 
 -- .. and there are few
 add-few : (op : Op) (ps : List (List Op)) → length (add_last (Some op) ps) ≤ length ps + 1
@@ -56,16 +57,16 @@ add-few op [] = omega arith
 add-few op (p ∷ []) = omega arith
 add-few op (p ∷ q ∷ ps) = omega (arith, add-few op (q ∷ ps))
 
-few-after : (line : ℕ) (i : Item) (ps : List (List Op)) → length (phases_after i line ps) ≤ length ps + 1
-few-after line Blank ps = omega arith
-few-after line (Shares a) ps = omega arith
-few-after line NextPhase ps = omega (arith, length-append ps ([] ∷ []))
-few-after line (Operates t w) ps = add-few _ ps
-few-after line (Scavenges c) ps = add-few _ ps
+few-after : (f : Profile) (heaps : ℕ → ℕ) (line : ℕ) (i : Item) (ps : List (List Op)) → length (phases_after f heaps i line ps) ≤ length ps + 1
+few-after f heaps line Blank ps = omega arith
+few-after f heaps line (Shares a) ps = omega arith
+few-after f heaps line NextPhase ps = omega (arith, length-append ps ([] ∷ []))
+few-after f heaps line (Operates t w) ps = add-few _ ps
+few-after f heaps line (Scavenges c) ps = add-few _ ps
 
-few-in : (items : List Item) → length (phases_in items) ≤ length items + 1
-few-in [] = omega arith
-few-in (i ∷ items) = omega (arith, few-after (line_of_newest (i ∷ items)) i (phases_in items), few-in items)
+few-in : (f : Profile) (items : List Item) → length (phases_in f items) ≤ length items + 1
+few-in f [] = omega arith
+few-in f (i ∷ items) = omega (arith, few-after f (heap_of items) (line_of_newest (i ∷ items)) i (phases_in f items), few-in f items)
 
 -- the phases with these operations
 held : Global → (n : ℕ) → n < 2 ^ 63 → (ps : List (List Op)) → AtMost n ps → List Phase
@@ -105,30 +106,33 @@ named_below (Operates t w ∷ items) n is = below_more (name_made w) (is_named i
 named_below (i ∷ items) n is = named_below items n is
 
 -- ---- the plan
-pub plan-of : Global → (f : Profile) (items : List Item) → length items < 2 ^ 62 → f.threads < 2 ^ 62 → Plan
-plan-of heap f items few threads =
+pub plan-of : Global → (header : Header) (items : List Item) → length items < 2 ^ 62 → header.profile.threads < 2 ^ 62 → Plan
+plan-of heap header items few threads =
+    let f = header.profile in
     let small : length items < 2 ^ 63 = omega arith in
     record {
+      version = header.version;
       profile = record f { shared = shared_in items };
       phases = record {
-        phases = holding heap (held heap (length items) small (phases_in items) (most-in items))
-            (omega (arith, length-map (held heap (length items) small (phases_in items) (most-in items)) ops_of, ap (λ ps. length ps) (held-back heap (length items) small (phases_in items) (most-in items)), few-in items));
+        phases = holding heap (held heap (length items) small (phases_in f items) (most-in f items))
+            (omega (arith, length-map (held heap (length items) small (phases_in f items) (most-in f items)) ops_of, ap (λ ps. length ps) (held-back heap (length items) small (phases_in f items) (most-in f items)), few-in f items));
       };
       bounds = record { bounds = holding heap (bounds_upto f items (f.threads + 1)) (omega (arith, bounds-count f items (f.threads + 1))) };
       total = record_bound f items;
       names_limit = limit_in items;
     }
 
-pub has-plan : (heap : Global) (text : List ℕ) (f : Profile) (items : List Item) → parsed text ≡ Ok (record { header = f; items = items }) → length items < 2 ^ 62 → f.threads < 2 ^ 62 → (plan : Plan) × IsPlanOf text plan
+pub has-plan : (heap : Global) (text : List ℕ) (header : Header) (items : List Item) → parsed text ≡ Ok (record { header = header; items = items }) → length items < 2 ^ 62 → header.profile.threads < 2 ^ 62 → (plan : Plan) × IsPlanOf text plan
 unfolding plan-of holding
-has-plan heap text f items read few threads = (
-  plan-of heap f items few threads,
+has-plan heap text header items read few threads = (
+  plan-of heap header items few threads,
   record {
     items = items;
-    header = f;
+    header = header;
     read = read;
+    version = refl;
     profile = refl;
-    phases = held-back heap (length items) (omega arith) (phases_in items) (most-in items);
+    phases = held-back heap (length items) (omega arith) (phases_in header.profile items) (most-in header.profile items);
     bounds = refl;
     total = refl;
     names = named_below items;

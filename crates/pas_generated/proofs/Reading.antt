@@ -1,28 +1,28 @@
 -- Texts that are read line by line, with nothing between them.
 use Rattle.std.proofs.Common.{◌≡◌, ℕ, ◌+◌, List, [], ◌∷◌, ◌++◌, None, Some, Ok, refl, sym, ap, ◌∙◌, append_assoc}
 use Rattle.std.proofs.lemmas.List.{append-nil}
-use Rattle.pas_profile.specs.declared.profile.Profile.{Profile}
+use Rattle.pas_trace.specs.declared.header.Header.{Header}
 use Rattle.pas_trace.specs.Texts.{lines_of}
 use Rattle.pas_trace.specs.Reasons.{started, header_of_words, reason_of, checked, kept, line_says}
 use Rattle.pas_trace.specs.Plans.{after_item, items_from, with_items, with_header, parsed_lines, parsed}
 use Rattle.pas_trace.specs.declared.item.Item.{Item}
-use Rattle.pas_generated.proofs.Splits.{Lacks, IsLine, lines-until}
+use Rattle.pas_trace.proofs.WordLines.{Lacks, IsLine, lines-until}
 use Rattle.pas_generated.proofs.Says.{Says}
 
 -- wherever the text stands after these items, its lines are read, and leave those
-abbrev pub Reads : Profile → List Item → List ℕ → List Item → Type 0
+abbrev pub Reads : Header → List Item → List ℕ → List Item → Type 0
 Reads f earlier text after = (number : ℕ) (rest : List ℕ) → (next : ℕ) × (items_from f number earlier (lines_of (text ++ rest)) ≡ items_from f next after (lines_of rest))
 
-pub reads-none : (f : Profile) (earlier : List Item) → Reads f earlier [] earlier
+pub reads-none : (f : Header) (earlier : List Item) → Reads f earlier [] earlier
 reads-none f earlier number rest = (number, refl)
 
-pub reads-both : (f : Profile) (earlier middle after : List Item) (text more : List ℕ) → Reads f earlier text middle → Reads f middle more after → Reads f earlier (text ++ more) after
+pub reads-both : (f : Header) (earlier middle after : List Item) (text more : List ℕ) → Reads f earlier text middle → Reads f middle more after → Reads f earlier (text ++ more) after
 reads-both f earlier middle after text more one two number rest =
     let first = one number (more ++ rest) in
     let second = two first.0 rest in
     (second.0, ap (λ (t : List ℕ). items_from f number earlier (lines_of t)) (append_assoc text more rest) ∙ first.1 ∙ second.1)
 
-pub reads-line : (f : Profile) (earlier : List Item) (line : List ℕ) (i : Item) → Lacks 10 line → line_says f earlier line ≡ Ok i → Reads f earlier (line ++ 10 ∷ []) (i ∷ earlier)
+pub reads-line : (f : Header) (earlier : List Item) (line : List ℕ) (i : Item) → Lacks 10 line → line_says f earlier line ≡ Ok i → Reads f earlier (line ++ 10 ∷ []) (i ∷ earlier)
 reads-line f earlier line i whole says number rest = (
   number + 1,
   ap (λ (t : List ℕ). items_from f number earlier (lines_of t)) (append_assoc line (10 ∷ []) rest)
@@ -30,14 +30,14 @@ reads-line f earlier line i whole says number rest = (
       ∙ ap (λ r. after_item number r (λ i. items_from f (number + 1) (i ∷ earlier) (lines_of rest))) says,
 )
 
-pub reads-said : (f : Profile) (earlier : List Item) (text : List ℕ) (i : Item) → Says text i → reason_of f earlier i ≡ None → Reads f earlier text (i ∷ earlier)
+pub reads-said : (f : Header) (earlier : List Item) (text : List ℕ) (i : Item) → Says f.version text i → reason_of f.profile earlier i ≡ None → Reads f earlier text (i ∷ earlier)
 reads-said f earlier text i s fine number rest =
-    let says : line_says f earlier s.line ≡ Ok i = ap (checked f earlier) (s.says (started earlier)) ∙ ap (kept i) fine in
+    let says : line_says f earlier s.line ≡ Ok i = ap (checked f.profile earlier) (s.says (started earlier)) ∙ ap (kept i) fine in
     let read = reads-line f earlier s.line i s.whole says number rest in
     (read.0, ap (λ (t : List ℕ). items_from f number earlier (lines_of (t ++ rest))) s.text_is ∙ read.1)
 
 -- a header, and the lines after it
-pub parsed-by : (f : Profile) (text : List ℕ) (words : List (List ℕ)) (rest : List ℕ) (items : List Item) → IsLine text words rest → header_of_words words ≡ Some f → Reads f [] rest items
+pub parsed-by : (f : Header) (text : List ℕ) (words : List (List ℕ)) (rest : List ℕ) (items : List Item) → IsLine text words rest → header_of_words words ≡ Some f → Reads f [] rest items
     → parsed text ≡ Ok (record { header = f; items = items })
 parsed-by f text words rest items l header reads =
     let all = reads 2 [] in

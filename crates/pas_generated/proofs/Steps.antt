@@ -13,7 +13,7 @@ use Rattle.pas_generate.specs.Lines.{line_of, tick_line}
 use Rattle.pas_generate.specs.Operations.{State, place, none, freed, freeing_thread, allocation, after_allocation, free_of, after_free, allocates, begun, thread_of, drawn_operation, after_drawn}
 use Rattle.pas_generate.specs.Traces.{IsJob}
 use Rattle.pas_generate.proofs.Valid.{valid}
-use Rattle.pas_generated.specs.Meant.{region, with_allocation, with_free, with_drawn}
+use Rattle.pas_generated.specs.Meant.{region, heading, with_allocation, with_free, with_drawn}
 use Rattle.pas_generated.proofs.Splits.{lacks-by}
 use Rattle.pas_generated.proofs.Says.{IsWritten, allocation-says, free-says, tick-says}
 use Rattle.pas_generated.proofs.Reading.{Reads, reads-both, reads-line, reads-said}
@@ -30,7 +30,7 @@ pub record Follows (pages threads n : ℕ) (s : State) (items : List Item) : Typ
 
 -- the text is read after these items, and leaves those, at that state
 pub record Step (pages threads n : ℕ) (items : List Item) (text : List ℕ) (now : State) (after : List Item) : Type 0 where
-  pub reads : Reads (region pages threads) items text after
+  pub reads : Reads (heading pages threads) items text after
   pub follows : Follows pages threads (n + 1) now after
 
 -- the counts after an item
@@ -44,7 +44,7 @@ tick-step ops threads pages n s items job more h =
     let e = (n + 1) / 1000 + 1 in
     let most : ops ≤ 200000 = job.most in
     record {
-      reads = reads-said (region pages threads) items (tick_line e) (Scavenges (Chore.Tick e)) (tick-says e (omega arith)) (tick-fine ops threads pages n items e job more h.counted);
+      reads = reads-said (heading pages threads) items (tick_line e) (Scavenges (Chore.Tick e)) (tick-says e (omega arith)) (tick-fine ops threads pages n items e job more h.counted);
       follows = record {
         some_name = h.some_name;
         few_names = let few : s.next_name ≤ n + 1 = h.few_names in omega arith;
@@ -64,9 +64,9 @@ pass-step ops threads pages n s items job more turn h =
     let f = region pages threads in
     let most : pages ≤ 4096 = job.pages_most in
     record {
-      reads = reads-both f items (Scavenges Chore.Pass ∷ items) (NextPhase ∷ Scavenges Chore.Pass ∷ items) (codes "pass\n") (codes "phase\n")
-          (reads-line f items (codes "pass") (Scavenges Chore.Pass) (lacks-by 10 (codes "pass") refl) (ap (kept (Scavenges Chore.Pass)) (pass-fine ops threads pages n items job more h.counted)))
-          (reads-line f (Scavenges Chore.Pass ∷ items) (codes "phase") NextPhase (lacks-by 10 (codes "phase") refl) refl);
+      reads = reads-both (heading pages threads) items (Scavenges Chore.Pass ∷ items) (NextPhase ∷ Scavenges Chore.Pass ∷ items) (codes "pass\n") (codes "phase\n")
+          (reads-line (heading pages threads) items (codes "pass") (Scavenges Chore.Pass) (lacks-by 10 (codes "pass") refl) (ap (kept (Scavenges Chore.Pass)) (pass-fine ops threads pages n items job more h.counted)))
+          (reads-line (heading pages threads) (Scavenges Chore.Pass ∷ items) (codes "phase") NextPhase (lacks-by 10 (codes "phase") refl) refl);
       follows = record {
         some_name = h.some_name;
         few_names = let few : s.next_name ≤ n + 1 = h.few_names in omega arith;
@@ -119,7 +119,7 @@ allocation-step ops threads pages n t s items job more lo hi h =
       fresh = h.fresh name (omega arith);
     } in
     record {
-      reads = reads-said f items (line_of (allocation t s)) i (allocation-says t name heap size align written) (allocation-fine ops threads pages n items t name heap size align job more h.counted requested);
+      reads = reads-said (heading pages threads) items (line_of (allocation t s)) i (allocation-says t name heap size align written) (allocation-fine ops threads pages n items t name heap size align job more h.counted requested);
       follows = record {
         some_name = omega arith;
         few_names = omega arith;
@@ -155,7 +155,7 @@ free-step ops threads pages n t s items job more lo hi some h =
     let most : ops ≤ 200000 = job.most in
     let i : Item = Operates (freeing_thread t s) (Frees name) in
     record {
-      reads = reads-said f items (line_of (free_of t s)) i (free-says (freeing_thread t s) name (omega arith) l.some_name (omega arith))
+      reads = reads-said (heading pages threads) items (line_of (free_of t s)) i (free-says (freeing_thread t s) name (omega arith) l.some_name (omega arith))
           (free-fine ops threads pages n items (freeing_thread t s) name job more h.counted b.some_thread b.thread_within l.named b.late);
       follows = record {
         some_name = h.some_name;

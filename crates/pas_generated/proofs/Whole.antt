@@ -13,7 +13,7 @@ use Rattle.pas_generate.specs.Lines.{header, line_of}
 use Rattle.pas_generate.specs.Operations.{State, operation_at, after_operation}
 use Rattle.pas_generate.specs.Traces.{IsJob, state_after, lines_of, trace_text}
 use Rattle.pas_generate.proofs.Operations.{tick_at, pass_at, drawn_at}
-use Rattle.pas_generated.specs.Meant.{region, with_drawn, with_operation, items_after, meant}
+use Rattle.pas_generated.specs.Meant.{heading, with_drawn, with_operation, items_after, meant}
 use Rattle.pas_generated.proofs.Splits.{lacks-by, line-then}
 use Rattle.pas_generated.proofs.Headers.{header_words, header-line, header-says}
 use Rattle.pas_generated.proofs.Reading.{Reads, reads-none, reads-both, reads-line, parsed-by}
@@ -59,13 +59,13 @@ operation-step ops threads pages n s items job more h = elim (cases_eq ((n + 1) 
 
 -- ---- so many operations
 record AreRead (pages threads seed n : ℕ) : Type 0 where
-  reads : Reads (region pages threads) (Shares 5 ∷ []) (lines_of threads seed n) (items_after threads seed n)
+  reads : Reads (heading pages threads) (Shares 5 ∷ []) (lines_of threads seed n) (items_after threads seed n)
   follows : Follows pages threads n (state_after threads seed n) (items_after threads seed n)
 
 none-read : (pages threads seed : ℕ) → AreRead pages threads seed 0
 unfolding lines_of items_after state_after
 none-read pages threads seed = record {
-  reads = reads-none (region pages threads) (Shares 5 ∷ []);
+  reads = reads-none (heading pages threads) (Shares 5 ∷ []);
   follows = record {
     some_name = omega arith;
     few_names = omega arith;
@@ -84,7 +84,7 @@ more-read ops pages threads seed n job more h =
     let step : Step pages threads n items (line_of (operation_at threads (suc n) s)) (after_operation threads (suc n) s) (with_operation threads (suc n) s items) =
     subst (λ k. Step pages threads n items (line_of (operation_at threads k s)) (after_operation threads k s) (with_operation threads k s items)) next (operation-step ops threads pages n s items job more h.follows) in
     record {
-      reads = reads-both (region pages threads) (Shares 5 ∷ []) items (with_operation threads (suc n) s items) (lines_of threads seed n) (line_of (operation_at threads (suc n) s)) h.reads step.reads;
+      reads = reads-both (heading pages threads) (Shares 5 ∷ []) items (with_operation threads (suc n) s items) (lines_of threads seed n) (line_of (operation_at threads (suc n) s)) h.reads step.reads;
       follows = subst (λ k. Follows pages threads k (after_operation threads (suc n) s) (with_operation threads (suc n) s items)) next step.follows;
     }
 
@@ -98,7 +98,7 @@ lines-few seed ops threads pages job = (all-read ops pages threads seed ops job 
 -- ---- the text
 pub text-read : (seed ops threads pages : ℕ) → IsJob ops threads pages → parsed (trace_text seed ops threads pages) ≡ Ok (meant seed ops threads pages)
 text-read seed ops threads pages job =
-    let f = region pages threads in
+    let f = heading pages threads in
     let pages_lo : 2 ≤ pages = job.two_pages in
     let pages_hi : pages ≤ 4096 = job.pages_most in
     let threads_lo : 1 ≤ threads = job.thread in
@@ -118,4 +118,4 @@ text-planned heap seed ops threads pages job =
     let few : length (items_after threads seed ops) ≤ 2 * ops + 1 = lines-few seed ops threads pages job in
     let most : ops ≤ 200000 = job.most in
     let some_threads : threads ≤ 16 = job.threads_most in
-    has-plan heap (trace_text seed ops threads pages) (region pages threads) (items_after threads seed ops) (text-read seed ops threads pages job) (omega arith) (omega arith)
+    has-plan heap (trace_text seed ops threads pages) (heading pages threads) (items_after threads seed ops) (text-read seed ops threads pages job) (omega arith) (omega arith)

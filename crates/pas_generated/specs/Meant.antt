@@ -1,6 +1,7 @@
 -- What a generated trace means.
 use Rattle.std.specs.Prelude.{ℕ, zero, suc, ◌+◌, ◌/◌, ◌%◌, nat_eq, if◌then◌else◌, List, [], ◌∷◌}
 use Rattle.pas_profile.specs.declared.profile.Profile.{Profile}
+use Rattle.pas_trace.specs.declared.header.Header.{Header}
 use Rattle.pas_trace.specs.declared.item.Item.{Item}
 use Rattle.pas_trace.specs.declared.item.Item.TheVariants.{Shares, NextPhase, Operates, Scavenges}
 use Rattle.pas_trace.specs.declared.item.Wish.TheVariants.{Asks, Frees}
@@ -13,6 +14,10 @@ use Rattle.pas_generate.specs.Traces.{state_after}
 -- the region: six heaps, none of them shared as yet, and an age of 2
 abbrev pub region : ℕ → ℕ → Profile
 region pages threads = record { pages = pages; threads = threads; age = 2; heaps = 6; shared = 0; classes = 16 }
+
+-- the header: of version 1
+abbrev pub heading : ℕ → ℕ → Header
+heading pages threads = record { version = 1; profile = region pages threads }
 
 -- ---- the items after an operation, the newest first
 -- an allocation by a thread, by its state
@@ -38,6 +43,6 @@ unfoldable pub items_after : ℕ → ℕ → ℕ → List Item
 items_after threads seed zero = Shares 5 ∷ []
 items_after threads seed (suc n) = with_operation threads (suc n) (state_after threads seed n) (items_after threads seed n)
 
--- the region and the items of the whole text
+-- the header and the items of the whole text
 abbrev pub meant : ℕ → ℕ → ℕ → ℕ → Parsed
-meant seed ops threads pages = record { header = region pages threads; items = items_after threads seed ops }
+meant seed ops threads pages = record { header = heading pages threads; items = items_after threads seed ops }

@@ -280,3 +280,31 @@ fault_too_early = refl
 fault_too_large : seen (codes "pas 1 pages 4096 threads 1 heaps 1 age 2\npass\npass\npass\npass\npass\npass\npass\npass\npass\npass\npass\npass\npass\npass\npass\npass\npass\npass\npass\npass\npass\npass\npass\npass\npass\npass\npass\npass\npass\npass\npass\npass\npass\npass\npass\npass\npass\npass\npass\npass\npass\npass\npass\npass\npass\npass\npass\npass\npass\npass\npass\npass\npass\npass\npass\npass\npass\npass\npass\npass\npass\npass\npass\npass\npass\npass\npass\npass\npass\npass\npass\npass\npass\npass\npass\npass\npass\npass\npass\npass\npass\npass\npass\npass\npass\npass\npass\npass\npass\npass\npass\npass\npass\npass\npass\npass\npass\npass\npass\npass\npass\npass\npass\npass\npass\npass\npass\npass\npass\npass\npass\npass\npass\npass\npass\npass\npass\npass\npass\npass\npass\npass\npass\npass\npass\npass\npass\npass\npass\npass\npass\npass\npass\npass\npass\npass\npass\npass\npass\npass\npass\npass\npass\npass\npass\npass\npass\npass\npass\npass\npass\npass\npass\npass\npass\npass\npass\npass\npass\npass\npass\npass\npass\npass\npass\npass\npass\npass\npass\npass\npass\npass\npass\npass\npass\npass\npass\npass\npass\npass\npass\npass\npass\npass\npass\npass\npass\npass\npass\npass\npass\npass\npass\npass\npass\npass\npass\npass\npass\npass\npass\npass\npass\npass\npass\npass\npass\npass\npass\npass\npass\npass\npass\npass\npass\npass\npass\npass\npass\npass\npass\npass\npass\npass\npass\npass\npass\npass\npass\npass\npass\npass\npass\npass\npass\npass\npass\npass\npass\npass\npass\npass\npass\npass\npass\npass\npass\npass\npass\npass\npass\npass\npass\npass\npass\npass\npass\npass\npass\npass\npass\npass\npass\npass\npass\npass\npass\npass\npass\npass\npass\npass\npass\npass\npass\npass\npass\npass\npass\npass\npass\npass\npass\npass\npass\npass\npass\npass\npass\npass\npass\npass\npass\npass\npass\npass\npass\npass\npass\npass\npass\npass\npass\npass\npass\npass\npass\npass\npass\npass\npass\npass\npass\npass\npass\npass\npass\npass\npass\npass\npass\npass\npass\npass\npass\npass\npass\npass\npass\npass\npass\npass\npass\npass\npass\npass\npass\npass\npass\npass\npass\npass\npass\npass\npass\npass\npass\npass\npass\npass\npass\npass\npass\npass\npass\npass\npass\npass\npass\npass\npass\npass\npass\npass\npass\npass\npass\npass\npass\npass\npass\npass\npass\npass\npass\npass\npass\npass\npass\npass\npass\npass\npass\npass\npass\npass\npass\npass\npass\npass\npass\npass\npass\npass\npass\npass\npass\npass\npass\npass\npass\npass\npass\npass\npass\npass\npass\npass\npass\npass\npass\npass\npass\npass\npass\npass\npass\npass\npass\npass\npass\npass\npass\npass\npass\npass\npass\npass\npass\npass\npass\npass\npass\npass\npass\npass\npass\npass\npass\npass\npass\npass\npass\npass\npass\npass\npass\npass\npass\npass\npass\npass\npass\npass\npass\npass\npass\npass\npass\npass\npass\npass\npass\npass\npass\npass\npass\npass\npass\npass\npass\npass\npass\npass\npass\npass\npass\npass\npass\npass\npass\npass\npass\npass\npass\npass\npass\npass\n") ≡ faulty 489 Reason.TraceTooLarge
 unfolding seen grains_that
 fault_too_large = refl
+
+fault_beyond_large_region : seen (codes "pas 3 pages 16384 threads 1 heaps 1 age 2\na 1 1 0 67108865 16\n") ≡ faulty 2 Reason.BadSize
+unfolding seen grains_that
+fault_beyond_large_region = refl
+
+fault_pages_of_version_2 : seen (codes "pas 2 pages 16384 threads 1 heaps 1 age 2\na 1 1 0 67108864 16\n") ≡ faulty 1 Reason.BadHeader
+unfolding seen grains_that
+fault_pages_of_version_2 = refl
+
+fault_pages_of_version_3 : seen (codes "pas 3 pages 16385 threads 1 heaps 1 age 2\na 1 1 0 67108864 16\n") ≡ faulty 1 Reason.BadHeader
+unfolding seen grains_that
+fault_pages_of_version_3 = refl
+
+fault_reallocation_name_taken : seen (codes "pas 4 pages 2 threads 1 heaps 1 age 2\na 1 1 0 24 16\nm 1 2 1 32 16\nm 1 2 9 16 16\n") ≡ faulty 4 Reason.NameTaken
+unfolding seen grains_that
+fault_reallocation_name_taken = refl
+
+fault_reallocation_name_unknown : seen (codes "pas 4 pages 2 threads 1 heaps 1 age 2\na 1 1 0 24 16\nm 1 2 1 32 16\nm 1 3 9 16 16\n") ≡ faulty 4 Reason.NameUnknown
+unfolding seen grains_that
+fault_reallocation_name_unknown = refl
+
+fault_reallocation_of_version_3 : seen (codes "pas 3 pages 2 threads 1 heaps 1 age 2\na 1 1 0 24 16\nm 1 2 1 32 16\nm 1 3 2 33 16\nm 1 4 3 64 16\nm 1 5 4 16 16\nf 1 3\n") ≡ faulty 3 Reason.BadWord
+unfolding seen grains_that
+fault_reallocation_of_version_3 = refl
+
+fault_version_5 : seen (codes "pas 5 pages 2 threads 1 heaps 1 age 2\na 1 1 0 513 16\n") ≡ faulty 1 Reason.BadHeader
+unfolding seen grains_that
+fault_version_5 = refl

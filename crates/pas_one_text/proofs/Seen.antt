@@ -144,6 +144,9 @@ ended_of k address turn = Record.Event (Event.Reject k (name address turn) Why.E
 abbrev pub no_block_of : ℕ → ℕ → ℕ → TheRecord
 no_block_of k address turn = Record.Event (Event.Reject k (name address turn) Why.NoBlock)
 
+abbrev pub size_differs_of : ℕ → ℕ → ℕ → ℕ → TheRecord
+size_differs_of k address turn asked = Record.Event (Event.Reject k (name address turn) (Why.SizeDiffers asked))
+
 abbrev pub outside_of : ℕ → ℕ → ℕ → TheRecord
 outside_of k address turn = Record.Said k (Said.Outside (name address turn))
 
@@ -158,6 +161,9 @@ held_of k page asked = Record.Said k (Said.Held page asked)
 
 abbrev pub skipped_of : ℕ → ℕ → TheRecord
 skipped_of k freed = Record.Said k (Said.Skipped freed)
+
+abbrev pub kept_of : ℕ → ℕ → ℕ → ℕ → TheRecord
+kept_of k address turn new = Record.Said k (Said.Kept (name address turn) new)
 
 abbrev pub tick_of : ℕ → TheRecord
 tick_of epoch = Record.Said 0 (Said.Tick epoch)

@@ -11,7 +11,7 @@ use Rattle.pas_profile.specs.declared.name.Name.{Name}
 use Rattle.pas_profile.specs.declared.profile.Profile.{Profile}
 use Rattle.pas_machine.specs.State.{ends_in}
 use Rattle.pas_free_log.specs.declared.log.Entry.{Entry}
-use Rattle.pas_free_log.specs.Logs.{entry_of, is_sized}
+use Rattle.pas_free_log.specs.Logs.{sized_entry, is_sized}
 use Rattle.pas_report.specs.declared.record.Record.{Record}
 use Rattle.pas_report.specs.declared.record.Said.{Said}
 use Rattle.pas_answers.specs.Answers.{said_of_fault, standing_for}
@@ -59,11 +59,11 @@ abbrev pub flushes : Profile → ℕ → World → World
 flushes f k w = each (ends f k) (log_of w k) (set_log k [] w)
 
 -- ---- a stop: a flush, and then all local allocators go
+abbrev pub gives_up_all : ℕ → World → World
+gives_up_all k w = each (gives_up k) (locals_of w k) w
+
 abbrev pub stops : Profile → ℕ → World → World
-stops f k w = gives_up_all (flushes f k w)
-  where
-    gives_up_all : World → World
-    gives_up_all v = each (gives_up k) (locals_of v k) v
+stops f k w = gives_up_all k (flushes f k w)
 
 -- ---- a free
 -- the entry is the last one of the log
@@ -84,11 +84,12 @@ frees f k entry w = if nat_le 4096 (address_of entry.name) && nat_lt (address_of
     then (if address_of entry.name % 16 == 0 then logs f k entry w else refuses_free k entry.name FreeFault.Unaligned w)
     else refuses_free k entry.name FreeFault.Outside w
 
--- a free by a name of the trace, which stands for a block, or for nothing where its request was refused. A trace has no name that was never asked for
-abbrev pub frees_what : Profile → ℕ → ℕ → Option (Option Name) → World → World
-frees_what f k name (Some (Some block)) w = frees f k (entry_of block) w
-frees_what f k name (Some None) w = says (Record.Said k (Said.Skipped name)) w
-frees_what f k name None w = w
+-- A free by a name of the trace, which stands for a block, or for nothing where its request was refused. It names a room, or none (0). A trace has no name
+-- that was never asked for
+abbrev pub frees_what : Profile → ℕ → ℕ → ℕ → Option (Option Block) → World → World
+frees_what f k name room (Some (Some block)) w = frees f k (sized_entry block.name room) w
+frees_what f k name room (Some None) w = says (Record.Said k (Said.Skipped name)) w
+frees_what f k name room None w = w
 
-abbrev pub frees_named : Profile → ℕ → ℕ → World → World
-frees_named f k name w = frees_what f k name (standing_for w.names name) w
+abbrev pub frees_named : Profile → ℕ → ℕ → ℕ → World → World
+frees_named f k name room w = frees_what f k name room (standing_for w.names name) w

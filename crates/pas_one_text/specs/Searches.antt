@@ -57,7 +57,7 @@ abbrev pub name_at : World → ℕ → Name
 name_at w address = record { address = record { 0 = address }; turn = gives_in w.events address }
 
 abbrev pub gives_block : ℕ → ℕ → Block → World → World
-gives_block k name block w = names_it name (Some block.name) (shows (Event.Give k block) w)
+gives_block k name block w = names_it name (Some block) (shows (Event.Give k block) w)
 
 abbrev pub gives : ℕ → ℕ → ℕ → ℕ → ℕ → World → World
 gives k name heap address room w = gives_block k name (record { name = name_at w address; room = room; heap = heap }) w

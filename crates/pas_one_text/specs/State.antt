@@ -77,7 +77,7 @@ abbrev pub says : Record → World → World
 says r w = record w { records = r ∷ w.records }
 
 -- the name stands for this block from now on, or for nothing
-abbrev pub names_it : ℕ → Option Name → World → World
+abbrev pub names_it : ℕ → Option Block → World → World
 names_it name block w = record w { names = named name block ∷ w.names }
 
 -- ---- caches

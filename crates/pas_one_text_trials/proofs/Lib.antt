@@ -5,4 +5,5 @@ mod Trials4
 mod Trials5
 mod Trials6
 mod Trials7
+mod Trials8
 mod Queue

@@ -5,14 +5,14 @@ use Rattle.std.specs.List.{AllByRecursion, filter}
 use Rattle.std.proofs.lemmas.Bool.{eq-eqb}
 use Rattle.std.proofs.Math.Nat.{suc-mul}
 use Rattle.pas_profile.specs.declared.profile.Profile.{Profile}
-use Rattle.pas_trace.specs.EveryPlan.{all_ops, asked_with, asked_after, IsActorBy, IsActorOf, IsSoundTask, IsSoundWork, AreSound, records_of_chore, records_of_work, records_of_what, records_of_ops, own_records}
+use Rattle.pas_trace.specs.EveryPlan.{all_ops, asked_with, asked_after, IsActorBy, IsActorOf, IsSoundWork, AreSound, records_of_chore, records_of_work, records_of_what, records_of_ops, own_records}
 use Rattle.pas_trace.specs.Asked.{work_of, of_task, request_of, cost_of_task}
 use Rattle.pas_trace.specs.declared.plan.Task.{Task}
 use Rattle.pas_trace.specs.declared.plan.Chore.{Chore}
 use Rattle.pas_trace.specs.declared.plan.Work.{Work}
 use Rattle.pas_trace.specs.declared.plan.Op.{Op}
 use Rattle.pas_trace.specs.Acts.{Act, Operates, Ticks, StopsIdle, MarksPhase, MarksClose, Wakes, Ends, is_active, numbers_from, active_threads, idle_threads, idle_stops, acts_of_chore, acts_of_work, acts_of_op, acts_of_ops, phase_acts, close_acts, acts_from, acts_of}
-use Rattle.pas_answers.specs.Fit.{IsFitTask, IsFitWork, AreFit, AreOfThreads, cost_of_work, cost_of_what, cost_of_act, costs_of, own_cost_of_act, own_costs_of, unbacks_of_act, unbacks_of, sum_over, AreBelow}
+use Rattle.pas_answers.specs.Fit.{IsFitWork, AreFit, AreOfThreads, cost_of_work, cost_of_what, cost_of_act, costs_of, own_cost_of_act, own_costs_of, unbacks_of_act, unbacks_of, sum_over, AreBelow}
 
 -- ---- so many threads
 numbers_count : (k n : ℕ) → length (numbers_from k n) ≡ n
@@ -180,11 +180,6 @@ skip_stops : (f : Profile) (limit : ℕ) (asked : List ℕ) (n : ℕ) (idle : Li
 skip_stops f limit asked n [] more fit = fit
 skip_stops f limit asked n (k ∷ idle) more fit = skip_stops f limit asked n idle more fit
 
--- a request is below the limit besides
-fits_task : (f : Profile) (limit : ℕ) (asked : List ℕ) (task : Task) → MatchOption (request_of task) (Unit {0}) (λ r. r.name < limit) → IsSoundTask f asked task → IsFitTask f limit asked task
-fits_task f limit asked (Task.Request name heap size align) below sound = (below, sound.0, sound.1)
-fits_task f limit asked task below sound = sound
-
 fits_chore : (f : Profile) (limit : ℕ) (asked : List ℕ) (chore : Chore) (idle : List ℕ) (more : List Act) → IsSoundWork f asked (Work.Chore chore) → AreFit f limit asked more → AreFit f limit asked (acts_of_chore idle chore ++ more)
 fits_chore f limit asked (Chore.Tick e) idle more sound fit = (sound, fit)
 fits_chore f limit asked Chore.Pass idle more sound fit = fit
@@ -193,7 +188,7 @@ fits_chore f limit asked (Chore.Idle n) idle more sound fit = skip_stops f limit
 fits : (f : Profile) (limit : ℕ) (asked : List ℕ) (op : Op) (work : Work) (idle : List ℕ) (more : List Act) → work_of op.what ≡ work → MatchOption (of_task request_of work) (Unit {0}) (λ r. r.name < limit) → IsActorBy f work op.actor → IsSoundWork f asked work
     → AreFit f limit (asked_with (of_task request_of work) asked) more → AreFit f limit asked (acts_of_work idle op work ++ more)
 fits f limit asked op (Work.Own task) idle more is below of sound fit =
-    (of, subst (IsFitWork f limit asked) (sym is) (fits_task f limit asked task below sound), subst (λ (w : Work). AreFit f limit (asked_with (of_task request_of w) asked) more) (sym is) fit)
+    (of, subst (IsFitWork f limit asked) (sym is) (below, sound), subst (λ (w : Work). AreFit f limit (asked_with (of_task request_of w) asked) more) (sym is) fit)
 fits f limit asked op (Work.Chore chore) idle more is below of sound fit = fits_chore f limit asked chore idle more sound fit
 
 pub ops_fit : (f : Profile) (limit : ℕ) (idle : List ℕ) (ops rest : List Op) (more : List Act) → AreBelow limit (ops ++ rest) → Continues f limit rest more → Continues f limit (ops ++ rest) (acts_of_ops idle ops ++ more)

@@ -1,7 +1,7 @@
 //! Traces of several actors, of which one acts in each phase, and their transcripts.
 
 /// Traces in each of whose phases one actor acts, or says something, so that threads have no choice.
-pub const TRACES: [&str; 13] = [
+pub const TRACES: [&str; 15] = [
     // Threads that have nothing to stop.
     "pas 1 pages 4 threads 2 heaps 1 age 2\nflush 2\nphase\nstop 1\n",
     // The epoch doesn't fall.
@@ -40,10 +40,15 @@ pub const TRACES: [&str; 13] = [
     // Large blocks of two threads, of which one ends the other's.
     "pas 1 pages 4 threads 2 heaps 1 age 1\na 1 1 0 8192 16\nphase\na 2 2 0 4096 16\nphase\nf 2 1\nflush 2\n\
      phase\na 1 3 0 4096 16\nphase\ntick 1\npass\n",
+    // A thread frees another's block by a room that it hasn't and by its own one, and then that thread frees it too.
+    "pas 2 pages 1 threads 2 heaps 1 age 2\na 1 1 0 24 16\nphase\nfs 2 1 48 16\nrs 2 0x00001000 0 32 16\nflush 2\n\
+     phase\nfs 1 1 32 16\nrs 1 0x00001020 0 32 16\n",
+    // A thread gives another's block another size, in its heap, and that thread keeps what it came to.
+    "pas 4 pages 2 threads 2 heaps 2 age 2\na 1 1 1 24 16\nphase\nm 2 2 1 33 16\nphase\nm 1 3 2 33 16\nf 1 3\nphase\nflush 2\n",
 ];
 
 /// What the traces are replayed to in the order of their texts, each at its place.
-pub const TEXTS: [&str; 13] = [
+pub const TEXTS: [&str; 15] = [
     "phase 2\nclose\nreport\ntotal deeds 0 backed 0 live 0 given 0 ended 0\n",
     "0 tick 7\n0 tick 7\nclose\nreport\ntotal deeds 0 backed 0 live 0 given 0 ended 0\n",
     "0 pass 0\nclose\nreport\ntotal deeds 0 backed 0 live 0 given 0 ended 0\n",
@@ -125,4 +130,16 @@ pub const TEXTS: [&str; 13] = [
      page 2 heap 0 large live 0 free 256 stamp 0 marks offered\n\
      page 3 heap 0 large live 1 free 0 stamp 0 marks backed+parked\n\
      total deeds 3 backed 2 live 2 given 3 ended 1\n",
+    "1 deed page 1 heap 0 class 32\n1 back page 1\n1 give 0x00001000 turn 0 room 32 heap 0\nphase 2\n\
+     2 size-differs 0x00001000 turn 0 asked 48\n2 freed 0x00001000 turn 0 epoch 0\nphase 3\nclose\n\
+     1 ended 0x00001000 turn 0\n1 no-block 0x00001020 turn 0\nreport\n\
+     page 1 heap 0 class 32 live 0 free 256 stamp 0 marks backed+offered+hinted\n\
+     total deeds 1 backed 1 live 0 given 1 ended 1\n",
+    "1 deed page 1 heap 1 class 32\n1 back page 1\n1 give 0x00001000 turn 0 room 32 heap 1\nphase 2\n\
+     2 deed page 2 heap 1 class 48\n2 back page 2\n2 give 0x00002000 turn 0 room 48 heap 1\nphase 3\n\
+     1 kept 0x00002000 turn 0 name 3\nphase 4\n2 freed 0x00001000 turn 0 epoch 0\nclose\n\
+     1 freed 0x00002000 turn 0 epoch 0\nreport\n\
+     page 1 heap 1 class 32 live 0 free 256 stamp 0 marks backed+offered+hinted\n\
+     page 2 heap 1 class 48 live 0 free 256 stamp 0 marks backed+offered+hinted\n\
+     total deeds 2 backed 2 live 0 given 2 ended 2\n",
 ];

@@ -8,6 +8,8 @@ mod at_once;
 #[cfg(test)]
 mod calls;
 #[cfg(test)]
+mod check_tests;
+#[cfg(test)]
 mod estimate_tests;
 #[cfg(test)]
 mod faulty;

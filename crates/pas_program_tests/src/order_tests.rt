@@ -35,10 +35,10 @@ fn replays_a_trace(rt: HostRuntime) -> Result<(), Fail> {
     Ok(())
 }
 
-const USAGE: &str = "usage: pas order | pas run | pas gen SEED OPS THREADS PAGES\n";
+const USAGE: &str = "usage: pas order | pas run | pas check | pas gen SEED OPS THREADS PAGES\n";
 
 /// Lists of words that aren't accepted.
-const OTHERS: [&[&str]; 20] = [
+const OTHERS: [&[&str]; 24] = [
     &[],
     &["order", "--"],
     &["order", "order"],
@@ -50,6 +50,10 @@ const OTHERS: [&[&str]; 20] = [
     &["run", "run"],
     &["order", "run"],
     &["Run"],
+    &["check", "check"],
+    &["check", "--"],
+    &["check", "order"],
+    &["Check"],
     &["help"],
     &["gen", "7", "12", "4", "1024", "1"],
     &["gen", "07", "12", "4", "1024"],
@@ -72,7 +76,7 @@ fn is_misread<R: AllocGlobal + Threads + Wait + Sync>(
 
 #[test]
 fn other_words_read_nothing(rt: HostRuntime) -> Result<(), Fail> {
-    for at in 0..20 {
+    for at in 0..24 {
         assert!(rt; is_misread(&rt, OTHERS[at])?);
     }
     assert!(rt; may_be_cut_off(&rt, &["gen", "7"], "", 2, USAGE.as_bytes())?);
@@ -206,6 +210,50 @@ fn full_pages_and_logs_have_transcripts(rt: HostRuntime) -> Result<(), Fail> {
     assert!(rt; ends_with(&rt, &slots, PAST_A_PAGE)?);
     let log = filling(rt.alloc(), 1, 65, 16)?;
     assert!(rt; ends_with(&rt, &log, PAST_A_LOG)?);
+    Ok(())
+}
+
+/// The largest region, and one block of all its pages.
+const LARGEST: &[u8] = b"pas 3 pages 16384 threads 1 heaps 1 age 2\na 1 1 0 67108864 16\n";
+
+/// Room for its transcript.
+const LARGEST_ROOM: usize = 4_194_304;
+
+/// What stands there of the block, and how the report begins.
+const LARGEST_GIVEN: &str = "\n1 give 0x00001000 turn 0 room 67108864 heap 0\nclose\nreport\n\
+     page 1 heap 0 large live 1 free 0 stamp 0 marks backed+parked\n";
+
+/// How the report ends.
+const LARGEST_TOTALS: &str = "\npage 16384 heap 0 large live 0 free 0 stamp 0 marks backed+parked\n\
+     total deeds 16384 backed 16384 live 1 given 1 ended 0\n";
+
+/// Whether the text has this part.
+fn contains(text: &[u8], part: &[u8]) -> bool {
+    for at in 0..text.len() {
+        if text[at..].starts_with(part) {
+            return true;
+        }
+    }
+    false
+}
+
+/// Whether a call with the word gives the block of all pages.
+fn gives_all_pages<R: AllocGlobal + Threads + Wait + Sync>(
+    rt: &R,
+    word: &str,
+) -> Result<bool, AllocError> {
+    let outcome = outcome_of(rt, &[word], LARGEST, &[], &[], LARGEST_ROOM)?;
+    Ok(
+        outcome.status == 0
+            && contains(&outcome.taken, LARGEST_GIVEN.as_bytes())
+            && outcome.taken.ends_with(LARGEST_TOTALS.as_bytes()),
+    )
+}
+
+#[test]
+fn the_largest_region_is_one_block(rt: HostRuntime) -> Result<(), Fail> {
+    assert!(rt; gives_all_pages(&rt, "order")?);
+    assert!(rt; gives_all_pages(&rt, "run")?);
     Ok(())
 }
 

@@ -6,6 +6,7 @@ use pas_replay::{PlainKit, in_order, records_for};
 use pas_report::Records;
 use pas_steps::State;
 use pas_threads::{Gate, SharedKit, on_threads};
+use pas_top::Reallocation;
 use pas_trace::read_trace;
 use std::alloc::{AllocError, Global};
 use std::sync::Wait;
@@ -75,7 +76,7 @@ pub fn replayed(alloc: Global, text: &[u8]) -> Result<(Records, State), Fail>
     };
     let mut records = records_for(alloc, &plan)?;
     let kit = PlainKit::try_new(alloc, &plan)?;
-    let state = in_order(&plan, kit, &mut records);
+    let state = in_order(&plan, kit, &Reallocation, &mut records);
     Ok((records, state))
 }
 
@@ -92,6 +93,6 @@ pub fn replayed_on_threads<R: AllocGlobal + Threads + Wait + Sync, G: Gate + Syn
     };
     let kit = SharedKit::try_new(rt.alloc(), &plan)?;
     let mut records = records_for(rt.alloc(), &plan)?;
-    let state = on_threads(rt, &plan, kit, gate, &mut records);
+    let state = on_threads(rt, &plan, kit, gate, &Reallocation, &mut records);
     Ok((records, state))
 }

@@ -23,25 +23,19 @@ use Rattle.pas_cache.specs.Serves.{Wanted, wanted_for}
 use Rattle.pas_cache.specs.declared.moving.Moved.TheVariants.{Kept, New}
 use Rattle.pas_answers.specs.Calls.{Serves}
 use Rattle.pas_answers.proofs.Requests.{may_request}
-use Rattle.pas_realloc.specs.Moves.{Suits, flush_of_full, MayMove, Moves}
+use Rattle.pas_answers.specs.Answers.{suits}
+use Rattle.pas_answers.specs.Moves.{flush_of_full, MayMove, Moves}
 
 -- ---- the request
 pub can_serve : {σ : Standing} (c : Cached) (heap size align spare : ℕ) → CanCall σ (MayMove σ.seat.profile c (cost_of_size size) spare) → CanCall σ (MayRequest σ.seat.profile (wanted_for σ.seat.profile heap size align) c spare)
 can_serve {σ} c heap size align spare can = can_call adds_none can (λ v l stood met. let room = met.room in may_request σ.seat.profile c heap size align spare v met.rest (omega (arith, room)))
 
--- ---- whether it suits
-pub suiting : (old : Block) (size align : ℕ) → (nat_le (max size 1) old.room && (address_of old.name % align == 0)) ≡ true → Suits old size align
-suiting old size align is = let parts = and_parts (nat_le (max size 1) old.room) (address_of old.name % align == 0) is in (leb-true (max size 1) old.room parts.0, eqb-true (address_of old.name % align) 0 parts.1)
-
-pub unsuiting : (old : Block) (size align : ℕ) → (nat_le (max size 1) old.room && (address_of old.name % align == 0)) ≡ false → Suits old size align → ⊥
-unsuiting old size align other suits = true≢false (sym (and_from (nat_le (max size 1) old.room) (address_of old.name % align == 0) (le-leb (max size 1) old.room suits.0) (eq-eqb (address_of old.name % align) 0 suits.1)) ∙ other)
-
 -- ---- what it comes to
-pub kept : {σ : Standing} (Answers : Option ℕ → Type 0) (Same : Type 0) (wanted : Wanted) (old : Block) (size align : ℕ) (c : Cached) → Suits old size align → Same → Moves Answers Same wanted old size align c c σ σ (Ok Kept)
-kept Answers Same wanted old size align c suits same = record { steps = []; calls = call_none (λ v met. met); moved = record { suits = suits; no_steps = refl; cache = refl; door = same } }
+pub kept : {σ : Standing} (Answers : Option ℕ → Type 0) (Same : Type 0) (wanted : Wanted) (old : Block) (size align : ℕ) (c : Cached) → suits old size align ≡ true → Same → Moves Answers Same wanted old size align c c σ σ (Ok Kept)
+kept Answers Same wanted old size align c suited same = record { steps = []; calls = call_none (λ v met. met); moved = record { suited = suited; no_steps = refl; cache = refl; door = same } }
 
-pub refused : {σ σ1 : Standing} (Answers : Option ℕ → Type 0) (Same : Type 0) (cost : ℕ) (wanted : Wanted) (found : Option ℕ) (old : Block) (size align : ℕ) (c c1 : Cached) (room : NoRoom) → (Suits old size align → ⊥) → IsNamed wanted.route Answers Same found → Serves cost wanted found c c1 σ σ1 (Err room) → Moves Answers Same wanted old size align c c1 σ σ1 (Err room)
-refused Answers Same cost wanted found old size align c c1 room unsuited named s = record { steps = s.steps; calls = s.calls; moved = record { unsuited = unsuited; found = found; named = named; serves = s.change; kinds = s.kinds; ends = s.outcome; same_log = s.log_is } }
+pub refused : {σ σ1 : Standing} (Answers : Option ℕ → Type 0) (Same : Type 0) (wanted : Wanted) (found : Option ℕ) (old : Block) (size align : ℕ) (c c1 : Cached) (room : NoRoom) → suits old size align ≡ false → IsNamed wanted.route Answers Same found → Serves (cost_of_size size) wanted found c c1 σ σ1 (Err room) → Moves Answers Same wanted old size align c c1 σ σ1 (Err room)
+refused Answers Same wanted found old size align c c1 room unsuited named s = record { steps = s.steps; calls = s.calls; moved = record { unsuited = unsuited; found = found; named = named; serves = s.change; kinds = s.kinds; few = s.few; ends = s.outcome; same_log = s.log_is } }
 
 full_log : (n : ℕ) → n ≡ 64 → nat_le 64 n ≡ true
 full_log n e = le-leb 64 n (omega (arith, e))
@@ -64,8 +58,8 @@ pub no_fault : (f : Profile) (name : Name) (fault : FreeFault) → IsInRegion f 
 no_fault f name Outside region fault = fault region.page
 no_fault f name Unaligned region fault = fault.1 region.aligned
 
-pub replaced : {σ σ1 σ2 : Standing} (Answers : Option ℕ → Type 0) (Same : Type 0) (cost : ℕ) (wanted : Wanted) (found : Option ℕ) (old : Block) (size align : ℕ) (c c1 c2 : Cached) (block : Block) → (Suits old size align → ⊥) → IsNamed wanted.route Answers Same found → (s : Serves cost wanted found c c1 σ σ1 (Ok block)) → Frees (entry_of old.name) c1 c2 σ1 σ2 (Ok tt) → Moves Answers Same wanted old size align c c2 σ σ2 (Ok (New block))
-replaced {σ} {σ1} {σ2} Answers Same cost wanted found old size align c c1 c2 block unsuited named s free =
+pub replaced : {σ σ1 σ2 : Standing} (Answers : Option ℕ → Type 0) (Same : Type 0) (wanted : Wanted) (found : Option ℕ) (old : Block) (size align : ℕ) (c c1 c2 : Cached) (block : Block) → suits old size align ≡ false → IsNamed wanted.route Answers Same found → (s : Serves (cost_of_size size) wanted found c c1 σ σ1 (Ok block)) → Frees (entry_of old.name) c1 c2 σ1 σ2 (Ok tt) → Moves Answers Same wanted old size align c c2 σ σ2 (Ok (New block))
+replaced {σ} {σ1} {σ2} Answers Same wanted found old size align c c1 c2 block unsuited named s free =
     let f = σ.seat.profile in
     let takes = subst (λ (t : Seat). TakesEntry t.profile t.actor c1 c2 (entry_of old.name) free.steps) s.calls.adds.seat_is free.outcome in
     record {
@@ -81,6 +75,7 @@ replaced {σ} {σ1} {σ2} Answers Same cost wanted found old size align c c1 c2 
         named = named;
         serves = s.change;
         kinds = s.kinds;
+        few = s.few;
         block_for = s.outcome;
         same_log = s.log_is;
         logs = takes;

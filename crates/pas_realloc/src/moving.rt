@@ -1,13 +1,13 @@
 //! A block gets another size.
-ghost use Rattle.std.specs.Prelude.{◌≡◌, ◌<◌, ◌+◌, ◌-◌, ◌/◌, ◌^◌, ◌%◌, true, max, nat_le, ◌&&◌, ◌==◌};
+ghost use Rattle.std.specs.Prelude.{◌≡◌, ◌<◌, ◌+◌, ◌-◌, ◌/◌, ◌^◌};
 ghost use Rattle.pas_profile.specs.Profiles.{IsAdmitted};
-ghost use Rattle.pas_profile.specs.Blocks.{address_of};
 ghost use Rattle.pas_trace.specs.Reasons.{cost_of_size};
 ghost use Rattle.pas_steps.specs.Desks.{CanCall};
 ghost use Rattle.pas_cache.specs.Caches.{cached};
 ghost use Rattle.pas_cache.specs.Names.{IsInRegion};
 ghost use Rattle.pas_cache.specs.Serves.{wanted_for};
-ghost use Rattle.pas_realloc.specs.Moves.{MayMove, Moves};
+ghost use Rattle.pas_answers.specs.Answers.{suits as is_suited};
+ghost use Rattle.pas_answers.specs.Moves.{MayMove, Moves};
 
 use pas_cache::{Moved, ThreadCache};
 use pas_large::Door;
@@ -17,7 +17,7 @@ use pas_steps::Desk;
 /// Whether the block suits a request for so many bytes, where none count as one, at a multiple of the alignment.
 fn suits(old: Block, size: u32, align: u32) -> bool
     requires align { 0 < align }
-    ensures { result ≡ (nat_le (max size 1) old.room && (address_of old.name % align == 0)) }
+    ensures { result ≡ is_suited old size align }
 {
     size.max(1) <= old.room && old.name.address.0 % align == 0
 }

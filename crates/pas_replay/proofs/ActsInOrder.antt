@@ -46,7 +46,7 @@ after_mark {r} {more} {act} {T} {h} out' mark (taken, (p, at)) advances free non
           stands = at.stands;
           each = λ k le. still_stands p.caches (act ∷ more) more (free_act r.profile act more free k (λ scavenger. none)) (at.each k le);
           nobody = at.nobody;
-          names = record { asked = names.asked; fit = fit (names_held h.table) names.asked names.fit; tells = names.tells; turns = names.turns; known = names.known };
+          names = record { asked = names.asked; fit = fit (names_held h.table) names.asked names.fit; tells = names.tells; stand = names.stand; known = names.known };
           caches_are = at.caches_are;
           records_are = pushed ∙ ap (λ (rs : List Record). rs ++ mark ∷ []) at.records_are;
           spare = omega (arith, long, spare, room, one);

@@ -1,8 +1,9 @@
 -- What each actor's turn needs and leaves: instances of the turn.
-use Rattle.std.proofs.Common.{◌≡◌, ◌≢◌, ℕ, ◌-◌, ◌≤◌, ◌==◌, Bool, if◌then◌else◌, List, [], ◌∷◌, ◌++◌, length, set, get_or, Option, refl, ap, sym, ◌∙◌, subst, arith}
+use Rattle.std.proofs.Common.{◌≡◌, ◌≢◌, ℕ, ◌-◌, ◌≤◌, ◌==◌, Bool, true, false, if◌then◌else◌, List, [], ◌∷◌, ◌++◌, length, set, get_or, Option, refl, ap, sym, ◌∙◌, subst, arith}
 use Rattle.std.proofs.lemmas.Bool.{eq-eqb, ne_eqb}
 use Rattle.std.proofs.lemmas.List.{append-nil}
-use Rattle.pas_profile.specs.declared.name.Name.{Name}
+use Rattle.pas_profile.specs.declared.name.Block.{Block}
+use Rattle.pas_profile.specs.declared.profile.Profile.{Profile}
 use Rattle.pas_trace.specs.Asked.{work_of}
 use Rattle.pas_trace.specs.EveryPlan.{asked_after}
 use Rattle.pas_trace.specs.declared.plan.Op.{Op}
@@ -17,11 +18,11 @@ use Rattle.pas_cache.specs.Caches.{cached}
 use Rattle.pas_cache.specs.declared.cache.ThreadCache.{ThreadCache}
 use Rattle.pas_trace.specs.Acts.{Act, acts_of_op, acts_of_work, acts_of_chore, Operates, Settles}
 use Rattle.pas_answers.specs.Answers.{Named, Progress}
-use Rattle.pas_answers.specs.Calls.{Tells, HasTurns, HasTurn, IsMeant, named_by, freed_by}
+use Rattle.pas_answers.specs.Calls.{Tells, AllMayStand, MayStand, IsMeant, named_by, freed_by}
 use Rattle.pas_answers.specs.Fit.{AreFit, cost_of_what, cost_of_act, own_cost_of_act, unbacks_of_act}
 use Rattle.pas_answers.specs.Names.{block_named, names_held}
 use Rattle.pas_answers.specs.declared.names.Names.{Names}
-use Rattle.pas_answers.proofs.Kept.{meant_by, turn_meant}
+use Rattle.pas_answers.proofs.Kept.{meant_by, meant_stands}
 use Rattle.pas_answers.proofs.KnownNames.{known_more}
 use Rattle.pas_answers.proofs.SingleActs.{if_same, known_if}
 use Rattle.pas_acts.specs.Turns.{RestsAt}
@@ -46,10 +47,15 @@ pub act_turn : {r : Replay} {more : List Act} {act : Act} {desk desk1 desk2 : Pl
 act_turn {r} {more} {act} {caches = caches} {indexes = indexes} {table = table} {p = p} k there cache some within free none fit asks seat is at did few added room =
     let names = at.names in
     thread_turn k cache some within seat (there_is p.caches caches k there some within at.caches_are is) (omega (arith, none)) (λ j ne. let own = free j in omega (arith, own)) at did ((asks indexes p).1 did.reaches.0 did.reaches.1, tt) (sym (asks indexes p).0)
-    (subst (λ (ns : List Named). HasNames r.profile more table ns) (sym did.names) record { asked = names.asked; fit = fit (names_held table) names.asked names.fit; tells = names.tells; turns = names.turns; known = names.known }) at.operate.1 few added room
+    (subst (λ (ns : List Named). HasNames r.profile more table ns) (sym did.names) record { asked = names.asked; fit = fit (names_held table) names.asked names.fit; tells = names.tells; stand = names.stand; known = names.known }) at.operate.1 few added room
+
+-- what a name stands for once another or itself was set
+pub set_stands : (f : Profile) (t : Bool) (came old new : Option Block) → new ≡ (if t then came else old) → MayStand f came → MayStand f old → MayStand f new
+set_stands f true came old new is now before = subst (MayStand f) (sym is) now
+set_stands f false came old new is now before = subst (MayStand f) (sym is) before
 
 -- ---- an operation of thread k, which asks for `what`
-pub may_operate : {r : Replay} {more : List Act} {op : Op} {what : What} {desk desk1 : PlainDesk} {passes passes1 : Slots} {caches : List ThreadCache} {places : ℕ} {indexes : Indexes} {table : Names} {out : Records} {p : Progress} {meant : Option Name} (k : ℕ) (there : ThreadCache) → op.actor ≡ k → op.what ≡ what → 1 ≤ k → k ≤ length caches
+pub may_operate : {r : Replay} {more : List Act} {op : Op} {what : What} {desk desk1 : PlainDesk} {passes passes1 : Slots} {caches : List ThreadCache} {places : ℕ} {indexes : Indexes} {table : Names} {out : Records} {p : Progress} {meant : Option Block} (k : ℕ) (there : ThreadCache) → op.actor ≡ k → op.what ≡ what → 1 ≤ k → k ≤ length caches
     → TakesSeat desk desk1 passes passes1 k → there ≡ get_or caches (k - 1) there → meant ≡ freed_by (block_named table) what → IsAt r (Operates op ∷ (Settles op.actor ∷ more)) (hand desk passes caches places indexes table out) p
     → MayOperate r.profile op.actor op.what meant (here (standing_of desk1) (cached there) out) (later_for r op.actor p more 0) p
 may_operate {r} {more} {op} {desk1 = desk1} {caches = caches} {table = table} {out} {p} k there mine asks some within seat is means at =
@@ -62,18 +68,18 @@ may_operate {r} {more} {op} {desk1 = desk1} {caches = caches} {table = table} {o
       asked = at.names.asked;
       fit = at.names.fit.1;
       known = known_if r.profile (names_held table) at.names.asked p.names op.what at.names.fit.1 at.names.known;
-      means = subst (λ (o : Option Name). IsMeant p.names op.what o) (sym meaning) (meant_by (block_named table) p.names op.what at.names.tells);
-      turn = subst HasTurn (sym meaning) (turn_meant (block_named table) op.what at.names.turns);
+      means = subst (λ (o : Option Block). IsMeant p.names op.what o) (sym meaning) (meant_by (block_named table) p.names op.what at.names.tells);
+      stands = subst (MayStand r.profile) (sym meaning) (meant_stands r.profile (block_named table) op.what at.names.stand);
     }
 
 other_cost : (op : Op) (k j : ℕ) → op.actor ≡ k → j ≢ k → (if op.actor == j then cost_of_what op.what else 0) ≡ 0
 other_cost op k j mine ne = ap (λ (t : Bool). if t then cost_of_what op.what else 0) (ne_eqb op.actor j (λ e. ne (sym e ∙ mine)))
 
-pub operate_turn : {r : Replay} {more : List Act} {op : Op} {what : What} {desk desk1 desk2 : PlainDesk} {passes passes1 : Slots} {caches : List ThreadCache} {places : ℕ} {indexes indexes' : Indexes} {table table' : Names} {out out' : Records} {p : Progress} (k : ℕ) (came : Option Name) (there cache : ThreadCache)
+pub operate_turn : {r : Replay} {more : List Act} {op : Op} {what : What} {desk desk1 desk2 : PlainDesk} {passes passes1 : Slots} {caches : List ThreadCache} {places : ℕ} {indexes indexes' : Indexes} {table table' : Names} {out out' : Records} {p : Progress} (k : ℕ) (came : Option Block) (there cache : ThreadCache)
     → op.actor ≡ k → op.what ≡ what → 1 ≤ k → k ≤ length caches → TakesSeat desk desk1 passes passes1 k → there ≡ get_or caches (k - 1) there → IsAt r (Operates op ∷ (Settles op.actor ∷ more)) (hand desk passes caches places indexes table out) p
     → ActsByIndexes r.profile op.actor op indexes indexes' (named_by op.what came) (here (standing_of desk1) (cached there) out) (here (standing_of desk2) (cached cache) out') (later_for r op.actor p more 0) p
-    → names_held table' ≡ names_held table → Tells table' (named_by what came ++ p.names) → HasTurns table' → IsTaken desk2 passes1 × SoFar r more (hand desk2 passes1 (set caches (k - 1) cache) places indexes' table' out')
-operate_turn {r} {more} {op} {desk1 = desk1} {desk2} {caches = caches} {indexes = indexes} {indexes'} {table = table} {table'} {out} {out'} {p} k came there cache mine asks some within seat is at acted held tells turns =
+    → names_held table' ≡ names_held table → Tells table' (named_by what came ++ p.names) → AllMayStand r.profile table' → IsTaken desk2 passes1 × SoFar r more (hand desk2 passes1 (set caches (k - 1) cache) places indexes' table' out')
+operate_turn {r} {more} {op} {desk1 = desk1} {desk2} {caches = caches} {indexes = indexes} {indexes'} {table = table} {table'} {out} {out'} {p} k came there cache mine asks some within seat is at acted held tells stand =
     let names = at.names in
     let all = subst (λ (j : ℕ). ActsByIndexes r.profile j op indexes indexes' (named_by op.what came) (here (standing_of desk1) (cached there) out) (here (standing_of desk2) (cached cache) out') (later_for r j p more 0) p) mine acted in
     let did = all.did in
@@ -82,7 +88,7 @@ operate_turn {r} {more} {op} {desk1 = desk1} {desk2} {caches = caches} {indexes 
       asked = asked_after op.what names.asked;
       fit = subst (λ (limit : ℕ). AreFit r.profile limit (asked_after op.what names.asked) more) (sym held) names.fit.2;
       tells = subst (λ (w : What). Tells table' (named_by w came ++ p.names)) (sym asks) tells;
-      turns = turns;
+      stand = stand;
       known = known_more op.what came names.asked p.names names.known;
     })
     at.operate.1.1 (omega arith) (sym (append-nil (records_in out'))) refl in

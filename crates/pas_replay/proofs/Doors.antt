@@ -1,5 +1,5 @@
 -- What a door to plain indexes tells, as the definition of a replay says it.
-use Rattle.std.proofs.Common.{◌≡◌, ℕ, List, [], ◌∷◌, ◌++◌, length, drop, take, Option, ap, sym, ◌∙◌, subst, refl}
+use Rattle.std.proofs.Common.{◌≡◌, ℕ, List, [], ◌∷◌, ◌++◌, length, drop, take, Option, Some, None, ap, sym, ◌∙◌, subst, refl}
 use Rattle.std.proofs.lemmas.List.{length-set, take_at}
 use Rattle.pas_large_index.specs.Spans.{span_of, cut_lowest, added}
 use Rattle.pas_profile.specs.Requests.{route_in}
@@ -8,16 +8,15 @@ use Rattle.pas_profile.specs.declared.event.Range.{Range}
 use Rattle.pas_profile.specs.declared.profile.Profile.{Profile}
 use Rattle.pas_free_log.specs.declared.noting.EndedRun.{EndedRun}
 use Rattle.pas_large.specs.Doors.{Indexes, ranges_of, found_in, cut_in, added_in}
-use Rattle.pas_trace.specs.declared.plan.What.{What}
-use Rattle.pas_trace.specs.declared.plan.What.TheVariants.{Alloc}
+use Rattle.pas_trace.specs.declared.item.Request.{Request}
 use Rattle.pas_cache.specs.Calls.{IsNamed, SettlesEach}
-use Rattle.pas_cache.specs.Serves.{wanted_for, pages_of}
+use Rattle.pas_cache.specs.Serves.{pages_of}
 use Rattle.pas_trace.specs.Acts.{Operates, Settles}
 use Rattle.pas_trace.specs.declared.plan.Op.{Op}
 use Rattle.pas_acts.specs.Works.{Later}
-use Rattle.pas_answers.specs.Answers.{Named, Progress}
+use Rattle.pas_answers.specs.Answers.{Named, wanted_by, Progress}
 use Rattle.pas_answers.specs.Reaching.{Reaches}
-use Rattle.pas_answers.specs.Indexes.{IsNamedFor, IsNamedBy, AllAreNamedBy, after_request, after_operation, with_noted, indexes_after_all}
+use Rattle.pas_answers.specs.Indexes.{request_by, IsNamedFor, IsNamedBy, AllAreNamedBy, after_request, after_operation, with_noted, indexes_after_all}
 use Rattle.pas_acts.specs.AtDesks.{Here, GoesThrough}
 use Rattle.pas_replay.specs.Operating.{ActsByIndexes}
 
@@ -30,10 +29,10 @@ module _ {Door : Type 0} (Kept : Door → Door → Type 0) (held : Door → Inde
   HandsOn before after heap range = Kept before after × (held after ≡ added_in (held before) heap range)
 
   -- what it came to
-  record Asked (f : Profile) (what : What) (found : Option ℕ) (before after : Door) : Type 0 where
+  record Asked (f : Profile) (request : Option Request) (found : Option ℕ) (before after : Door) : Type 0 where
     pub kept : Kept before after
-    pub named : IsNamedBy f (held before) what found
-    pub left : held after ≡ after_operation f what (held before)
+    pub named : IsNamedBy f (held before) request found
+    pub left : held after ≡ after_operation f request (held before)
 
   module _ (still : (d : Door) → Kept d d) where
     kept_same : (before after : Door) → after ≡ before → Kept before after
@@ -45,11 +44,11 @@ module _ {Door : Type 0} (Kept : Door → Door → Type 0) (held : Door → Inde
     asked_on Route.Bitfit heap n found before after named = (kept_same before after named.1, (named.0, tt), ap held named.1)
     asked_on Route.Large heap n found before after named = (named.0, named.1, named.2)
 
-    asked_for : (f : Profile) (what : What) (found : Option ℕ) (before after : Door) → IsNamedFor f (Answers before after) (after ≡ before) what found → Asked f what found before after
-    asked_for f (Alloc name heap size align) found before after named =
-        let came = asked_on (route_in f size align) heap (pages_of (wanted_for f heap size align)) found before after named in
+    asked_for : (f : Profile) (request : Option Request) (found : Option ℕ) (before after : Door) → IsNamedFor f (Answers before after) (after ≡ before) request found → Asked f request found before after
+    asked_for f None found before after same = record { kept = kept_same before after same; named = tt; left = ap held same }
+    asked_for f (Some r) found before after named =
+        let came = asked_on (route_in f r.size r.align) r.heap (pages_of (wanted_by f r)) found before after named in
         record { kept = came.0; named = came.1; left = came.2 }
-    asked_for f what found before after same = record { kept = kept_same before after same; named = tt; left = ap held same }
 
     handed : (together : (a b c : Door) → Kept a b → Kept b c → Kept a c) (runs : List EndedRun) (before after : Door) → SettlesEach HandsOn runs before after → Kept before after × (held after ≡ with_noted (held before) runs)
     handed together [] before after same = (kept_same before after same, ap held same)
@@ -61,26 +60,26 @@ module _ {Door : Type 0} (Kept : Door → Door → Type 0) (held : Door → Inde
     pub went_through : (together : (a b c : Door) → Kept a b → Kept b c → Kept a c) (f : Profile) (op : Op) (p q : Progress) (is : Reaches f (Operates op ∷ (Settles op.actor ∷ [])) p q) (before after : Door) → GoesThrough Answers HandsOn f op p q is before after
         → AllAreNamedBy f (held before) (Operates op ∷ (Settles op.actor ∷ [])) p q is × Kept before after × (held after ≡ indexes_after_all f (Operates op ∷ (Settles op.actor ∷ [])) p q is (held before))
     went_through together f op p q is before after (next, named, settled) =
-        let asked = asked_for f op.what is.1.0.found before next named in
+        let asked = asked_for f (request_by p.names op.what) is.1.0.found before next named in
         let later = handed together (is.0.caches op.actor).noted next after settled in
         ((asked.named, (tt, tt)), together before next after asked.kept later.0, later.1 ∙ ap (λ ix. with_noted ix (is.0.caches op.actor).noted) asked.left)
 
 -- ---- how many indexes there are
-after_many : (f : Profile) (what : What) (indexes : Indexes) → length (after_operation f what indexes) ≡ length indexes
-after_many f (Alloc name heap size align) indexes = request_many (route_in f size align) heap (pages_of (wanted_for f heap size align)) indexes
-  where
-    request_many : (route : Route) (heap n : ℕ) (indexes : Indexes) → length (after_request route heap n indexes) ≡ length indexes
-    request_many (Route.Class class) heap n indexes = refl
-    request_many Route.Bitfit heap n indexes = refl
-    request_many Route.Large heap n indexes = length-set indexes heap (cut_lowest n (ranges_of indexes heap))
-after_many f what indexes = refl
+request_many : (route : Route) (heap n : ℕ) (indexes : Indexes) → length (after_request route heap n indexes) ≡ length indexes
+request_many (Route.Class class) heap n indexes = refl
+request_many Route.Bitfit heap n indexes = refl
+request_many Route.Large heap n indexes = length-set indexes heap (cut_lowest n (ranges_of indexes heap))
+
+after_many : (f : Profile) (request : Option Request) (indexes : Indexes) → length (after_operation f request indexes) ≡ length indexes
+after_many f None indexes = refl
+after_many f (Some r) indexes = request_many (route_in f r.size r.align) r.heap (pages_of (wanted_by f r)) indexes
 
 noted_many : (runs : List EndedRun) (indexes : Indexes) → length (with_noted indexes runs) ≡ length indexes
 noted_many [] indexes = refl
 noted_many (run ∷ runs) indexes = noted_many runs (added_in indexes run.heap run.range) ∙ length-set indexes run.heap (added (span_of run.range) (ranges_of indexes run.heap))
 
 pub operated_many : (f : Profile) (op : Op) (p q : Progress) (is : Reaches f (Operates op ∷ (Settles op.actor ∷ [])) p q) (indexes : Indexes) → length (indexes_after_all f (Operates op ∷ (Settles op.actor ∷ [])) p q is indexes) ≡ length indexes
-operated_many f op p q is indexes = noted_many (is.0.caches op.actor).noted (after_operation f op.what indexes) ∙ after_many f op.what indexes
+operated_many f op p q is indexes = noted_many (is.0.caches op.actor).noted (after_operation f (request_by p.names op.what) indexes) ∙ after_many f (request_by p.names op.what) indexes
 
 -- a vector whose elements were all written back has what the indexes hold then
 pub written_back : {f : Profile} {k : ℕ} {op : Op} {indexes indexes' : Indexes} {came : List Named} {old new : Here} {later : Later} {p : Progress} (items : Indexes) (many : ℕ) → indexes ≡ items → length indexes ≡ many → ActsByIndexes f k op indexes indexes' came old new later p

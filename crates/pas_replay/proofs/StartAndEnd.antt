@@ -81,7 +81,7 @@ start {text} {plan} {kit} {out} read made empty room =
           asked = [];
           fit = plan_fit read (names_held kit.names) made.names;
           tells = made.no_name;
-          turns = λ n block is. absurd (let bad : None ≡ Some block = sym (made.no_name n) ∙ is in cc);
+          stand = λ n block is. absurd (let bad : None ≡ Some block = sym (made.no_name n) ∙ is in cc);
           known = λ n is. absurd (let bad : false ≡ true = is in cc);
         };
         caches_are = λ i d lt. let many = made.unused.many in sym (made.unused.each i d (omega (arith, lt, many)));

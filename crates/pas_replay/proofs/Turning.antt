@@ -286,7 +286,7 @@ scavenger_turn {r} {more} {act} {desk0} {desk} {desk'} {passes0} {passes} {cache
       many = at.many;
       operate = at.operate.1;
       room = same ∙ at.places;
-      names = subst (λ (ns : List Named). HasNames f more table ns) (sym did.names) record { asked = names.asked; fit = fit (names_held table) names.asked names.fit; tells = names.tells; turns = names.turns; known = names.known };
+      names = subst (λ (ns : List Named). HasNames f more table ns) (sym did.names) record { asked = names.asked; fit = fit (names_held table) names.asked names.fit; tells = names.tells; stand = names.stand; known = names.known };
       caches_are = subst (λ (cs : Caches). AreCaches cs caches) (sym did.caches) at.caches_are;
       records_are = did.says.pushed ∙ ap (λ (rs : List Record). rs ++ did.says.said) at.records_are ∙ sym did.says.records_are;
       spare = omega (arith, owed, spare);

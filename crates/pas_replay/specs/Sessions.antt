@@ -18,7 +18,7 @@ use Rattle.pas_utility.specs.Outcomes.{places_of}
 use Rattle.pas_trace.specs.Acts.{Act, acts_of}
 use Rattle.pas_trace.specs.declared.plan.Op.{Op}
 use Rattle.pas_answers.specs.Answers.{Progress, Named, Caches}
-use Rattle.pas_answers.specs.Calls.{Tells, HasTurns, AreKnown, owed_events}
+use Rattle.pas_answers.specs.Calls.{Tells, AllMayStand, AreKnown, owed_events}
 use Rattle.pas_answers.specs.Fit.{AreFit, AreOfThreads, costs_of, own_costs_of, unbacks_of}
 use Rattle.pas_answers.specs.Names.{names_held}
 use Rattle.pas_large.specs.Doors.{Indexes, no_ranges}
@@ -150,7 +150,7 @@ pub record HasNames (f : Profile) (acts : List Act) (table : Names) (names : Lis
   pub asked : List ℕ
   pub fit : AreFit f (names_held table) asked acts
   pub tells : Tells table names
-  pub turns : HasTurns table
+  pub stand : AllMayStand f table
   pub known : AreKnown asked names
 
 -- These acts of the replay are left, and it came as far as p: wherever they take it from here, with the runs that the indexes name, all of its acts take it

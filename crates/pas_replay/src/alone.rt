@@ -10,6 +10,7 @@ ghost use Rattle.pas_replay.specs.OneThread.{IsOfOneThread};
 
 use crate::kit::{PlainKit, in_order};
 use pas_acts::at_desk::SCAVENGER;
+use pas_answers::Remake;
 use pas_report::Records;
 use pas_steps::State;
 use pas_trace::Plan;
@@ -25,7 +26,7 @@ pub fn is_of_one_thread(plan: &Plan) -> bool
 
 /// Replays a plan of one thread in the order of the text. All that is said of a replay on threads holds of it: where one actor works there is
 /// one order of the steps, and one of the records. Takes no memory, starts no thread, and makes no atomic exchange.
-pub fn by_one_thread(plan: &Plan, kit: PlainKit, out: &mut Records) -> State
+pub fn by_one_thread<M: Remake>(plan: &Plan, kit: PlainKit, remake: &M, out: &mut Records) -> State
     requires plan { (text : List ℕ) × (length text ≤ 16777216) × IsPlanOf text plan.now }
     requires alone { IsOfOneThread plan.now }
     requires kit { IsKitOf plan.now kit }
@@ -33,5 +34,5 @@ pub fn by_one_thread(plan: &Plan, kit: PlainKit, out: &mut Records) -> State
     requires room { plan.now.total + length (phases_of plan.now) + 1 ≤ room_of out.old }
     ensures { Shows OnThreads plan.now (records_in out.new) result }
 {
-    in_order(plan, kit, out)
+    in_order(plan, kit, remake, out)
 }

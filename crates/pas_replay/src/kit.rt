@@ -10,6 +10,7 @@ ghost use Rattle.pas_replay.specs.Kits.{IsKitOf};
 
 use crate::order::replay;
 use crate::seats::Actors;
+use pas_answers::Remake;
 use pas_answers::names::Names;
 use pas_large_index::LargeIndex;
 use pas_plain::{PlainPass, PlainRegion, close};
@@ -94,7 +95,7 @@ impl PlainKit {
 /// Replays the plan in the order of the text, and says what was done. The state of the region at the end, at which no actor holds a grain, has
 /// a right or owes anything. A request is refused only where nothing could serve it then. One for whole pages asks the index of its heap, which names the
 /// first pages of its lowest range that is long enough: these serve exactly where each is one of the heap's large pages, offered and free. Takes no memory.
-pub fn in_order(plan: &Plan, kit: PlainKit, out: &mut Records) -> State
+pub fn in_order<M: Remake>(plan: &Plan, kit: PlainKit, remake: &M, out: &mut Records) -> State
     requires plan { (text : List ℕ) × (length text ≤ 16777216) × IsPlanOf text plan.now }
     requires kit { IsKitOf plan.now kit }
     requires empty { records_in out.old ≡ [] }
@@ -107,6 +108,13 @@ pub fn in_order(plan: &Plan, kit: PlainKit, out: &mut Records) -> State
         mut names,
         passes,
     } = kit;
-    let region = replay(region, &mut actors, &mut names, plan.phases.as_slice(), out);
+    let region = replay(
+        region,
+        &mut actors,
+        &mut names,
+        remake,
+        plan.phases.as_slice(),
+        out,
+    );
     close(region, passes)
 }

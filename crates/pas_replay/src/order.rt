@@ -9,6 +9,7 @@ ghost use Rattle.pas_answers.specs.declared.names.Names.{Names as TheNames};
 
 use crate::seats::{Actors, end, operate, pass, read_epoch, rise, sit, stop_if_idle, tick, wake};
 use pas_acts::at_desk::SCAVENGER;
+use pas_answers::Remake;
 use pas_answers::names::Names;
 use pas_bits::Mask4;
 use pas_plain::{PlainDesk, PlainRegion};
@@ -60,10 +61,11 @@ fn stop_idle(
 
 /// Performs an operation, in a phase in which these threads have one.
 #[inline(always)]
-fn perform(
+fn perform<M: Remake>(
     desk: &mut PlainDesk,
     actors: &mut Actors,
     names: &mut Names,
+    remaker: &M,
     awake: Mask4,
     op: Op,
     out: &mut Records,
@@ -74,7 +76,7 @@ fn perform(
     ensures so_far { GoesOn (λ n. acts_of_op (idle_in awake n) op) (session desk.old actors.old names.old out.old) (session desk.new actors.new names.new out.new) }
 {
     match op.work() {
-        Work::Own(task) => operate(desk, actors, names, op.actor, task, out),
+        Work::Own(task) => operate(desk, actors, names, remaker, op.actor, task, out),
         Work::Chore(Chore::Tick(epoch)) => tick(desk, actors, epoch, out),
         Work::Chore(Chore::Pass) => pass(desk, actors, out),
         Work::Chore(Chore::Idle(epochs)) => stop_idle(desk, actors, awake, epochs, out),
@@ -82,10 +84,11 @@ fn perform(
 }
 
 /// Performs the operations of a phase in order.
-fn perform_all(
+fn perform_all<M: Remake>(
     desk: &mut PlainDesk,
     actors: &mut Actors,
     names: &mut Names,
+    remaker: &M,
     awake: Mask4,
     ops: &[Op],
     out: &mut Records,
@@ -96,7 +99,7 @@ fn perform_all(
     ensures so_far { GoesOn (λ n. acts_of_ops (idle_in awake n) ops.now) (session desk.old actors.old names.old out.old) (session desk.new actors.new names.new out.new) }
 {
     for op in ops {
-        perform(desk, actors, names, awake, *op, out);
+        perform(desk, actors, names, remaker, awake, *op, out);
     }
 }
 
@@ -115,10 +118,11 @@ fn stop_all(desk: &mut PlainDesk, actors: &mut Actors, out: &mut Records)
 
 /// Performs the phases in order, with a mark before each from the second on, and closes: a mark, and the stop of each thread. The region stays
 /// at one desk, at which the actors take turns.
-pub(crate) fn replay(
+pub(crate) fn replay<M: Remake>(
     region: PlainRegion,
     actors: &mut Actors,
     names: &mut Names,
+    remaker: &M,
     phases: &[Phase],
     out: &mut Records,
 ) -> PlainRegion
@@ -137,7 +141,15 @@ pub(crate) fn replay(
         }
         let awake = active(phase.as_slice());
         wake_all(&mut desk, actors, awake);
-        perform_all(&mut desk, actors, names, awake, phase.as_slice(), out);
+        perform_all(
+            &mut desk,
+            actors,
+            names,
+            remaker,
+            awake,
+            phase.as_slice(),
+            out,
+        );
     }
     out.push(Record::Close);
     stop_all(&mut desk, actors, out);

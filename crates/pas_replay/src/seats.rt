@@ -1,17 +1,18 @@
 //! The actors' places at the region. One sits at the desk at a time.
-ghost use Rattle.std.specs.Prelude.{◌≡◌, ◌≢◌, ◌<◌, ◌-◌, ◌≤◌, ◌++◌, ℕ, List, [], ◌∷◌, length, slice_set};
+ghost use Rattle.std.specs.Prelude.{◌≡◌, ◌≢◌, ◌<◌, ◌-◌, ◌≤◌, ◌++◌, ℕ, List, [], ◌∷◌, length, option_and_then, slice_set};
 ghost use Rattle.pas_profile.specs.declared.profile.Profile.{Profile as TheProfile};
 ghost use Rattle.pas_plain.specs.Plain.{actor_of};
 ghost use Rattle.pas_plain.specs.Seats.{pass_of, standing_of};
 ghost use Rattle.pas_cache.specs.Caches.{cached};
 ghost use Rattle.pas_cache.specs.declared.cache.ThreadCache.{ThreadCache as TheCache};
 ghost use Rattle.pas_report.specs.Rooms.{Records as TheRecords};
+ghost use Rattle.pas_trace.specs.Asked.{request_of, freed_of};
 ghost use Rattle.pas_trace.specs.Acts.{Act, Operates, Settles, Ticks, MakesPass, ReadsEpoch, StopsIdle, Wakes, Ends};
 ghost use Rattle.pas_answers.specs.Answers.{Named, Progress};
 ghost use Rattle.pas_acts.specs.Works.{Later};
 ghost use Rattle.pas_acts.specs.AtDesks.{here, MayOperate};
 ghost use Rattle.pas_replay.specs.Operating.{ActsByIndexes};
-ghost use Rattle.pas_answers.specs.Calls.{what_of, Tells, HasTurn, HasTurns, freed_by, named_by};
+ghost use Rattle.pas_answers.specs.Calls.{what_of, Tells, MayStand, AllMayStand, named_with, named_by};
 ghost use Rattle.pas_trace.specs.declared.plan.Op.{Op as TheOp};
 ghost use Rattle.pas_answers.specs.Fit.{IsFitWhat};
 ghost use Rattle.pas_answers.specs.Names.{block_named, names_held};
@@ -20,12 +21,13 @@ ghost use Rattle.pas_replay.specs.Sessions.{Replay, pass_in, hand_of, hand_at, s
 
 use pas_acts::at_desk::SCAVENGER;
 use pas_acts::{at_desk, turns};
+use pas_answers::Remake;
 use pas_answers::names::Names;
 use pas_cache::ThreadCache;
 use pas_large::PlainDoor;
 use pas_large_index::LargeIndex;
 use pas_plain::{PlainDesk, PlainPass, PlainRegion};
-use pas_profile::Name;
+use pas_profile::Block;
 use pas_report::{Record, Records, Said};
 use pas_steps::Desk;
 use pas_trace::Task;
@@ -96,27 +98,29 @@ fn change_seats(desk: &mut PlainDesk, passes: &mut Vec<Option<PlainPass>>, actor
     passes[place] = Some(risen);
 }
 
-/// What the name that the task frees stands for.
+/// What the name that the task frees or reallocates stands for.
 #[inline(always)]
-fn freed(names: &Names, task: Task) -> Option<Name>
-    ensures { result ≡ freed_by (block_named names.now) (what_of task) }
+fn freed(names: &Names, task: Task) -> Option<Block>
+    ensures { result ≡ option_and_then (block_named names.now) (freed_of task) }
 {
     match task {
-        Task::Free { name } => names.get(name),
+        Task::Free { name, .. } => names.get(name),
+        Task::Remake { old, .. } => names.get(old),
         _ => None,
     }
 }
 
 /// Keeps what the name that the task asked for came to.
 #[inline(always)]
-fn keep(names: &mut Names, task: Task, came: Option<Name>)
+fn keep(names: &mut Names, task: Task, came: Option<Block>)
     requires fit { (f : TheProfile) × (asked : List ℕ) × IsFitWhat f (names_held names.old) asked (what_of task) }
-    ensures tells { (known : List Named) → Tells names.old known → Tells names.new (named_by (what_of task) came ++ known) }
-    ensures turns { HasTurns names.old → HasTurn came → HasTurns names.new }
+    ensures tells { (known : List Named) → Tells names.old known → Tells names.new (named_with (request_of task) came ++ known) }
+    ensures stand { (f : TheProfile) → AllMayStand f names.old → MayStand f came → AllMayStand f names.new }
     ensures held { names_held names.new ≡ names_held names.old }
 {
     match task {
         Task::Request { name, .. } => names.set(name, came),
+        Task::Remake { name, .. } => names.set(name, came),
         _ => {}
     }
 }
@@ -135,30 +139,32 @@ pub(crate) fn wake(desk: &mut PlainDesk, actors: &mut Actors, actor: u8)
 }
 
 /// The desk's thread does the task, with the indexes as its door. This answers each operation of the thread that asks for the task.
-fn operate_by(
+fn operate_by<M: Remake>(
     desk: &mut PlainDesk,
     indexes: &mut [LargeIndex],
     cache: &mut ThreadCache,
+    remaker: &M,
     task: Task,
-    meant: Option<Name>,
+    meant: Option<Block>,
     out: &mut Records,
-) -> Option<Name>
+) -> Option<Block>
     requires stands { (f : TheProfile) × (op : TheOp) × (later : Later) × (p : Progress) × (op.what ≡ what_of task) × MayOperate f op.actor op.what meant (here (standing_of desk.old) (cached cache.old) out.old) later p }
     ensures operates { (f : TheProfile) (op : TheOp) (later : Later) (p : Progress) → op.what ≡ what_of task → MayOperate f op.actor op.what meant (here (standing_of desk.old) (cached cache.old) out.old) later p
         → ActsByIndexes f op.actor op indexes.old indexes.new (named_by op.what result) (here (standing_of desk.old) (cached cache.old) out.old) (here (standing_of desk.new) (cached cache.new) out.new) later p }
-    ensures turn { HasTurn result }
+    ensures stands { MayStand (standing_of desk.old).seat.profile result }
 {
     let mut door = PlainDoor::new(indexes);
-    at_desk::operate(desk, &mut door, cache, task, meant, out)
+    at_desk::operate(desk, &mut door, cache, remaker, task, meant, out)
 }
 
 /// The thread of this number does the task, and its events and what is said come to the records. A request for whole pages asks the indexes, and they take
 /// the runs of large blocks that its cache noted. This answers each operation of the thread that asks for the task.
 #[inline(always)]
-pub(crate) fn operate(
+pub(crate) fn operate<M: Remake>(
     desk: &mut PlainDesk,
     actors: &mut Actors,
     names: &mut Names,
+    remaker: &M,
     actor: u8,
     task: Task,
     out: &mut Records,
@@ -173,7 +179,7 @@ pub(crate) fn operate(
     take_seat(desk, &mut actors.passes, actor);
     let cache = &mut actors.caches[actor as usize - 1];
     let meant = freed(names, task);
-    let came = operate_by(desk, &mut actors.indexes, cache, task, meant, out);
+    let came = operate_by(desk, &mut actors.indexes, cache, remaker, task, meant, out);
     keep(names, task, came);
 }
 

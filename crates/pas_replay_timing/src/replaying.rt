@@ -7,6 +7,7 @@ ghost use Rattle.pas_answers.specs.Replays.{phases_of};
 use pas_replay::{PlainKit, in_order, records_for};
 use pas_report::Records;
 use pas_threads::{OpenGate, SharedKit, on_threads};
+use pas_top::Reallocation;
 use pas_trace::{Plan, read_trace};
 use std::alloc::Global;
 use std::io;
@@ -43,7 +44,7 @@ fn time_in_order<R: Clock>(
         return Ok(None);
     };
     let start = Instant::now(rt)?;
-    let state = in_order(plan, kit, out);
+    let state = in_order(plan, kit, &Reallocation, out);
     let took = start.elapsed(rt)?;
     drop(state);
     Ok(Some(took))
@@ -64,7 +65,7 @@ fn time_on_threads<R: Clock + Threads + Wait + Sync>(
         return Ok(None);
     };
     let start = Instant::now(rt)?;
-    let state = on_threads(rt, plan, kit, &OpenGate, out);
+    let state = on_threads(rt, plan, kit, &OpenGate, &Reallocation, out);
     let took = start.elapsed(rt)?;
     drop(state);
     Ok(Some(took))

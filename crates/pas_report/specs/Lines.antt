@@ -84,6 +84,9 @@ young_line k page stamp = decimal k ++ (codes " young page " ++ (decimal page ++
 abbrev pub in_use_line : ℕ → ℕ → ℕ → ℕ → List ℕ
 in_use_line k page word value = decimal k ++ (codes " in-use page " ++ (decimal page ++ (codes " word " ++ (decimal word ++ (codes " value 0x" ++ (hex_digits 16 value ++ codes "\n"))))))
 
+abbrev pub kept_line : ℕ → Name → ℕ → List ℕ
+kept_line k block name = decimal k ++ (codes " kept" ++ (name_text block ++ (codes " name " ++ (decimal name ++ codes "\n"))))
+
 abbrev pub guarded_line : ℕ → ℕ → ℕ → ℕ → List ℕ
 guarded_line k low high name = decimal k ++ (codes " guarded " ++ (decimal low ++ (codes " " ++ (decimal high ++ (codes " name " ++ (decimal name ++ codes "\n"))))))
 
@@ -96,6 +99,7 @@ line_of_answer k (Said.Held page name) = held_line k page name
 line_of_answer k (Said.Outside block) = refused_line k (codes " outside") block
 line_of_answer k (Said.Unaligned block) = refused_line k (codes " unaligned") block
 line_of_answer k (Said.Skipped name) = numbered_line k (codes " skipped name ") name
+line_of_answer k (Said.Kept block name) = kept_line k block name
 line_of_answer k (Said.Tick epoch) = numbered_line k (codes " tick ") epoch
 line_of_answer k (Said.Pass epoch) = numbered_line k (codes " pass ") epoch
 line_of_answer k (Said.Bare page) = numbered_line k (codes " bare page ") page

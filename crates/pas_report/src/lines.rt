@@ -16,6 +16,7 @@ ghost use Rattle.pas_report.specs.Lines.{
   line_of,
   line_of_answer,
   line_of_event,
+  kept_line as kept_text,
   lowered_line as lowered_text,
   numbered_line as numbered_text,
   refused_line as refused_text,
@@ -123,6 +124,7 @@ fn push_said<const C: usize>(text: &mut ArrayString<C>, actor: u8, said: &Said)
         Said::Outside { block } => push_refused(text, actor, " outside", block),
         Said::Unaligned { block } => push_refused(text, actor, " unaligned", block),
         Said::Skipped { name } => push_numbered(text, actor, " skipped name ", name as u64),
+        Said::Kept { block, name } => push_kept(text, actor, block, name),
         Said::Tick(epoch) => push_numbered(text, actor, " tick ", epoch),
         Said::Pass(epoch) => push_numbered(text, actor, " pass ", epoch),
         Said::Bare(page) => push_numbered(text, actor, " bare page ", page as u64),
@@ -233,6 +235,19 @@ fn push_size_differs<const C: usize>(text: &mut ArrayString<C>, actor: u8, name:
     text.push_str(" size-differs");
     push_name(text, name);
     push_field(text, " asked ", room);
+    text.push_str("\n");
+}
+
+/// Adds the line of a block that is kept.
+fn push_kept<const C: usize>(text: &mut ArrayString<C>, actor: u8, block: Name, name: u32)
+    requires { array_string_len text.old + 128 ≤ C }
+    ensures bytes { text.new.bytes ≡ text.old.bytes ++ kept_text actor block name }
+    ensures len { array_string_len text.new ≤ array_string_len text.old + 128 }
+{
+    push_number(text, actor);
+    text.push_str(" kept");
+    push_name(text, block);
+    push_field(text, " name ", name);
     text.push_str("\n");
 }
 

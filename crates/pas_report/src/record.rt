@@ -13,8 +13,10 @@ pub enum Said {
     Outside { block: Name },
     /// The block's address is no multiple of 16.
     Unaligned { block: Name },
-    /// The free of a name whose request was refused.
+    /// What is freed or reallocated stands for nothing, as its request was refused. The name is that of the free, or the new one.
     Skipped { name: u32 },
+    /// The block suits the request of this name for another size, and is kept: the name stands for it too.
+    Kept { block: Name, name: u32 },
     /// The epoch after a tick.
     Tick(u64),
     /// A pass, and the epoch that it read.

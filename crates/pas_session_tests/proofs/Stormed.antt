@@ -20,7 +20,7 @@ use Rattle.pas_search.specs.Searches.{SearchRoom}
 use Rattle.pas_storms.proofs.Going.{few_below}
 use Rattle.pas_segregated.specs.Stops.{class_directory}
 use Rattle.pas_session_tests.proofs.Besides.{may_search}
-use Rattle.pas_trials.specs.Borrowing.{Borrows}
+use Rattle.pas_trials.specs.Borrowing.{Borrows, RestsWithRoom}
 use Rattle.pas_session_tests.specs.Seated.{RestsBeside}
 use Rattle.pas_session_tests.specs.Seated.{two_threads, Opens}
 
@@ -29,12 +29,14 @@ pub nothing_yet : HasNothing []
 nothing_yet = record { grains = λ g. refl; rights = λ page. refl; clear = record { on = λ page. record { stamped = refl; owes = record { checks = λ word small. refl; hint = refl }; examined = refl } } }
 
 -- an actor that made no step may make requests
-pub may_begin : {d : PlainDesk} {p : PlainPass} {room : ℕ} {c : Cached} (n spare : ℕ) → Opens d p room → ((f : Profile) (v : View) → HasNothing v → AtRest f c v) → n + (profile_of (region_of d)).pages ≤ spare
-    → CanCall (standing_of d) (λ v. AtRest (profile_of (region_of d)) c v × (n + unknown_pages (profile_of (region_of d)) v ≤ spare))
-may_begin {d} n spare opens rests room =
+pub may_begin_alone : {d : PlainDesk} {c : Cached} (n spare : ℕ) → DeskStands d [] [] → ((f : Profile) (v : View) → HasNothing v → AtRest f c v) → n + (profile_of (region_of d)).pages ≤ spare → CanCall (standing_of d) (RestsWithRoom (profile_of (region_of d)) c n spare)
+may_begin_alone {d} n spare stood rests room =
     let f : Profile = profile_of (region_of d) in
     let few : unknown_pages f [] ≤ f.pages = few_below f.pages [] in
-    record { view = []; whole = []; stood = opens.stood; met = (rests f [] nothing_yet, omega (arith, few, room)) }
+    record { view = []; whole = []; stood = stood; met = (rests f [] nothing_yet, omega (arith, few, room)) }
+
+pub may_begin : {d : PlainDesk} {p : PlainPass} {room : ℕ} {c : Cached} (n spare : ℕ) → Opens d p room → ((f : Profile) (v : View) → HasNothing v → AtRest f c v) → n + (profile_of (region_of d)).pages ≤ spare → CanCall (standing_of d) (RestsWithRoom (profile_of (region_of d)) c n spare)
+may_begin n spare opens rests room = may_begin_alone n spare opens.stood rests room
 
 -- where there is room for so many events more, there is for fewer
 pub fewer : {σ : Standing} {c : Cached} {n spare : ℕ} (m : ℕ) → m ≤ n → CanCall σ (λ v. AtRest σ.seat.profile c v × (n + unknown_pages σ.seat.profile v ≤ spare)) → CanCall σ (λ v. AtRest σ.seat.profile c v × (m + unknown_pages σ.seat.profile v ≤ spare))

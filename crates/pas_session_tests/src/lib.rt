@@ -12,6 +12,8 @@ mod fault_tests;
 #[cfg(test)]
 mod log_tests;
 #[cfg(test)]
+mod paging_tests;
+#[cfg(test)]
 mod pass_tests;
 #[cfg(test)]
 mod power_tests;

@@ -1,8 +1,8 @@
-//! Two actors at a plain region that nobody used yet.
-ghost use Rattle.std.specs.Prelude.{◌≡◌, ◌-◌, IfOk, length};
+//! One or two actors at a plain region that nobody used yet.
+ghost use Rattle.std.specs.Prelude.{◌≡◌, ◌-◌, [], IfOk, length};
 ghost use Rattle.pas_profile.specs.Profiles.{IsValid};
 ghost use Rattle.pas_plain.specs.Plain.{profile_of, events_shown, room_of_pass};
-ghost use Rattle.pas_plain.specs.Seats.{region_of, pass_of};
+ghost use Rattle.pas_plain.specs.Seats.{DeskStands, region_of, pass_of};
 ghost use Rattle.pas_session_tests.specs.Seated.{Opens, two_threads, stormy, large_region};
 
 use pas_plain::{PlainDesk, PlainPass, PlainRegion};
@@ -72,4 +72,22 @@ pub fn seated(alloc: Global, profile: Profile, events: u32) -> Result<(PlainDesk
         return Err(NoMemory.into());
     };
     Ok((region.desk(first), second))
+}
+
+/// Actor 1 at a region of one thread, with room for so many events.
+pub fn alone(alloc: Global, profile: Profile, events: u32) -> Result<PlainDesk, Fail>
+    requires valid { IsValid profile }
+    requires threads { profile.threads ≡ 1 }
+    ensures fresh { IfOk result (λ desk. DeskStands desk [] []) }
+    ensures profile { IfOk result (λ desk. profile_of (region_of desk) ≡ profile) }
+    ensures room { IfOk result (λ desk. room_of_pass (pass_of desk) ≡ events) }
+{
+    let mut rooms = Vec::new(alloc);
+    rooms.push(EventRoom::try_new(alloc, 0)?)?;
+    rooms.push(EventRoom::try_new(alloc, events)?)?;
+    let (region, mut passes) = PlainRegion::try_new(alloc, profile, rooms)?;
+    let Some(pass) = passes.pop() else {
+        return Err(NoMemory.into());
+    };
+    Ok(region.desk(pass))
 }

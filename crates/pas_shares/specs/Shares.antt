@@ -2,7 +2,7 @@
 use Rattle.std.specs.Prelude.{ℕ, ◌+◌, ◌≤◌, ◌≡◌, ◌==◌, true, false, if◌then◌else◌, List, [], ◌∷◌, ◌++◌, Option, Some, IsSomeAnd}
 use Rattle.std.specs.List.{AllByRecursion}
 use Rattle.pas_profile.specs.declared.profile.Profile.{Profile}
-use Rattle.pas_profile.specs.declared.name.Name.{Name}
+use Rattle.pas_profile.specs.declared.name.Block.{Block}
 use Rattle.pas_steps.specs.Lists.{part}
 use Rattle.pas_trace.specs.Asked.{request_in}
 use Rattle.pas_trace.specs.EveryPlan.{AreSound}
@@ -47,7 +47,7 @@ acts_by owner w (act ∷ acts) = if owner (actor_of_act act) == w then act ∷ a
 -- ---- names
 -- what the first says of a name the second says too
 abbrev pub AreAmong : List Named → List Named → Type 0
-AreAmong few many = (n : ℕ) (block : Option Name) → standing_for few n ≡ Some block → standing_for many n ≡ Some block
+AreAmong few many = (n : ℕ) (block : Option Block) → standing_for few n ≡ Some block → standing_for many n ≡ Some block
 
 -- the operation asks for this name
 abbrev pub IsRequestOf : ℕ → What → Type 0

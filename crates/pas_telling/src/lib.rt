@@ -8,4 +8,4 @@ mod telling;
 
 pub use outcome::Outcome;
 pub use summary::{Summary, summary_of};
-pub use telling::{tell, tell_outcome};
+pub use telling::{fault_line, tell, tell_outcome};

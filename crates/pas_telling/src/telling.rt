@@ -107,7 +107,7 @@ fn reason_name(reason: Reason) -> &'static str
 }
 
 /// The line of a trace fault. It takes no memory.
-fn fault_line(fault: TraceFault) -> Line
+pub fn fault_line(fault: TraceFault) -> Line
     ensures { result.bytes ≡ fault_text fault }
 {
     let mut line = Line::new();

@@ -18,3 +18,5 @@ mod sheets;
 mod traces;
 #[cfg(test)]
 mod verdicts;
+#[cfg(test)]
+mod versions;

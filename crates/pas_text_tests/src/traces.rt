@@ -345,7 +345,7 @@ const HEADERS: [(&[u8], bool); 24] = [
     (b"pas 1 pages 4 threads 2 heaps 33 age 2", false),
     (b"pas 1 pages 4 threads 2 heaps 1 age 0", false),
     (b"pas 1 pages 4 threads 2 heaps 1 age 1000001", false),
-    (b"pas 2 pages 4 threads 2 heaps 1 age 2", false),
+    (b"pas 9 pages 4 threads 2 heaps 1 age 2", false),
     (b"Pas 1 pages 4 threads 2 heaps 1 age 2", false),
     (b"pas 1 pages 04 threads 2 heaps 1 age 2", false),
     (b"pas 1 pages 4 threads 2 heaps 1 age", false),

@@ -19,7 +19,19 @@ const TICKED: &[u8] =
 const PASSED: &[u8] =
     b"pas 1 pages 1 threads 1 heaps 1 age 2\na 1 1 0 4096 16\nf 1 1\nflush 1\nstop 1\ntick 2\npass\n";
 
-const CASES: [Case; 13] = [
+/// A block of 32 bytes that is freed with a room of 48 and, twice, with its own.
+const SIZED: &[u8] =
+    b"pas 2 pages 1 threads 1 heaps 1 age 2\na 1 1 0 24 16\nfs 1 1 40 16\nfs 1 1 32 16\nfs 1 1 32 16\n";
+
+/// Blocks of two of the larger classes, and one that is larger than these.
+const TWENTY_CLASSES: &[u8] =
+    b"pas 3 pages 3 threads 1 heaps 1 age 2\na 1 1 0 513 16\na 1 2 0 1024 1024\na 1 3 0 1025 16\n";
+
+/// A block that is kept, one that is replaced, one that can't be, and what follows from that.
+const REALLOCATED: &[u8] =
+    b"pas 4 pages 2 threads 1 heaps 1 age 2\na 1 1 0 24 16\nm 1 2 1 32 16\nm 1 3 2 33 16\nm 1 4 3 64 16\nm 1 5 4 16 16\nf 1 3\n";
+
+const CASES: [Case; 26] = [
     (
         FREED,
         b"1 deed page 1 heap 0 class 32\n1 back page 1\n1 give 0x00001000 turn 0 room 32 heap 0\nclose\n1 freed 0x00001000 turn 0 epoch 0\nreport\npage 1 heap 0 class 32 live 0 free 256 stamp 0 marks backed+offered+hinted\ntotal deeds 1 backed 1 live 0 given 1 ended 1\n",
@@ -88,6 +100,80 @@ const CASES: [Case; 13] = [
         PASSED,
         b"1 deed page 1 heap 0 large\n1 back page 1\n1 give 0x00001000 turn 0 room 4096 heap 0\n1 freed 0x00001000 turn 0 epoch 0\n0 tick 2\n0 pass 2\n0 unback page 1 epoch 2\nclose\nreport\npage 1 heap 0 large live 0 free 256 stamp 0 marks offered\ntotal deeds 1 backed 0 live 0 given 1 ended 1\n",
         Verdict::Yes,
+    ),
+    (
+        SIZED,
+        b"1 deed page 1 heap 0 class 32\n1 back page 1\n1 give 0x00001000 turn 0 room 32 heap 0\nclose\n1 size-differs 0x00001000 turn 0 asked 48\n1 freed 0x00001000 turn 0 epoch 0\n1 ended 0x00001000 turn 0\nreport\npage 1 heap 0 class 32 live 0 free 256 stamp 0 marks backed+offered+hinted\ntotal deeds 1 backed 1 live 0 given 1 ended 1\n",
+        Verdict::Yes,
+    ),
+    // Another room was named.
+    (
+        SIZED,
+        b"1 deed page 1 heap 0 class 32\n1 back page 1\n1 give 0x00001000 turn 0 room 32 heap 0\nclose\n1 size-differs 0x00001000 turn 0 asked 64\n1 freed 0x00001000 turn 0 epoch 0\n",
+        Verdict::No(5),
+    ),
+    // No block of this turn was freed.
+    (
+        SIZED,
+        b"1 deed page 1 heap 0 class 32\n1 back page 1\n1 give 0x00001000 turn 0 room 32 heap 0\nclose\n1 size-differs 0x00001000 turn 1 asked 48\n1 freed 0x00001000 turn 0 epoch 0\n",
+        Verdict::No(5),
+    ),
+    // The block hasn't the room that was named, so it doesn't end.
+    (
+        SIZED,
+        b"1 deed page 1 heap 0 class 32\n1 back page 1\n1 give 0x00001000 turn 0 room 32 heap 0\nclose\n1 freed 0x00001000 turn 0 epoch 0\n1 ended 0x00001000 turn 0\n",
+        Verdict::No(5),
+    ),
+    // It has the one that was named next.
+    (
+        SIZED,
+        b"1 deed page 1 heap 0 class 32\n1 back page 1\n1 give 0x00001000 turn 0 room 32 heap 0\nclose\n1 size-differs 0x00001000 turn 0 asked 48\n1 size-differs 0x00001000 turn 0 asked 32\n",
+        Verdict::No(6),
+    ),
+    // That it ended is said before its room.
+    (
+        SIZED,
+        b"1 deed page 1 heap 0 class 32\n1 back page 1\n1 give 0x00001000 turn 0 room 32 heap 0\nclose\n1 size-differs 0x00001000 turn 0 asked 48\n1 freed 0x00001000 turn 0 epoch 0\n1 size-differs 0x00001000 turn 0 asked 32\n",
+        Verdict::No(7),
+    ),
+    (
+        SIZED,
+        b"1 no-space name 1\n1 skipped name 1\n1 skipped name 1\n1 skipped name 1\nclose\nreport\ntotal deeds 0 backed 0 live 0 given 0 ended 0\n",
+        Verdict::Yes,
+    ),
+    // No room was named.
+    (
+        FREED,
+        b"1 deed page 1 heap 0 class 32\n1 back page 1\n1 give 0x00001000 turn 0 room 32 heap 0\nclose\n1 size-differs 0x00001000 turn 0 asked 48\n",
+        Verdict::No(5),
+    ),
+    (
+        TWENTY_CLASSES,
+        b"1 deed page 1 heap 0 class 640\n1 back page 1\n1 give 0x00001000 turn 0 room 640 heap 0\n1 deed page 2 heap 0 class 1024\n1 back page 2\n1 give 0x00002000 turn 0 room 1024 heap 0\n1 deed page 3 heap 0 bitfit\n1 back page 3\n1 give 0x00003000 turn 0 room 1040 heap 0\nclose\nreport\npage 1 heap 0 class 640 live 1 free 216 stamp 0 marks backed+offered\npage 2 heap 0 class 1024 live 1 free 192 stamp 0 marks backed+offered\npage 3 heap 0 bitfit live 1 free 191 stamp 0 marks backed+offered\ntotal deeds 3 backed 3 live 3 given 3 ended 0\n",
+        Verdict::Yes,
+    ),
+    (
+        REALLOCATED,
+        b"1 deed page 1 heap 0 class 32\n1 back page 1\n1 give 0x00001000 turn 0 room 32 heap 0\n1 kept 0x00001000 turn 0 name 2\n1 deed page 2 heap 0 class 48\n1 back page 2\n1 give 0x00002000 turn 0 room 48 heap 0\n1 no-space name 4\n1 skipped name 5\nclose\n1 freed 0x00001000 turn 0 epoch 0\n1 freed 0x00002000 turn 0 epoch 0\nreport\npage 1 heap 0 class 32 live 0 free 256 stamp 0 marks backed+offered+hinted\npage 2 heap 0 class 48 live 0 free 256 stamp 0 marks backed+offered+hinted\ntotal deeds 2 backed 2 live 0 given 2 ended 2\n",
+        Verdict::Yes,
+    ),
+    // The new name stands for the block.
+    (
+        REALLOCATED,
+        b"1 deed page 1 heap 0 class 32\n1 back page 1\n1 give 0x00001000 turn 0 room 32 heap 0\n1 kept 0x00001000 turn 0 name 1\n",
+        Verdict::No(4),
+    ),
+    // A block that suits is kept.
+    (
+        REALLOCATED,
+        b"1 deed page 1 heap 0 class 32\n1 back page 1\n1 give 0x00001000 turn 0 room 32 heap 0\n1 give 0x00001020 turn 0 room 32 heap 0\n",
+        Verdict::No(4),
+    ),
+    // The name that was replaced is freed first.
+    (
+        REALLOCATED,
+        b"1 deed page 1 heap 0 class 32\n1 back page 1\n1 give 0x00001000 turn 0 room 32 heap 0\n1 kept 0x00001000 turn 0 name 2\n1 deed page 2 heap 0 class 48\n1 back page 2\n1 give 0x00002000 turn 0 room 48 heap 0\n1 no-space name 4\n1 skipped name 5\nclose\n1 freed 0x00002000 turn 0 epoch 0\n",
+        Verdict::No(11),
     ),
 ];
 

@@ -57,7 +57,7 @@ names_at {f} {ops} {book} {p} {q} same at = record {
   sound = at.sound;
   below = at.below;
   tells = subst (λ (names : List Named). Tells book.names names) (sym same) at.tells;
-  turns = at.turns;
+  stand = at.stand;
   known = subst (λ (names : List Named). AreKnown at.asked names) (sym same) at.known;
   only = subst (λ (names : List Named). OnlyAsked at.asked names) (sym same) at.only;
 }

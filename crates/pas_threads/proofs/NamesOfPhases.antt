@@ -2,7 +2,7 @@
 use Rattle.std.proofs.Common.{◌≡◌, ℕ, ◌+◌, ◌<◌, ◌==◌, ◌||◌, ◌⊎◌, inl, inr, Bool, true, false, if◌then◌else◌, List, [], ◌∷◌, set, length, get_or, Option, Some, None, refl, ap, sym, ◌∙◌, subst, arith, ◌≤◌, ◌++◌}
 use Rattle.std.proofs.lemmas.List.{get_or_default}
 use Rattle.std.proofs.lemmas.Bool.{cases_eq, false≢true, eq-eqb, or_right, or_cases}
-use Rattle.pas_profile.specs.declared.name.Name.{Name}
+use Rattle.pas_profile.specs.declared.name.Block.{Block}
 use Rattle.pas_trace.specs.EveryPlan.{is_asked, asked_with, asked_after, asked_by, AreSound, IsActorOf}
 use Rattle.pas_answers.specs.Answers.{Named, standing_for, Progress}
 use Rattle.pas_answers.specs.Names.{block_named, names_held}
@@ -15,13 +15,13 @@ use Rattle.pas_profile.specs.declared.profile.Profile.{Profile}
 use Rattle.pas_steps.specs.Desks.{Standing}
 use Rattle.pas_trace.specs.Asked.{work_of, of_task, request_of, request_in}
 use Rattle.pas_trace.specs.declared.plan.What.{What}
-use Rattle.pas_trace.specs.declared.plan.What.TheVariants.{Alloc}
+use Rattle.pas_trace.specs.declared.plan.What.TheVariants.{Alloc, Remake}
 use Rattle.pas_trace.specs.declared.item.Request.{Request}
 use Rattle.pas_trace.specs.declared.plan.Chore.{Chore}
 use Rattle.pas_trace.specs.declared.plan.Work.{Work}
 use Rattle.pas_trace.specs.declared.plan.Op.{Op}
 use Rattle.pas_trace.specs.Acts.{Act, operation_in, asked_after_operation, is_active, idle_threads, idle_stops, acts_of_chore, acts_of_work, acts_of_op, acts_of_ops, own_acts}
-use Rattle.pas_answers.specs.Calls.{block_behind, HasTurn, AreKnown, OnlyAsked}
+use Rattle.pas_answers.specs.Calls.{block_behind, MayStand, AreKnown, OnlyAsked}
 use Rattle.pas_answers.specs.Fit.{IsBelow, AreBelow}
 use Rattle.pas_answers.specs.declared.names.Names.{Names}
 use Rattle.pas_trace.proofs.OperationsOfItems.{kept_with}
@@ -36,12 +36,12 @@ use Rattle.pas_threads.proofs.Dealt.{some_worker}
 
 -- ---- all workers, one after the other
 -- a request of these has the name, and what it came to is the same whatever else is said; or none has it
-either_if : (t : Bool) (b : Option Name) (s : Bool) (o : Option (Option Name)) → ((s ≡ true) × ((x y : Option Name) → came_to o x ≡ came_to o y)) ⊎ ((s ≡ false) × (o ≡ None))
-    → ((t || s ≡ true) × ((x y : Option Name) → came_to (if t then Some b else o) x ≡ came_to (if t then Some b else o) y)) ⊎ ((t || s ≡ false) × ((if t then Some b else o) ≡ None))
+either_if : (t : Bool) (b : Option Block) (s : Bool) (o : Option (Option Block)) → ((s ≡ true) × ((x y : Option Block) → came_to o x ≡ came_to o y)) ⊎ ((s ≡ false) × (o ≡ None))
+    → ((t || s ≡ true) × ((x y : Option Block) → came_to (if t then Some b else o) x ≡ came_to (if t then Some b else o) y)) ⊎ ((t || s ≡ false) × ((if t then Some b else o) ≡ None))
 either_if true b s o rest = inl (refl, λ x y. refl)
 either_if false b s o rest = rest
 
-pub has_or_not : (rs : List Named) (n : ℕ) → ((is_asked (names_of rs) n ≡ true) × ((x y : Option Name) → came_to (standing_for rs n) x ≡ came_to (standing_for rs n) y)) ⊎ ((is_asked (names_of rs) n ≡ false) × (standing_for rs n ≡ None))
+pub has_or_not : (rs : List Named) (n : ℕ) → ((is_asked (names_of rs) n ≡ true) × ((x y : Option Block) → came_to (standing_for rs n) x ≡ came_to (standing_for rs n) y)) ⊎ ((is_asked (names_of rs) n ≡ false) × (standing_for rs n ≡ None))
 has_or_not [] n = inr (refl, refl)
 has_or_not (r ∷ rs) n = either_if (r.name == n) r.block (is_asked (names_of rs) n) (standing_for rs n) (has_or_not rs n)
 
@@ -60,7 +60,7 @@ taken_more before now after workers i n w lt is takes so = elim (has_or_not (req
     λ d. (subst (λ (x : Worker). HasRequest x n) (is d) has.0, takes ∙ has.1 (block_named now.names n) (block_named before.names n) ∙ ap (λ (x : Worker). known_in before x.requests n) (is d)),
   )
   | inr none ↦
-      let same : block_named after.names n ≡ block_named now.names n = takes ∙ ap (λ (o : Option (Option Name)). came_to o (block_named now.names n)) none.1 in
+      let same : block_named after.names n ≡ block_named now.names n = takes ∙ ap (λ (o : Option (Option Block)). came_to o (block_named now.names n)) none.1 in
       elim so [
         | inl one ↦ inl (one.0, let low = one.1 in omega (arith, low), λ d. ((one.2 d).0, same ∙ (one.2 d).1))
         | inr all ↦ inr (
@@ -165,6 +165,7 @@ none_work n idle op (Work.Chore chore) none = none_chore n idle chore
 -- who asks for a name is a thread, and has it among its own
 asks_own : (f : Profile) (n k : ℕ) (what : What) → IsActorOf f what k → IsRequestOf n what → (1 ≤ k) × (is_asked (name_asked what) n ≡ true)
 asks_own f n k (Alloc name heap size align) actor is = (actor.0, ap (λ (t : Bool). t || false) (eq-eqb name n is))
+asks_own f n k (Remake name old heap size align) actor is = (actor.0, ap (λ (t : Bool). t || false) (eq-eqb name n is))
 asks_own f n k what actor is = absurd is
 
 front_asked : (ms ns : List ℕ) (n : ℕ) → is_asked ms n ≡ true → is_asked (ms ++ ns) n ≡ true
@@ -201,7 +202,7 @@ active_asks k (op ∷ ops) n is = active_if (op.actor == k) (is_active ops k) (n
 
 -- ---- what a worker hands over
 pub hands_over : {f : Profile} {phase : List Op} {book : NameBook} {k : ℕ} {σ σ' : Standing} {later : Later} {p : Progress} (old new : Worker) (names : List Named) → (did : Works f k (own_acts k phase) [] σ σ' (kept_by book old) (kept_by book new) later p)
-    → requests_in old.requests ≡ [] → AreAmong did.reached.names names → HandsOver phase book k new names
+    → requests_in old.requests ≡ [] → AreAmong did.reached.names names → HandsOver f phase book k new names
 hands_over {f} {phase} {book} {k} {p = p} old new names did none among =
     let noted = did.noted ∙ ap (λ (rs : List Named). names_of rs ++ names_asked (own_acts k phase)) none in
     let knows = did.stands.names in
@@ -211,12 +212,12 @@ hands_over {f} {phase} {book} {k} {p = p} old new names did none among =
           let mine = ap (λ (ns : List ℕ). is_asked ns n) (sym noted) ∙ has in
           let known = are_known f (own_acts k phase) [] p did.reached did.reaches (λ m is. absurd (false≢true is)) n (asked_then (own_acts k phase) [] n mine) in
           let block = knows.tells n ∙ ap block_behind known.1 in
-          (known.0, among n known.0 known.1, block, subst HasTurn block (knows.turns n));
+          (known.0, among n known.0 known.1, block, subst (MayStand f) block (knows.stand n));
     }
 
 -- a worker with no operation in the phase hands over nothing
-pub hands_nothing : {phase : List Op} {book : NameBook} {k : ℕ} (worker : Worker) (names : List Named) → requests_in worker.requests ≡ [] → own_acts k phase ≡ [] → HandsOver phase book k worker names
-hands_nothing {phase} {book} {k} worker names none idle = record {
+pub hands_nothing : {f : Profile} {phase : List Op} {book : NameBook} {k : ℕ} (worker : Worker) (names : List Named) → requests_in worker.requests ≡ [] → own_acts k phase ≡ [] → HandsOver f phase book k worker names
+hands_nothing {f} {phase} {book} {k} worker names none idle = record {
   noted = ap names_of none ∙ ap names_asked (sym idle);
   says = λ n has. absurd (false≢true (ap (λ (rs : List Named). is_asked (names_of rs) n) (sym none) ∙ has));
 }
@@ -224,6 +225,7 @@ hands_nothing {phase} {book} {k} worker names none idle = record {
 -- the names of its requests are below the limit
 within_if : (t : Bool) (limit : ℕ) (what : What) (ns : List ℕ) → IsBelow limit what → AreWithin limit ns → AreWithin limit ((if t then name_asked what else []) ++ ns)
 within_if true limit (Alloc name heap size align) ns below within = (below, within)
+within_if true limit (Remake name old heap size align) ns below within = (below, within)
 within_if true limit what ns below within = within
 within_if false limit what ns below within = within
 
@@ -236,7 +238,7 @@ names_within limit k (op ∷ ops) below = subst (AreWithin limit) (sym (asks_mor
 -- Each worker handed over, and each thread with an operation in the phase has one.
 module _ {f : Profile} {book : NameBook} {p q : Progress} {own : ℕ → Progress} (threads : ℕ) (phase rest : List Op) (book1 book2 : NameBook) (numbers : List ℕ) (workers : List Worker) (at : NamesAt f (phase ++ rest) book p) (are : q.names ≡ p.names)
     (woven : IsWoven f (owner_in phase) (acts_of_ops (idle_threads threads phase) phase) at.asked q own) (noted : book1.names ≡ book.names)
-    (each : (i : ℕ) (d : Worker) → i < length workers → HandsOver phase book1 (get_or numbers i 0) (get_or workers i d) woven.reached.names)
+    (each : (i : ℕ) (d : Worker) → i < length workers → HandsOver f phase book1 (get_or numbers i 0) (get_or workers i d) woven.reached.names)
     (all : (k : ℕ) → 1 ≤ k → is_active phase k ≡ true → (i : ℕ) × (i < length workers) × (get_or numbers i 0 ≡ k)) (taken : HasTaken book1 book2 workers) where
   abbrev after : List Named
   after = woven.reached.names
@@ -262,14 +264,14 @@ module _ {f : Profile} {book : NameBook} {p q : Progress} {own : ℕ → Progres
     | inr none ↦ none.1 ∙ was n ∙ at.tells n ∙ ap block_behind (sym (stays n none.0))
   ]
 
-  book_turns : (n : ℕ) → HasTurn (block_named book2.names n)
-  book_turns n = elim (taken n) [
+  book_stands : (n : ℕ) → MayStand f (block_named book2.names n)
+  book_stands n = elim (taken n) [
     | inl one ↦
         let d = some_worker workers one.0 one.1 in
         let has = one.2 d in
         let says = (each one.0 d one.1).says n has.0 in
-        subst HasTurn (sym (has.1 ∙ says.2)) says.3
-    | inr none ↦ subst HasTurn (sym (none.1 ∙ was n)) (at.turns n)
+        subst (MayStand f) (sym (has.1 ∙ says.2)) says.3
+    | inr none ↦ subst (MayStand f) (sym (none.1 ∙ was n)) (at.stand n)
   ]
 
   asked_is : asked_after_acts (acts_of_ops (idle_threads threads phase) phase) at.asked ≡ asked_by at.asked phase
@@ -281,7 +283,7 @@ module _ {f : Profile} {book : NameBook} {p q : Progress} {own : ℕ → Progres
     sound = sound_back f at.asked phase rest at.sound;
     below = subst (λ (limit : ℕ). AreBelow limit rest) (sym (held ∙ ap names_held noted)) (back_below (names_held book.names) phase rest at.below);
     tells = book_tells;
-    turns = book_turns;
+    stand = book_stands;
     known = subst (λ (ns : List ℕ). AreKnown ns after) asked_is
         (are_known f (acts_of_ops (idle_threads threads phase) phase) at.asked q woven.reached woven.reaches (subst (λ (ns : List Named). AreKnown at.asked ns) (sym are) at.known));
     only = subst (λ (ns : List ℕ). OnlyAsked ns after) asked_is woven.only_asked;

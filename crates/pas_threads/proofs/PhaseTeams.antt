@@ -392,8 +392,8 @@ module _ {region : SharedRegion} {r : Round} {k : ℕ} {acts : List Act} {old ne
       rests_clear has_then (e.pass ∙ g.pass) (e.cache ∙ g.cache) (ap records_in e.out ∙ g.none) (omega (arith, events)) (omega (arith, room, paid, before, had, both)) e.empty (omega (arith, noted, kept, both))
 
 -- what it hands over is about its requests
-handed : {ops : List Op} {book : NameBook} {k : ℕ} {new gathered : Worker} {names : List Named} → IsGathered new gathered → HandsOver ops book k new names → HandsOver ops book k gathered names
-handed {ops} {book} {k} {new} {gathered} {names} g over = record {
+handed : {f : Profile} {ops : List Op} {book : NameBook} {k : ℕ} {new gathered : Worker} {names : List Named} → IsGathered new gathered → HandsOver f ops book k new names → HandsOver f ops book k gathered names
+handed {f} {ops} {book} {k} {new} {gathered} {names} g over = record {
   noted = ap (λ (rs : Requests). names_of (requests_in rs)) g.requests ∙ over.noted;
   says = λ n has.
       let says = over.says n (ap (λ (rs : Requests). is_asked (names_of (requests_in rs)) n) (sym g.requests) ∙ has) in
@@ -603,7 +603,7 @@ module _ {region : SharedRegion} {s : Session} {awake : Mask4} {team team1 team2
     sized : length workers ≡ length team1.threads.items
     sized = size ∙ done.many
 
-    hands : (i : ℕ) (d : Worker) → i < length workers → HandsOver ops team1.book (suc i) (get_or workers i d) reached.names
+    hands : (i : ℕ) (d : Worker) → i < length workers → HandsOver f ops team1.book (suc i) (get_or workers i d) reached.names
     hands i d lt =
         let within = sized in
         let here : i < length team1.threads.items = omega (arith, lt, within) in
@@ -625,7 +625,7 @@ module _ {region : SharedRegion} {s : Session} {awake : Mask4} {team team1 team2
         let few = at.few in
         let both = length-append ops left in
         let names = names_then s.threads ops left team1.book team3.book (numbers_from 1 s.threads) workers at.names begun.woke.turns.leaves.names woven begun.names
-        (λ i d lt. subst (λ (k : ℕ). HandsOver ops team1.book k (get_or workers i d) reached.names) (let is : suc i ≡ 1 + i = omega arith in is ∙ sym (number_at 1 s.threads i (omega (arith, lt, within, count)))) (hands i d lt))
+        (λ i d lt. subst (λ (k : ℕ). HandsOver f ops team1.book k (get_or workers i d) reached.names) (let is : suc i ≡ 1 + i = omega arith in is ∙ sym (number_at 1 s.threads i (omega (arith, lt, within, count)))) (hands i d lt))
         (λ k some on.
         let le = at.within k (active_front k ops left on) in
         (k - 1, omega (arith, some, le, within, count), number_at 1 s.threads (k - 1) (omega (arith, some, le)) ∙ (let back : 1 + (k - 1) ≡ k = omega (arith, some) in back)))

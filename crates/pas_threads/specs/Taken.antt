@@ -1,10 +1,11 @@
 -- What the workers of a phase hand over after it.
 use Rattle.std.specs.Prelude.{ℕ, ◌<◌, ◌≡◌, ◌⊎◌, true, List, [], length, get_or, Option, Some}
-use Rattle.pas_profile.specs.declared.name.Name.{Name}
+use Rattle.pas_profile.specs.declared.name.Block.{Block}
+use Rattle.pas_profile.specs.declared.profile.Profile.{Profile}
 use Rattle.pas_trace.specs.EveryPlan.{is_asked}
 use Rattle.pas_trace.specs.declared.plan.Op.{Op}
 use Rattle.pas_answers.specs.Answers.{Named, standing_for}
-use Rattle.pas_answers.specs.Calls.{HasTurn}
+use Rattle.pas_answers.specs.Calls.{MayStand}
 use Rattle.pas_answers.specs.Names.{block_named}
 use Rattle.pas_trace.specs.Acts.{own_acts}
 use Rattle.pas_acts.specs.NameBooks.{requests_in, room_for, names_of, names_asked, AreWithin, known_in}
@@ -35,6 +36,6 @@ pub record IsEmptied (old new : Worker) : Type 0 where
   pub room : room_for new.requests ≡ room_for old.requests
 
 -- The worker of thread k made all requests of its operations in the phase, and what each came to is what its name stands for.
-pub record HandsOver (phase : List Op) (book : NameBook) (k : ℕ) (worker : Worker) (names : List Named) : Type 0 where
+pub record HandsOver (f : Profile) (phase : List Op) (book : NameBook) (k : ℕ) (worker : Worker) (names : List Named) : Type 0 where
   pub noted : names_of (requests_in worker.requests) ≡ names_asked (own_acts k phase)
-  pub says : (n : ℕ) → HasRequest worker n → (block : Option Name) × (standing_for names n ≡ Some block) × (known_in book worker.requests n ≡ block) × HasTurn block
+  pub says : (n : ℕ) → HasRequest worker n → (block : Option Block) × (standing_for names n ≡ Some block) × (known_in book worker.requests n ≡ block) × MayStand f block

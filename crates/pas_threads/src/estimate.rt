@@ -13,9 +13,9 @@ const SAMPLE_BYTES: usize = 1_024;
 #[derive(Clone, Copy, Drop)]
 pub struct Estimate {
     pub lines: usize,
-    /// Lines that begin with an `a`, and so give a name.
+    /// Lines that begin with an `a` or an `m`, and so give a name.
     pub names: usize,
-    /// Requests and frees of each thread, by its number. None of number 0.
+    /// Requests, frees and reallocations of each thread, by its number. None of number 0.
     pub by_actor: [usize; MOST_THREADS as usize + 1],
 }
 
@@ -29,12 +29,14 @@ fn digit(byte: Option<&u8>) -> Option<usize>
     }
 }
 
-/// The thread of a line that begins as a request or a free does, or 0: the number at its third byte.
+/// The thread of a line that begins as a request, a free or a reallocation does, or 0: the number behind its first word.
 fn thread_in(line: &[u8]) -> usize {
-    if !matches!(line.first(), Some(b'a' | b'f' | b'r')) || line.get(1) != Some(&b' ') {
-        return 0;
-    }
-    match (digit(line.get(2)), digit(line.get(3))) {
+    let (tens, ones) = match (line.first(), line.get(1), line.get(2)) {
+        (Some(b'a' | b'f' | b'm' | b'r'), Some(b' '), first) => (digit(first), digit(line.get(3))),
+        (Some(b'f' | b'r'), Some(b's'), Some(b' ')) => (digit(line.get(3)), digit(line.get(4))),
+        _ => (None, None),
+    };
+    match (tens, ones) {
         (Some(tens), Some(ones)) => 10 * tens + ones,
         (Some(ones), None) => ones,
         _ => 0,
@@ -45,7 +47,7 @@ impl Estimate {
     /// One line more.
     fn count(&mut self, line: &[u8]) {
         self.lines = self.lines.saturating_add(1);
-        if line.first() == Some(&b'a') {
+        if matches!(line.first(), Some(b'a' | b'm')) {
             self.names = self.names.saturating_add(1);
         }
         let thread = thread_in(line);

@@ -12,6 +12,7 @@ use crate::scavenger::{Scavenger, keep_up};
 use crate::workers::{Worker, perform};
 use pas_acts::gate::Gate;
 use pas_acts::names::NameBook;
+use pas_answers::Remake;
 use pas_large_index::LargeIndex;
 use pas_shared::SharedRegion;
 use pas_trace::Op;
@@ -31,7 +32,7 @@ pub(crate) enum Hand {
 }
 
 /// The hand does its operations of the phase.
-fn act<R: Wait, G: Gate>(
+fn act<R: Wait, G: Gate, M: Remake>(
     rt: &R,
     region: &SharedRegion,
     indexes: &[Mutex<LargeIndex>],
@@ -39,19 +40,20 @@ fn act<R: Wait, G: Gate>(
     hand: &mut Hand,
     ops: &[Op],
     gate: &G,
+    remaker: &M,
 )
     requires few { length ops.now < 2 ^ 32 }
     requires may { MayAct region.now book.now ops.now hand.old }
     ensures did { DidAct region.now book.now ops.now hand.old hand.new }
 {
     match hand {
-        Hand::Thread(worker) => perform(rt, region, indexes, book, worker, ops, gate),
+        Hand::Thread(worker) => { perform(rt, region, indexes, book, worker, ops, gate, remaker) }
         Hand::Scavenger(scavenger) => keep_up(region, scavenger, ops, gate),
     }
 }
 
 /// All hands at once, each in a thread of its own. The end waits for all of them, and a hand for the lock of an index.
-fn act_all<R: Threads + Wait + Sync, G: Gate + Sync>(
+fn act_all<R: Threads + Wait + Sync, G: Gate + Sync, M: Remake + Sync>(
     rt: &R,
     region: &SharedRegion,
     indexes: &[Mutex<LargeIndex>],
@@ -59,6 +61,7 @@ fn act_all<R: Threads + Wait + Sync, G: Gate + Sync>(
     hands: &mut Vec<Hand>,
     ops: &[Op],
     gate: &G,
+    remaker: &M,
 )
     requires few { length ops.now < 2 ^ 32 }
     requires may { All (MayAct region.now book.now ops.now) hands.old.items }
@@ -70,7 +73,7 @@ fn act_all<R: Threads + Wait + Sync, G: Gate + Sync>(
         rt,
         hands,
         MOST_HANDS,
-        &|_, hand| act(rt, region, indexes, book, hand, ops, gate),
+        &|_, hand| act(rt, region, indexes, book, hand, ops, gate, remaker),
     );
 }
 
@@ -88,7 +91,7 @@ fn pop_scavenger(hands: &mut Vec<Hand>) -> Scavenger
 }
 
 /// The hands act, and with them the scavenger where one of the operations is its own. The scavenger, as it is then.
-pub(crate) fn act_with<R: Threads + Wait + Sync, G: Gate + Sync>(
+pub(crate) fn act_with<R: Threads + Wait + Sync, G: Gate + Sync, M: Remake + Sync>(
     rt: &R,
     region: &SharedRegion,
     indexes: &[Mutex<LargeIndex>],
@@ -98,6 +101,7 @@ pub(crate) fn act_with<R: Threads + Wait + Sync, G: Gate + Sync>(
     busy: bool,
     ops: &[Op],
     gate: &G,
+    remaker: &M,
 ) -> Scavenger
     requires few { length ops.now < 2 ^ 32 }
     requires threads { (own : List TheWorker) × (hands.old.items ≡ map TheHand.Thread own) × All (MayDoPhase region.now book.now ops.now) own }
@@ -109,10 +113,10 @@ pub(crate) fn act_with<R: Threads + Wait + Sync, G: Gate + Sync>(
     ensures place { vec_capacity hands.new ≡ vec_capacity hands.old }
 {
     if !busy {
-        act_all(rt, region, indexes, book, hands, ops, gate);
+        act_all(rt, region, indexes, book, hands, ops, gate, remaker);
         return scavenger;
     }
     hands.push_reserved(Hand::Scavenger(scavenger));
-    act_all(rt, region, indexes, book, hands, ops, gate);
+    act_all(rt, region, indexes, book, hands, ops, gate, remaker);
     pop_scavenger(hands)
 }

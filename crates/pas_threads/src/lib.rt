@@ -19,4 +19,5 @@ pub use ahead::Ahead;
 pub use estimate::Estimate;
 pub use kit::SharedKit;
 pub use pas_acts::{Gate, OpenGate};
+pub use pas_answers::Remake;
 pub use whole::{Rooms, on_threads, on_threads_with_rooms};

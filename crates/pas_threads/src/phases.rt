@@ -19,6 +19,7 @@ use crate::workers::{Worker, take_all};
 use pas_acts::at_desk::SCAVENGER;
 use pas_acts::gate::Gate;
 use pas_acts::names::NameBook;
+use pas_answers::Remake;
 use pas_bits::Mask4;
 use pas_large_index::LargeIndex;
 use pas_plans::active;
@@ -44,7 +45,7 @@ pub(crate) struct Team {
 
 /// The operations of a phase, by all hands at once, in as many threads of the system: the worker of each thread that has one, and the scavenger where one is
 /// its own, with the threads that have none. `awake` has the numbers of those that have one.
-fn perform_all<R: Threads + Wait + Sync, G: Gate + Sync>(
+fn perform_all<R: Threads + Wait + Sync, G: Gate + Sync, M: Remake + Sync>(
     rt: &R,
     region: &SharedRegion,
     indexes: &[Mutex<LargeIndex>],
@@ -52,6 +53,7 @@ fn perform_all<R: Threads + Wait + Sync, G: Gate + Sync>(
     awake: Mask4,
     ops: &[Op],
     gate: &G,
+    remaker: &M,
 ) -> Team
     requires few { length ops.now < 2 ^ 32 }
     requires awake { (k : ℕ) → is_set awake k ≡ is_active ops.now k }
@@ -68,7 +70,7 @@ fn perform_all<R: Threads + Wait + Sync, G: Gate + Sync>(
     deal(&mut threads, awake, &mut hands, &mut scavenger.lent);
     let busy = awake.get(SCAVENGER);
     let mut scavenger = act_with(
-        rt, region, indexes, &book, &mut hands, scavenger, busy, ops, gate,
+        rt, region, indexes, &book, &mut hands, scavenger, busy, ops, gate, remaker,
     );
     take_back(&mut threads, count, awake, &mut hands, &mut scavenger.lent);
     Team {
@@ -80,13 +82,14 @@ fn perform_all<R: Threads + Wait + Sync, G: Gate + Sync>(
 }
 
 /// One phase: its threads read the epoch, its operations are performed, and what was said is gathered, actor by actor.
-fn perform_phase<R: Threads + Wait + Sync, G: Gate + Sync>(
+fn perform_phase<R: Threads + Wait + Sync, G: Gate + Sync, M: Remake + Sync>(
     rt: &R,
     region: &SharedRegion,
     indexes: &[Mutex<LargeIndex>],
     team: Team,
     ops: &[Op],
     gate: &G,
+    remaker: &M,
     out: &mut Records,
 ) -> Team
     requires may { (s : Session) × (rest : List (List TheOp)) × (marks : ℕ) × (p : Progress) × PhaseAt region.now s ops.now rest marks team out.old p }
@@ -96,7 +99,7 @@ fn perform_phase<R: Threads + Wait + Sync, G: Gate + Sync>(
     let mut team = team;
     wake_all(region, &mut team.threads, awake);
     team.book.note(ops);
-    let mut team = perform_all(rt, region, indexes, team, awake, ops, gate);
+    let mut team = perform_all(rt, region, indexes, team, awake, ops, gate, remaker);
     out.append(&mut team.scavenger.out);
     gather(&mut team.threads, out);
     take_all(&mut team.book, &mut team.threads);
@@ -117,13 +120,14 @@ fn finish(region: &SharedRegion, team: Team, out: &mut Records) -> Team
 
 /// Performs the phases in order, with a mark before each from the second on, and closes: a mark, and the stop of each thread. The operations of a phase are
 /// performed by as many threads as have one, all at once; the records of each phase come actor by actor. Takes no memory.
-pub(crate) fn replay<R: Threads + Wait + Sync, G: Gate + Sync>(
+pub(crate) fn replay<R: Threads + Wait + Sync, G: Gate + Sync, M: Remake + Sync>(
     rt: &R,
     region: &SharedRegion,
     indexes: &[Mutex<LargeIndex>],
     team: Team,
     phases: &[Phase],
     gate: &G,
+    remaker: &M,
     out: &mut Records,
 ) -> Team
     requires phases { length phases.now < 2 ^ 32 }
@@ -139,7 +143,16 @@ pub(crate) fn replay<R: Threads + Wait + Sync, G: Gate + Sync>(
         if number > UNMARKED {
             out.push(Record::Phase(number));
         }
-        team = perform_phase(rt, region, indexes, team, phase.as_slice(), gate, out);
+        team = perform_phase(
+            rt,
+            region,
+            indexes,
+            team,
+            phase.as_slice(),
+            gate,
+            remaker,
+            out,
+        );
     }
     out.push(Record::Close);
     finish(region, team, out)

@@ -10,6 +10,7 @@ ghost use Rattle.pas_threads.specs.Kits.{IsKitOf, slots_of, AreAllBack};
 use crate::kit::SharedKit;
 use crate::phases::{Team, replay};
 use pas_acts::gate::Gate;
+use pas_answers::Remake;
 use pas_report::Records;
 use pas_shared::{SharedPass, close};
 use pas_steps::State;
@@ -52,11 +53,12 @@ fn passes_of(team: &mut Team, mut passes: Vec<SharedPass>) -> Vec<SharedPass>
 
 /// Replays the plan as `on_threads` does, and gives the rooms of its actors out with the state, so that another thread may let them go: that takes time in
 /// the memory which they touched.
-pub fn on_threads_with_rooms<R: Threads + Wait + Sync, G: Gate + Sync>(
+pub fn on_threads_with_rooms<R: Threads + Wait + Sync, G: Gate + Sync, M: Remake + Sync>(
     rt: &R,
     plan: &Plan,
     kit: SharedKit,
     gate: &G,
+    remake: &M,
     out: &mut Records,
 ) -> (State, Rooms)
     requires plan { (text : List ℕ) × (length text ≤ 16777216) × IsPlanOf text plan.now }
@@ -78,6 +80,7 @@ pub fn on_threads_with_rooms<R: Threads + Wait + Sync, G: Gate + Sync>(
         team,
         plan.phases.as_slice(),
         gate,
+        remake,
         out,
     );
     let passes = passes_of(&mut team, passes);
@@ -86,16 +89,17 @@ pub fn on_threads_with_rooms<R: Threads + Wait + Sync, G: Gate + Sync>(
 
 /// Replays the plan. In each phase the operations of each thread that has one are performed in a thread of the system, all at once, and those of the
 /// scavenger in another; a phase begins when the one before it is over. The records come phase by phase, and actor by actor in each. The gate is called
-/// round each operation. A request for whole pages waits for the lock of its heap's index, and so does a thread that hands on the runs of large blocks which it
+/// round each operation, and all threads share what gives blocks another size. A request for whole pages waits for the lock of its heap's index, and so does a thread that hands on the runs of large blocks which it
 /// ended; nothing else waits within a phase. The result is the state of the region at the end, at which no actor holds a grain, has a right or owes anything.
 ///
 /// Takes no memory. Beside the operations it costs a look at the epoch for each thread of a phase, the stop of each thread at the end, and
 /// for each phase a pass over its operations for each of its threads, and one over its records.
-pub fn on_threads<R: Threads + Wait + Sync, G: Gate + Sync>(
+pub fn on_threads<R: Threads + Wait + Sync, G: Gate + Sync, M: Remake + Sync>(
     rt: &R,
     plan: &Plan,
     kit: SharedKit,
     gate: &G,
+    remake: &M,
     out: &mut Records,
 ) -> State
     requires plan { (text : List ℕ) × (length text ≤ 16777216) × IsPlanOf text plan.now }
@@ -104,5 +108,5 @@ pub fn on_threads<R: Threads + Wait + Sync, G: Gate + Sync>(
     requires room { plan.now.total + length (phases_of plan.now) + 1 ≤ room_of out.old }
     ensures { Shows OnThreads plan.now (records_in out.new) result }
 {
-    on_threads_with_rooms(rt, plan, kit, gate, out).0
+    on_threads_with_rooms(rt, plan, kit, gate, remake, out).0
 }

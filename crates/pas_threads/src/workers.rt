@@ -19,6 +19,7 @@ use pas_acts::at_desk::{SCAVENGER, stop_if_idle};
 use pas_acts::gate::Gate;
 use pas_acts::names::{NameBook, Requests};
 use pas_acts::own::work;
+use pas_answers::Remake;
 use pas_cache::ThreadCache;
 use pas_large::SharedDoor;
 use pas_large_index::LargeIndex;
@@ -39,7 +40,7 @@ pub(crate) struct Worker {
 
 /// The thread sits down, performs its operations of a phase, with the indexes that all threads share as its door, and rises. It waits for the lock of an index
 /// where it makes a request for whole pages, or hands on what it noted, and nowhere else.
-pub(crate) fn perform<R: Wait, G: Gate>(
+pub(crate) fn perform<R: Wait, G: Gate, M: Remake>(
     rt: &R,
     region: &SharedRegion,
     indexes: &[Mutex<LargeIndex>],
@@ -47,6 +48,7 @@ pub(crate) fn perform<R: Wait, G: Gate>(
     worker: &mut Worker,
     ops: &[Op],
     gate: &G,
+    remaker: &M,
 )
     requires few { length ops.now < 2 ^ 32 }
     requires may { MayDoPhase region.now book.now ops.now worker.old }
@@ -62,6 +64,7 @@ pub(crate) fn perform<R: Wait, G: Gate>(
         &mut door,
         book,
         &mut worker.cache,
+        remaker,
         &mut worker.requests,
         ops,
         gate,

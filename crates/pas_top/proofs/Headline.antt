@@ -24,7 +24,7 @@ use Rattle.pas_words.specs.declared.manner.Manner.{Manner}
 use Rattle.pas_top.specs.Manners.{way_of}
 use Rattle.pas_top.specs.Outcomes.{IsOutcome}
 use Rattle.pas_telling.specs.Outcomes.{IsShown, IsWritable, outcome_status, outcome_text, shown_text}
-use Rattle.pas_top.specs.Outputs.{most_bytes, too_long_text, ComesTo, IsReplaying, IsOutput, IsReplayed}
+use Rattle.pas_top.specs.Outputs.{most_bytes, too_long_text, ComesTo, IsReplaying, IsReplayStatus, IsOutput, IsReplayed}
 use Rattle.pas_telling.specs.declared.outcome.Outcome.{Outcome}
 use Rattle.pas_telling.specs.declared.outcome.Outcome.TheVariants.{Replayed, Faulty}
 
@@ -77,9 +77,9 @@ pub status_not_four : (outcome : Outcome) → outcome_status outcome ≡ 4 → �
 status_not_four (Replayed records state) four = omega (arith, four)
 status_not_four (Faulty fault) four = omega (arith, four)
 
-pub status_not_two : (outcome : Outcome) → outcome_status outcome ≡ 2 → ⊥
-status_not_two (Replayed records state) two = omega (arith, two)
-status_not_two (Faulty fault) two = omega (arith, two)
+replay_status : (outcome : Outcome) → IsReplayStatus (outcome_status outcome)
+replay_status (Replayed records state) = inl refl
+replay_status (Faulty fault) = inr (inl refl)
 
 -- the output of a call whose input was read whole
 pub outcome_output : (words : List (List ℕ)) (told : Option (List ℕ)) (read : List ℕ) (manner : Manner) (outcome : Outcome) → IsReplaying manner words
@@ -87,7 +87,7 @@ pub outcome_output : (words : List (List ℕ)) (told : Option (List ℕ)) (read 
 outcome_output words told read manner outcome asked whole is = inr (inl (record {
   manner = manner;
   asked = asked;
-  other = status_not_two outcome;
+  status_is = replay_status outcome;
   comes = λ bytes tells. let input = whole bytes tells in comes_to (way_of manner) bytes outcome input.1 (subst (λ (t : List ℕ). IsOutcome (way_of manner) t outcome) input.0 is);
 }))
 
@@ -96,6 +96,6 @@ pub too_long_output : (words : List (List ℕ)) (told : Option (List ℕ)) (mann
 too_long_output words told manner asked long = inr (inl (record {
   manner = manner;
   asked = asked;
-  other = λ two. omega (arith, two);
+  status_is = inr (inr refl);
   comes = λ bytes tells. inr (inr (refl, record { long = long bytes tells; text_is = refl }));
 }))

@@ -1,5 +1,6 @@
 mod Statuses
 mod Headline
+mod Checks
 mod Summing
 mod Accepting
 mod Reading

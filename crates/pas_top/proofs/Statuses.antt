@@ -39,7 +39,10 @@ not_four answer writing four = elim writing [
     | inl e ↦ omega (arith, e, four)
     | inr more2 ↦ elim more2 [
       | inl e ↦ omega (arith, e, four)
-      | inr e ↦ omega (arith, e, four)
+      | inr more3 ↦ elim more3 [
+        | inl e ↦ omega (arith, e, four)
+        | inr e ↦ omega (arith, e, four)
+      ]
     ]
   ]
 ]

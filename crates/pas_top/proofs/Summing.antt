@@ -36,7 +36,7 @@ pub gen_cut_off : (words : List (List ℕ)) (told before after : Option (List �
 gen_cut_off words told before after faults faults' seed ops threads pages answer asked generates four = elim generates [
   | inl five ↦ absurd (omega (arith, five, four))
   | inr (status, text, comes, tells) ↦ cut_off words told before after faults faults' text status answer tells
-      (inr (inr (record { seed = seed; ops = ops; threads = threads; pages = pages; asked = asked; comes = comes }))) (gen_not_four seed ops threads pages status text comes) four
+      (inr (inr (inr (record { seed = seed; ops = ops; threads = threads; pages = pages; asked = asked; comes = comes })))) (gen_not_four seed ops threads pages status text comes) four
 ]
 
 -- the sink counted a fault in no other case

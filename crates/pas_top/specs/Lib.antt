@@ -1,5 +1,7 @@
 pub mod Manners
 pub mod Generating
+pub mod Judgements
 pub mod Outputs
+pub mod Checked
 pub mod Generated
 pub mod Outcomes

@@ -1,5 +1,5 @@
 -- What the top call writes, for each status, and why.
-use Rattle.std.specs.Prelude.{ℕ, ◌<◌, ◌≤◌, ◌≡◌, ◌≢◌, ◌⊎◌, List, ◌++◌, Option, Some, Err, length, codes}
+use Rattle.std.specs.Prelude.{ℕ, ◌<◌, ◌≤◌, ◌≡◌, ◌⊎◌, List, ◌++◌, Option, Some, Err, length, codes}
 use Rattle.pas_steps.specs.Lists.{Whole, visible}
 use Rattle.pas_trace.specs.Plans.{IsPlanOf, parsed}
 use Rattle.pas_trace.specs.declared.plan.Plan.{Plan}
@@ -10,13 +10,16 @@ use Rattle.pas_report.specs.Reports.{report_text}
 use Rattle.pas_report.specs.declared.record.Record.{Record}
 use Rattle.pas_answers.specs.Replays.{IsReplay}
 use Rattle.pas_answers.specs.Ways.{Way}
+use Rattle.pas_check.specs.Inputs.{trace_in}
+use Rattle.pas_check.specs.declared.verdict.Verdict.{Verdict}
 use Rattle.pas_io.specs.Inputs.{Takes}
 use Rattle.pas_io.specs.Told.{Rose, Writes, WritesFront}
 use Rattle.pas_telling.specs.Faults.{fault_text}
 use Rattle.pas_top.specs.Generating.{IsSummarized}
+use Rattle.pas_top.specs.Judgements.{IsJudged, verdict_status, verdict_text}
 use Rattle.pas_top.specs.Manners.{way_of}
 use Rattle.pas_words.specs.declared.manner.Manner.{Manner}
-pub use Rattle.pas_words.specs.Words.{texts_of, IsReplaying, IsGen, IsAccepted}
+pub use Rattle.pas_words.specs.Words.{texts_of, IsReplaying, IsChecking, ReadsInput, IsGen, IsAccepted}
 
 -- the most bytes of an input
 abbrev pub most_bytes : ℕ
@@ -33,7 +36,7 @@ pub record IsReplayed (way : Way) (bytes text : List ℕ) : Type 0 where
   pub text_is : text ≡ lines_of records ++ report_text plan.profile (visible whole) (marks_after whole)
 
 abbrev pub usage_text : List ℕ
-usage_text = codes "usage: pas order | pas run | pas gen SEED OPS THREADS PAGES\n"
+usage_text = codes "usage: pas order | pas run | pas check | pas gen SEED OPS THREADS PAGES\n"
 
 abbrev pub too_long_text : List ℕ
 too_long_text = codes "input too long\n"
@@ -57,6 +60,31 @@ pub record IsTooLong (bytes text : List ℕ) : Type 0 where
 abbrev pub ComesTo : Way → List ℕ → ℕ → List ℕ → Type 0
 ComesTo way bytes status text = ((status ≡ 0) × IsTranscript way bytes text) ⊎ ((status ≡ 1) × IsFaulty bytes text) ⊎ ((status ≡ 6) × IsTooLong bytes text)
 
+-- ---- what an input comes to under a check, with the status and the text
+-- 0, 8: the verdict on it; 1: the first fault of its trace; 6: it is too long
+pub record HasVerdict (bytes : List ℕ) (status : ℕ) (text : List ℕ) : Type 0 where
+  pub short : length bytes ≤ most_bytes
+  pub verdict : Verdict
+  pub judged : IsJudged bytes verdict
+  pub status_is : status ≡ verdict_status verdict
+  pub text_is : text ≡ verdict_text verdict
+
+pub record HasFaultyTrace (bytes text : List ℕ) : Type 0 where
+  pub short : length bytes ≤ most_bytes
+  pub fault : TraceFault
+  pub first : parsed (trace_in bytes) ≡ Err fault
+  pub text_is : text ≡ fault_text fault
+
+abbrev pub ChecksTo : List ℕ → ℕ → List ℕ → Type 0
+ChecksTo bytes status text = HasVerdict bytes status text ⊎ ((status ≡ 1) × HasFaultyTrace bytes text) ⊎ ((status ≡ 6) × IsTooLong bytes text)
+
+-- the statuses of a replay of an input, and of a check of one, but for those of memory and of a source or a sink that failed
+abbrev pub IsReplayStatus : ℕ → Type 0
+IsReplayStatus status = (status ≡ 0) ⊎ (status ≡ 1) ⊎ (status ≡ 6)
+
+abbrev pub IsCheckStatus : ℕ → Type 0
+IsCheckStatus status = IsReplayStatus status ⊎ (status ≡ 8)
+
 -- what a generated trace comes to, with the status 0 and the text: the summary of its replay
 abbrev pub GenComesTo : ℕ → ℕ → ℕ → ℕ → ℕ → List ℕ → Type 0
 GenComesTo seed ops threads pages status text = (status ≡ 0) × IsSummarized seed ops threads pages text
@@ -70,26 +98,33 @@ pub record IsGenOutput (words : List (List ℕ)) (status : ℕ) (text : List ℕ
   pub asked : IsGen words seed ops threads pages
   pub comes : GenComesTo seed ops threads pages status text
 
--- the words ask for a replay of the input in a manner, and the status isn't that of the usage; where the source tells the input, it comes to this
+-- the words ask for a replay of the input in a manner; where the source tells the input, it comes to this
 pub record IsReplayOutput (words : List (List ℕ)) (told : Option (List ℕ)) (status : ℕ) (text : List ℕ) : Type 0 where
   pub manner : Manner
   pub asked : IsReplaying manner words
-  pub other : status ≢ 2
+  pub status_is : IsReplayStatus status
   pub comes : (bytes : List ℕ) → told ≡ Some bytes → ComesTo (way_of manner) bytes status text
 
--- what a call with these words writes in full, with its status: the usage where the words are no accepted list; for `order` and `run` what the input comes
--- to; for `gen` what the generated trace comes to
+-- the words ask for a check of the input; where the source tells the input, it comes to this
+pub record IsCheckOutput (words : List (List ℕ)) (told : Option (List ℕ)) (status : ℕ) (text : List ℕ) : Type 0 where
+  pub asked : IsChecking words
+  pub status_is : IsCheckStatus status
+  pub comes : (bytes : List ℕ) → told ≡ Some bytes → ChecksTo bytes status text
+
+-- what a call with these words writes in full, with its status: the usage where the words are no accepted list; for `order`, `run` and `check` what the input
+-- comes to; for `gen` what the generated trace comes to
 abbrev pub IsOutput : List (List ℕ) → Option (List ℕ) → ℕ → List ℕ → Type 0
-IsOutput words told status text = ((IsAccepted words → ⊥) × (status ≡ 2) × (text ≡ usage_text)) ⊎ IsReplayOutput words told status text ⊎ IsGenOutput words status text
+IsOutput words told status text = ((IsAccepted words → ⊥) × (status ≡ 2) × (text ≡ usage_text)) ⊎ IsReplayOutput words told status text ⊎ IsCheckOutput words told status text
+    ⊎ IsGenOutput words status text
 
 -- ---- what each status says. The sink told `before` and tells `after`
 abbrev pub IsWriting : ℕ → Type 0
-IsWriting status = (status ≡ 0) ⊎ (status ≡ 1) ⊎ (status ≡ 2) ⊎ (status ≡ 6)
+IsWriting status = (status ≡ 0) ⊎ (status ≡ 1) ⊎ (status ≡ 2) ⊎ (status ≡ 6) ⊎ (status ≡ 8)
 
 abbrev pub IsStatus : ℕ → Type 0
 IsStatus status = IsWriting status ⊎ (status ≡ 3) ⊎ (status ≡ 4) ⊎ (status ≡ 5)
 
--- 0, 1, 2, 6: the whole text was written
+-- 0, 1, 2, 6, 8: the whole text was written
 pub record IsWritten (words : List (List ℕ)) (told before after : Option (List ℕ)) (status : ℕ) : Type 0 where
   pub text : List ℕ
   pub output : IsOutput words told status text

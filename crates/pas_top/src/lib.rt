@@ -2,15 +2,18 @@
 #![tactic(auto)]
 
 mod generating;
+mod judging;
 pub mod laws;
 pub mod main_call;
 mod opening;
 mod outcome;
+mod remaking;
 
 pub use main_call::pas_main;
 pub use pas_words::manner;
+pub use remaking::Reallocation;
 
-const USAGE: &str = "usage: pas order | pas run | pas gen SEED OPS THREADS PAGES\n";
+const USAGE: &str = "usage: pas order | pas run | pas check | pas gen SEED OPS THREADS PAGES\n";
 
 const TOO_LONG: &str = "input too long\n";
 

@@ -5,10 +5,14 @@ ghost use Rattle.pas_io.specs.Told.{Rose};
 ghost use Rattle.pas_trace.specs.Plans.{IsPlanOf, parsed};
 ghost use Rattle.pas_trace.specs.declared.plan.Plan.{Plan};
 ghost use Rattle.pas_trace.specs.declared.fault.TraceFault.{TraceFault};
+ghost use Rattle.pas_check.specs.Inputs.{trace_in};
+ghost use Rattle.pas_check.specs.declared.verdict.Verdict.{Verdict};
 ghost use Rattle.pas_words.specs.declared.manner.Manner.{Manner};
-ghost use Rattle.pas_top.specs.Outputs.{most_bytes, texts_of, IsReplaying, IsGen, IsAccepted, IsStatus, IsWriting, IsWritten, HasFailed, IsCutOff};
+ghost use Rattle.pas_top.specs.Judgements.{IsJudged, verdict_status};
+ghost use Rattle.pas_top.specs.Outputs.{most_bytes, texts_of, IsReplaying, IsChecking, ReadsInput, IsGen, IsAccepted, IsStatus, IsWriting, IsWritten, HasFailed, IsCutOff};
 
 use crate::generating::generate;
+use crate::judging::check_input;
 use crate::outcome::{outcome_of, tell_outcome};
 use crate::{MOST_BYTES, TOO_LONG, USAGE};
 use pas_io::whole::{Input, Stop, read_all};
@@ -20,20 +24,22 @@ use std::sync::Wait;
 use std::thread::Threads;
 
 /// Replays the trace that the source gives and writes its transcript and report, where the words are the one word `order` or `run`: in the
-/// order of its text, or with each thread's operations in a thread of their own. With the words `gen SEED OPS THREADS PAGES` replays a
+/// order of its text, or with each thread's operations in a thread of their own. With the one word `check` the source gives a trace, then a line that is exactly
+/// `transcript`, and then a transcript of `order`: it is judged, and nothing is replayed. With the words `gen SEED OPS THREADS PAGES` replays a
 /// generated trace in the order of its text and writes its summary; nothing is read.
 ///
 /// The status is
-/// - 0: the transcript and the report, or the summary, were written.
-/// - 1: the input is no trace, and its first fault was written.
+/// - 0: the transcript and the report, or the summary, or the verdict yes were written.
+/// - 1: the input is no trace, or what stands in the place of its trace is none, and the first fault was written.
 /// - 2: the words are others. The usage was written, and nothing was read.
 /// - 3: a read failed, before more bytes were taken than an input may have. Nothing was written.
 /// - 4: a write failed. A first part of what status 0, 1, 2 or 6 writes was written.
 /// - 5: the program was out of memory. Nothing was written.
 /// - 6: the input is longer than 16,777,216 bytes, and that was written.
+/// - 8: the transcript isn't accepted, and the number of the first line that isn't allowed was written.
 ///
-/// A fault of the source brings 3 and one of the sink 4: with any other status its count is as before. With `order` and `run` the source was read to its end
-/// where the status is 0 or 1. At most 16,777,217 bytes are taken from it. Nothing is written before the replay has ended. Linear in the input and in the output.
+/// A fault of the source brings 3 and one of the sink 4: with any other status its count is as before. With `order`, `run` and `check` the source was read to
+/// its end where the status is 0, 1 or 8. At most 16,777,217 bytes are taken from it. Nothing is written before the replay or the check has ended. Linear in the input and in the output.
 pub fn pas_main<R: Threads + Wait + Sync, S: Source, K: Sink>(
     rt: &R,
     alloc: Global,
@@ -54,11 +60,11 @@ pub fn pas_main<R: Threads + Wait + Sync, S: Source, K: Sink>(
     ensures memory { result ≡ 5 → sink.new ≡ sink.old }
     ensures source_sound { result ≢ 3 → S.faults source.new ≡ S.faults source.old }
     ensures sink_sound { result ≢ 4 → K.faults sink.new ≡ K.faults sink.old }
-    ensures ended { (manner : Manner) → IsReplaying manner (texts_of words.now) → (bytes : List ℕ) → S.rest source.old ≡ Some bytes
-        → (result ≡ 0) ⊎ (result ≡ 1) → S.rest source.new ≡ Some [] }
+    ensures ended { ReadsInput (texts_of words.now) → (bytes : List ℕ) → S.rest source.old ≡ Some bytes
+        → (result ≡ 0) ⊎ (result ≡ 1) ⊎ (result ≡ 8) → S.rest source.new ≡ Some [] }
 
     // Each cause brings its status, but for a fault of the source or the sink, and where the program is out of memory.
-    ensures too_long { (manner : Manner) → IsReplaying manner (texts_of words.now) → (bytes : List ℕ) → S.rest source.old ≡ Some bytes → most_bytes < length bytes
+    ensures too_long { ReadsInput (texts_of words.now) → (bytes : List ℕ) → S.rest source.old ≡ Some bytes → most_bytes < length bytes
         → (result ≡ 6) ⊎ (result ≡ 3) ⊎ (result ≡ 4) ⊎ (result ≡ 5) }
     ensures faulty { (manner : Manner) → IsReplaying manner (texts_of words.now) → (bytes : List ℕ) → S.rest source.old ≡ Some bytes → length bytes ≤ most_bytes
         → (fault : TraceFault) → parsed bytes ≡ Err fault → (result ≡ 1) ⊎ (result ≡ 3) ⊎ (result ≡ 4) ⊎ (result ≡ 5) }
@@ -66,9 +72,20 @@ pub fn pas_main<R: Threads + Wait + Sync, S: Source, K: Sink>(
         → (plan : Plan) → IsPlanOf bytes plan
         → (Rose (S.faults source.old) (S.faults source.new) → ⊥) → (Rose (K.faults sink.old) (K.faults sink.new) → ⊥)
         → (result ≡ 0) ⊎ (result ≡ 5) }
+
+    // .. of a check: a fault of the trace, and the verdict on the transcript.
+    ensures mistraced { IsChecking (texts_of words.now) → (bytes : List ℕ) → S.rest source.old ≡ Some bytes → length bytes ≤ most_bytes
+        → (fault : TraceFault) → parsed (trace_in bytes) ≡ Err fault → (result ≡ 1) ⊎ (result ≡ 3) ⊎ (result ≡ 4) ⊎ (result ≡ 5) }
+    ensures judged { IsChecking (texts_of words.now) → (bytes : List ℕ) → S.rest source.old ≡ Some bytes → length bytes ≤ most_bytes
+        → (verdict : Verdict) → IsJudged bytes verdict → (result ≡ verdict_status verdict) ⊎ (result ≡ 3) ⊎ (result ≡ 4) ⊎ (result ≡ 5) }
+    ensures checked { IsChecking (texts_of words.now) → (bytes : List ℕ) → S.rest source.old ≡ Some bytes → length bytes ≤ most_bytes
+        → (plan : Plan) → IsPlanOf (trace_in bytes) plan
+        → (Rose (S.faults source.old) (S.faults source.new) → ⊥) → (Rose (K.faults sink.old) (K.faults sink.new) → ⊥)
+        → (result ≡ 0) ⊎ (result ≡ 8) ⊎ (result ≡ 5) }
 {
     let manner = match call_of(alloc, words) {
         Ok(Call::Replay(manner)) => manner,
+        Ok(Call::Check) => return check_input(alloc, source, sink),
         Ok(Call::Gen(job)) => return generate(alloc, job, sink),
         Err(Misread::Usage) => return tell(sink, USAGE, 2),
         Err(Misread::Memory) => return 5,

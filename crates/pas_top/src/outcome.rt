@@ -10,6 +10,7 @@ ghost use Rattle.pas_top.specs.Manners.{way_of};
 ghost use Rattle.pas_top.specs.Outcomes.{IsOutcome};
 
 use crate::opening::{kit_of, read_for_threads};
+use crate::remaking::Reallocation;
 use pas_io::Sink;
 use pas_profile::NoMemory;
 use pas_replay::{PlainKit, by_one_thread, in_order, is_of_one_thread, records_for};
@@ -130,7 +131,7 @@ fn replay_in_order(alloc: Global, plan: &Plan, out: &mut Records) -> Result<Stat
     ensures { IfOk result (Shows InOrder plan.now (records_in out.new)) }
 {
     let kit = PlainKit::try_new(alloc, plan)?;
-    Ok(in_order(plan, kit, out))
+    Ok(in_order(plan, kit, &Reallocation, out))
 }
 
 /// Replays the plan on threads, with what was made ahead for it, if that was. A plan of one thread has nothing that could be at once, and is
@@ -149,9 +150,9 @@ fn replay_on_threads<R: Threads + Wait + Sync>(
 {
     if is_of_one_thread(plan) {
         let kit = PlainKit::try_new(alloc, plan)?;
-        return Ok((by_one_thread(plan, kit, out), None));
+        return Ok((by_one_thread(plan, kit, &Reallocation, out), None));
     }
     let kit = kit_of(alloc, plan, ahead)?;
-    let (state, rooms) = on_threads_with_rooms(rt, plan, kit, &OpenGate, out);
+    let (state, rooms) = on_threads_with_rooms(rt, plan, kit, &OpenGate, &Reallocation, out);
     Ok((state, Some(rooms)))
 }

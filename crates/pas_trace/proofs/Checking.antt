@@ -1,9 +1,9 @@
 -- The checks by what the reader keeps are those of the items before.
-use Rattle.std.proofs.Common.{◌≡◌, ℕ, ◌+◌, ◌*◌, ◌==◌, nat_lt, nat_le, Bool, true, false, not, ◌||◌, List, ◌∷◌, Option, None, Some, Result, Ok, Err, refl, sym, ap, ◌∙◌, subst, arith}
+use Rattle.std.proofs.Common.{◌≡◌, ℕ, ◌+◌, ◌*◌, ◌==◌, nat_lt, nat_le, Bool, true, false, not, ◌||◌, List, [], ◌∷◌, ◌++◌, Option, None, Some, Result, Ok, Err, refl, sym, ap, ◌∙◌, subst, arith}
 use Rattle.pas_trace.specs.Wishes.{heap_in, sizing_in, name_made, name_freed, holds_of, asking}
 use Rattle.pas_trace.specs.Reasons.{first_failed, is_thread, is_alignment, cost_of, cost_of_size, cost_of_wish, record_bound, few_enough, may_free, checks_of, reason_of, operations_in, is_named, is_named_now, thread_of, checked, kept, line_says, started}
 use Rattle.pas_trace.specs.Items.{item_of_line}
-use Rattle.pas_trace.specs.Told.{owner_in, few_told, told_checks, reason_told, has_owner, has_owner_now, may_free_told, IsChecked, Tells}
+use Rattle.pas_trace.specs.Told.{owner_in, few_told, sizing_told, told_checks, reason_told, has_owner, has_owner_now, may_free_told, IsChecked, Tells}
 use Rattle.pas_trace.specs.declared.fault.Reason.{Reason}
 use Rattle.pas_trace.specs.declared.item.Request.{Request}
 use Rattle.pas_trace.specs.declared.item.Item.{Item}
@@ -12,13 +12,13 @@ use Rattle.pas_trace.specs.declared.item.Wish.{Wish}
 use Rattle.pas_trace.specs.declared.reader.Reader.{Reader}
 
 -- ---- the tables tell what the checks ask
-pub bound-after : (r : Reader) (items : List Item) (i : Item) → Tells r items → r.counts.bound + cost_of r.header i ≡ record_bound r.header (i ∷ items)
-bound-after r items i t = let b : r.counts.bound ≡ record_bound r.header items = t.bound in omega (arith, b)
+pub bound-after : (r : Reader) (items : List Item) (i : Item) → Tells r items → r.counts.bound + cost_of r.header.profile i ≡ record_bound r.header.profile (i ∷ items)
+bound-after r items i t = let b : r.counts.bound ≡ record_bound r.header.profile items = t.bound in omega (arith, b)
 
-few-same : (r : Reader) (items : List Item) (i : Item) → Tells r items → few_told r (cost_of r.header i) ≡ few_enough (operations_in items) (record_bound r.header (i ∷ items))
+few-same : (r : Reader) (items : List Item) (i : Item) → Tells r items → few_told r (cost_of r.header.profile i) ≡ few_enough (operations_in items) (record_bound r.header.profile (i ∷ items))
 few-same r items i t =
     let o : r.counts.operations ≡ operations_in items = t.operations in
-    ap (λ n. few_enough n (r.counts.bound + cost_of r.header i)) o ∙ ap (few_enough (operations_in items)) (bound-after r items i t)
+    ap (λ n. few_enough n (r.counts.bound + cost_of r.header.profile i)) o ∙ ap (few_enough (operations_in items)) (bound-after r items i t)
 
 -- two tests that say the same of each value
 holds-same : {A : Type 0} (o : Option A) (test other : A → Bool) → ((x : A) → test x ≡ other x) → holds_of test o ≡ holds_of other o
@@ -31,9 +31,9 @@ free-same r items t n h =
     let thread : thread_of items n ≡ (owner_in r.names n).thread = (h.names n).thread in
     ap (λ k. (t == k) || not (has_owner_now r n)) (sym thread) ∙ ap (λ b. (t == thread_of items n) || not b) (sym now)
 
-own-same : (r : Reader) (items : List Item) (t : ℕ) (w : Wish) → Tells r items → told_checks r (Operates t w) ≡ checks_of r.header items (Operates t w)
+own-same : (r : Reader) (items : List Item) (t : ℕ) (w : Wish) → Tells r items → told_checks r (Operates t w) ≡ checks_of r.header.profile items (Operates t w)
 own-same r items t w h =
-    let f = r.header in
+    let f = r.header.profile in
     let list : Bool → Bool → Bool → List (Bool × Reason) → List (Bool × Reason) = λ fresh known free few.
     (is_thread f t, Reason.BadThread) ∷ (holds_of (λ h. nat_lt h f.heaps) (heap_in w), Reason.BadHeap) ∷ (holds_of (λ s. nat_le s.size (4096 * f.pages)) (sizing_in w), Reason.BadSize)
     ∷ (holds_of (λ s. is_alignment s.align) (sizing_in w), Reason.BadAlign) ∷ (fresh, Reason.NameTaken) ∷ (known, Reason.NameUnknown) ∷ (free, Reason.TooEarly) ∷ few in
@@ -47,42 +47,45 @@ own-same r items t w h =
     ∙ ap (λ b. list (holds_of (λ n. not (is_named items n)) (name_made w)) (holds_of (is_named items) (name_freed w)) b few) free
     ∙ ap (λ cs. list (holds_of (λ n. not (is_named items n)) (name_made w)) (holds_of (is_named items) (name_freed w)) (holds_of (may_free items t) (name_freed w)) cs) (few-same r items (Operates t w) h)
 
-pub checks-same : (r : Reader) (items : List Item) (i : Item) → Tells r items → told_checks r i ≡ checks_of r.header items i
+pub checks-same : (r : Reader) (items : List Item) (i : Item) → Tells r items → told_checks r i ≡ checks_of r.header.profile items i
 checks-same r items (Operates t w) h = own-same r items t w h
 checks-same r items (Scavenges c) h = few-same r items (Scavenges c) h
 checks-same r items i h = refl
 
 -- ---- what a line says
-pub says-item : (r : Reader) (items : List Item) (line : List ℕ) (i : Item) → Tells r items → Ok i ≡ item_of_line r.started line → first_failed (told_checks r i) ≡ None
-    → (line_says r.header items line ≡ Ok i) × (reason_of r.header items i ≡ None)
+pub says-item : (r : Reader) (items : List Item) (line : List ℕ) (i : Item) → Tells r items → Ok i ≡ item_of_line r.header.version r.started line → first_failed (told_checks r i) ≡ None
+    → (line_says r.header items line ≡ Ok i) × (reason_of r.header.profile items i ≡ None)
 says-item r items line i h e none =
     let s : r.started ≡ started items = h.started in
-    let reason : reason_of r.header items i ≡ None = ap first_failed (sym (checks-same r items i h)) ∙ none in
-    (ap (λ b. checked r.header items (item_of_line b line)) (sym s) ∙ ap (checked r.header items) (sym e) ∙ ap (kept i) reason, reason)
+    let reason : reason_of r.header.profile items i ≡ None = ap first_failed (sym (checks-same r items i h)) ∙ none in
+    (ap (λ b. checked r.header.profile items (item_of_line r.header.version b line)) (sym s) ∙ ap (checked r.header.profile items) (sym e) ∙ ap (kept i) reason, reason)
 
-pub says-reason : (r : Reader) (items : List Item) (line : List ℕ) (i : Item) (why : Reason) → Tells r items → Ok i ≡ item_of_line r.started line → first_failed (told_checks r i) ≡ Some why
+pub says-reason : (r : Reader) (items : List Item) (line : List ℕ) (i : Item) (why : Reason) → Tells r items → Ok i ≡ item_of_line r.header.version r.started line → first_failed (told_checks r i) ≡ Some why
     → line_says r.header items line ≡ Err why
 says-reason r items line i why h e some =
     let s : r.started ≡ started items = h.started in
-    let reason : reason_of r.header items i ≡ Some why = ap first_failed (sym (checks-same r items i h)) ∙ some in
-    ap (λ b. checked r.header items (item_of_line b line)) (sym s) ∙ ap (checked r.header items) (sym e) ∙ ap (kept i) reason
+    let reason : reason_of r.header.profile items i ≡ Some why = ap first_failed (sym (checks-same r items i h)) ∙ some in
+    ap (λ b. checked r.header.profile items (item_of_line r.header.version b line)) (sym s) ∙ ap (checked r.header.profile items) (sym e) ∙ ap (kept i) reason
 
 -- ---- a request that passes its own checks stands by those of every operation
 next : (c : Bool) (r : Reason) (cs : List (Bool × Reason)) (failed : Option Reason) → c ≡ true → first_failed cs ≡ failed → first_failed ((c, r) ∷ cs) ≡ failed
 next true r cs failed e h = h
 next false r cs failed e h = absurd (cc)
 
+passed-then : (cs ds : List (Bool × Reason)) → first_failed cs ≡ None → first_failed (cs ++ ds) ≡ first_failed ds
+passed-then [] ds e = refl
+passed-then ((true, r) ∷ cs) ds e = passed-then cs ds e
+passed-then ((false, r) ∷ cs) ds e = absurd (cc)
+
 pub request-checked : (r : Reader) (t : ℕ) (q : Request) (result : Result ℕ Reason)
-    → is_thread r.header t ≡ true → nat_lt q.heap r.header.heaps ≡ true → nat_le q.size (4096 * r.header.pages) ≡ true → is_alignment q.align ≡ true → not (has_owner r q.name) ≡ true
+    → is_thread r.header.profile t ≡ true → nat_lt q.heap r.header.profile.heaps ≡ true → first_failed (sizing_told r q.size q.align) ≡ None → not (has_owner r q.name) ≡ true
     → IsChecked (first_failed (few_told r (cost_of_size q.size))) (cost_of_size q.size) result → IsChecked (reason_told r t (asking q)) (cost_of_size q.size) result
-request-checked r t q result thread heap size align fresh few =
-    let c4 : List (Bool × Reason) = (true, Reason.NameUnknown) ∷ (true, Reason.TooEarly) ∷ few_told r (cost_of_size q.size) in
-    let c3 : List (Bool × Reason) = (not (has_owner r q.name), Reason.NameTaken) ∷ c4 in
-    let c2 : List (Bool × Reason) = (is_alignment q.align, Reason.BadAlign) ∷ c3 in
-    let c1 : List (Bool × Reason) = (nat_le q.size (4096 * r.header.pages), Reason.BadSize) ∷ c2 in
-    let c0 : List (Bool × Reason) = (nat_lt q.heap r.header.heaps, Reason.BadHeap) ∷ c1 in
+request-checked r t q result thread heap sized fresh few =
+    let f = r.header.profile in
+    let sizing = sizing_told r q.size q.align in
+    let left : List (Bool × Reason) = (not (has_owner r q.name), Reason.NameTaken) ∷ few_told r (cost_of_size q.size) in
     let failed : Option Reason = first_failed (few_told r (cost_of_size q.size)) in
     let same : reason_told r t (asking q) ≡ failed =
-    next (is_thread r.header t) Reason.BadThread c0 failed thread (next (nat_lt q.heap r.header.heaps) Reason.BadHeap c1 failed heap
-    (next (nat_le q.size (4096 * r.header.pages)) Reason.BadSize c2 failed size (next (is_alignment q.align) Reason.BadAlign c3 failed align (next (not (has_owner r q.name)) Reason.NameTaken c4 failed fresh refl)))) in
+    next (is_thread f t) Reason.BadThread ((nat_lt q.heap f.heaps, Reason.BadHeap) ∷ (sizing ++ left)) failed thread (next (nat_lt q.heap f.heaps) Reason.BadHeap (sizing ++ left) failed heap
+    (passed-then sizing left sized ∙ next (not (has_owner r q.name)) Reason.NameTaken (few_told r (cost_of_size q.size)) failed fresh refl)) in
     subst (λ failed. IsChecked failed (cost_of_size q.size) result) (sym same) few

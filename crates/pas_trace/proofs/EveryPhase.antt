@@ -5,7 +5,7 @@ use Rattle.std.proofs.lemmas.Bool.{eqb-true, eq-eqb, false≢true}
 use Rattle.std.proofs.lemmas.List.{append-nil}
 use Rattle.pas_profile.specs.declared.profile.Profile.{Profile}
 use Rattle.pas_trace.specs.Wishes.{name_made, name_freed, is_name}
-use Rattle.pas_trace.specs.Reasons.{is_phase, is_named, is_named_now, may_free, thread_of, reason_of}
+use Rattle.pas_trace.specs.Reasons.{is_phase, is_named, is_named_now, may_free, thread_of, heap_of, reason_of}
 use Rattle.pas_trace.specs.Plans.{IsPlanOf, phases_of, ops_of, what_wished, what_of_chore, add_last, phases_in}
 use Rattle.pas_trace.specs.Asked.{freed_in}
 use Rattle.pas_trace.specs.EveryPlan.{all_ops, is_asked, asked_after, asked_by}
@@ -65,28 +65,28 @@ abbrev asked_in : List (List Op) → List ℕ
 asked_in phases = asked_by [] (all_ops phases)
 
 -- the phases of items end with this one, and each thread frees its own in all of them
-record HasLast (items : List Item) : Type 0 where
+record HasLast (f : Profile) (items : List Item) : Type 0 where
   front : List (List Op)
   last : List Op
-  same : phases_in items ≡ front ++ last ∷ []
+  same : phases_in f items ≡ front ++ last ∷ []
   fronts : FreeTheirOwn [] front
   names : AreNames (asked_by (asked_in front) last) items
   frees : (k : ℕ) → FreesItsOwn k (asked_in front) last
   own : HaveOwn (λ k. own_by k (asked_in front) last) items
 
-wish_frees : (w : Wish) → freed_in (what_wished w) ≡ name_freed w
-wish_frees (Asks n h s a) = refl
-wish_frees w = refl
+wish_frees : (f : Profile) (heaps : ℕ → ℕ) (w : Wish) → freed_in (what_wished f heaps w) ≡ name_freed w
+wish_frees f heaps (Asks n h s a) = refl
+wish_frees f heaps w = refl
 
 chore_frees : (c : Chore) → freed_in (what_of_chore c) ≡ None
 chore_frees (Chore.Tick e) = refl
 chore_frees c = refl
 
-item_frees : (f : Profile) (i : Item) (earlier : List Item) (own : ℕ → List ℕ) → reason_of f earlier i ≡ None → HaveOwn own earlier → (k : ℕ) → FreesItsOwn k (own k) (new_ops i earlier)
+item_frees : (f : Profile) (i : Item) (earlier : List Item) (own : ℕ → List ℕ) → reason_of f earlier i ≡ None → HaveOwn own earlier → (k : ℕ) → FreesItsOwn k (own k) (new_ops f i earlier)
 item_frees f (Operates t w) earlier own passed have k =
     let held = own_passed f earlier t w passed in
     let freed : MatchOption (name_freed w) (Unit {0}) (λ n. is_asked (own t) n ≡ true) = held_both (name_freed w) (is_named earlier) (may_free earlier t) _ (λ n known free. have t n (known, free)) held.known held.free in
-    (λ who. subst (λ o. MatchOption o (Unit {0}) (λ n. is_asked (own k) n ≡ true)) (sym (wish_frees w)) (subst (λ j. MatchOption (name_freed w) (Unit {0}) (λ n. is_asked (own j) n ≡ true)) who freed), tt)
+    (λ who. subst (λ o. MatchOption o (Unit {0}) (λ n. is_asked (own k) n ≡ true)) (sym (wish_frees f (heap_of earlier) w)) (subst (λ j. MatchOption (name_freed w) (Unit {0}) (λ n. is_asked (own j) n ≡ true)) who freed), tt)
 item_frees f (Scavenges c) earlier own passed have k = (λ who. subst (λ o. MatchOption o (Unit {0}) (λ n. is_asked (own k) n ≡ true)) (sym (chore_frees c)) tt, tt)
 item_frees f i earlier own passed have k = tt
 
@@ -96,56 +96,56 @@ either_same true asked n is = is
 either_same false asked n is = is
 
 -- an operation of thread t: of a name that it makes, what another thread may free is no other than before
-own_made : (new mine : Bool) (w : Wish) (n : ℕ) (asked : List ℕ) → is_name (name_made w) n ≡ new → (new ≡ true → mine ≡ true) → (new ≡ false → is_asked asked n ≡ true)
-    → is_asked (if mine then asked_after (what_wished w) asked else asked) n ≡ true
-own_made true true w n asked is own old = asks_for w asked n ∙ ap (λ b. b || is_asked asked n) is
-own_made true false w n asked is own old = absurd (false≢true (own refl))
-own_made false true w n asked is own old = asks_for w asked n ∙ ap (λ b. b || is_asked asked n) is ∙ old refl
-own_made false false w n asked is own old = old refl
+own_made : (f : Profile) (heaps : ℕ → ℕ) (new mine : Bool) (w : Wish) (n : ℕ) (asked : List ℕ) → is_name (name_made w) n ≡ new → (new ≡ true → mine ≡ true) → (new ≡ false → is_asked asked n ≡ true)
+    → is_asked (if mine then asked_after (what_wished f heaps w) asked else asked) n ≡ true
+own_made f heaps true true w n asked is own old = asks_for f heaps w asked n ∙ ap (λ b. b || is_asked asked n) is
+own_made f heaps true false w n asked is own old = absurd (false≢true (own refl))
+own_made f heaps false true w n asked is own old = asks_for f heaps w asked n ∙ ap (λ b. b || is_asked asked n) is ∙ old refl
+own_made f heaps false false w n asked is own old = old refl
 
 only_left : (t : Bool) → t || false ≡ true → t ≡ true
 only_left true is = refl
 only_left false is = absurd (cc)
 
-wish_own : (new named now : Bool) (t thread k : ℕ) (w : Wish) (n : ℕ) (asked : List ℕ) → is_name (name_made w) n ≡ new → new || named ≡ true → ((k == (if new then t else thread)) || not (new || now)) ≡ true
-    → (named ≡ true → ((k == thread) || not now) ≡ true → is_asked asked n ≡ true) → is_asked (if t == k then asked_after (what_wished w) asked else asked) n ≡ true
-wish_own true named now t thread k w n asked is known may old =
-    own_made true (t == k) w n asked is (λ yes. eq-eqb t k (sym (eqb-true k t (only_left (k == t) may)))) (λ no. absurd (cc))
-wish_own false named now t thread k w n asked is known may old = own_made false (t == k) w n asked is (λ yes. absurd (cc)) (λ no. old known may)
+wish_own : (f : Profile) (heaps : ℕ → ℕ) (new named now : Bool) (t thread k : ℕ) (w : Wish) (n : ℕ) (asked : List ℕ) → is_name (name_made w) n ≡ new → new || named ≡ true → ((k == (if new then t else thread)) || not (new || now)) ≡ true
+    → (named ≡ true → ((k == thread) || not now) ≡ true → is_asked asked n ≡ true) → is_asked (if t == k then asked_after (what_wished f heaps w) asked else asked) n ≡ true
+wish_own f heaps true named now t thread k w n asked is known may old =
+    own_made f heaps true (t == k) w n asked is (λ yes. eq-eqb t k (sym (eqb-true k t (only_left (k == t) may)))) (λ no. absurd (cc))
+wish_own f heaps false named now t thread k w n asked is known may old = own_made f heaps false (t == k) w n asked is (λ yes. absurd (cc)) (λ no. old known may)
 
-item_own : (i : Item) (earlier : List Item) (own : ℕ → List ℕ) → is_phase i ≡ false → HaveOwn own earlier → HaveOwn (λ k. own_by k (own k) (new_ops i earlier)) (i ∷ earlier)
-item_own (Operates t w) earlier own other have k n may =
-    wish_own (is_name (name_made w) n) (is_named earlier n) (is_named_now earlier n) t (thread_of earlier n) k w n (own k) refl may.0 may.1 (λ known free. have k n (known, free))
-item_own (Scavenges c) earlier own other have k n may =
+item_own : (f : Profile) (i : Item) (earlier : List Item) (own : ℕ → List ℕ) → is_phase i ≡ false → HaveOwn own earlier → HaveOwn (λ k. own_by k (own k) (new_ops f i earlier)) (i ∷ earlier)
+item_own f (Operates t w) earlier own other have k n may =
+    wish_own f (heap_of earlier) (is_name (name_made w) n) (is_named earlier n) (is_named_now earlier n) t (thread_of earlier n) k w n (own k) refl may.0 may.1 (λ known free. have k n (known, free))
+item_own f (Scavenges c) earlier own other have k n may =
     subst (λ now. is_asked (if 0 == k then now else own k) n ≡ true) (sym (asks_none c (own k))) (either_same (0 == k) (own k) n (have k n may))
-item_own NextPhase earlier own other have k n may = absurd (cc)
-item_own i earlier own other have k n may = have k n may
+item_own f NextPhase earlier own other have k n may = absurd (cc)
+item_own f i earlier own other have k n may = have k n may
 
 -- ---- item by item
-item_behind : (i : Item) (earlier : List Item) (front : List (List Op)) (last : List Op) → is_phase i ≡ false → phases_in earlier ≡ front ++ last ∷ []
-    → phases_in (i ∷ earlier) ≡ front ++ (last ++ new_ops i earlier) ∷ []
-item_behind Blank earlier front last other same = same ∙ ap (λ ops. front ++ ops ∷ []) (sym (append-nil last))
-item_behind (Shares h) earlier front last other same = same ∙ ap (λ ops. front ++ ops ∷ []) (sym (append-nil last))
-item_behind NextPhase earlier front last other same = absurd (cc)
-item_behind i earlier front last other same = ap (add_last (Some _)) same ∙ add_behind _ front last
+item_behind : (f : Profile) (i : Item) (earlier : List Item) (front : List (List Op)) (last : List Op) → is_phase i ≡ false → phases_in f earlier ≡ front ++ last ∷ []
+    → phases_in f (i ∷ earlier) ≡ front ++ (last ++ new_ops f i earlier) ∷ []
+item_behind f Blank earlier front last other same = same ∙ ap (λ ops. front ++ ops ∷ []) (sym (append-nil last))
+item_behind f (Shares h) earlier front last other same = same ∙ ap (λ ops. front ++ ops ∷ []) (sym (append-nil last))
+item_behind f NextPhase earlier front last other same = absurd (cc)
+item_behind f i earlier front last other same = ap (add_last (Some _)) same ∙ add_behind _ front last
 
-after_other : (f : Profile) (i : Item) (earlier : List Item) → is_phase i ≡ false → reason_of f earlier i ≡ None → HasLast earlier → HasLast (i ∷ earlier)
+after_other : (f : Profile) (i : Item) (earlier : List Item) → is_phase i ≡ false → reason_of f earlier i ≡ None → HasLast f earlier → HasLast f (i ∷ earlier)
 after_other f i earlier other passed at =
     let before = asked_in at.front in
     let own : ℕ → List ℕ = λ k. own_by k before at.last in
-    let news = new_ops i earlier in
+    let news = new_ops f i earlier in
     record {
       front = at.front;
       last = at.last ++ news;
-      same = item_behind i earlier at.front at.last other at.same;
+      same = item_behind f i earlier at.front at.last other at.same;
       fronts = at.fronts;
-      names = subst (λ now. AreNames now (i ∷ earlier)) (sym (asked_both before at.last news)) (item_names i earlier (asked_by before at.last) at.names);
+      names = subst (λ now. AreNames now (i ∷ earlier)) (sym (asked_both before at.last news)) (item_names f i earlier (asked_by before at.last) at.names);
       frees = λ k. frees_both k before at.last news (at.frees k) (item_frees f i earlier own passed at.own k);
-      own = λ k n may. subst (λ now. is_asked now n ≡ true) (sym (own_both k before at.last news)) (item_own i earlier own other at.own k n may);
+      own = λ k n may. subst (λ now. is_asked now n ≡ true) (sym (own_both k before at.last news)) (item_own f i earlier own other at.own k n may);
     }
 
-after_phase : (earlier : List Item) → HasLast earlier → HasLast (NextPhase ∷ earlier)
-after_phase earlier at =
+after_phase : (f : Profile) (earlier : List Item) → HasLast f earlier → HasLast f (NextPhase ∷ earlier)
+after_phase f earlier at =
     let asked : asked_by (asked_in at.front) at.last ≡ asked_in (at.front ++ at.last ∷ []) = sym (ap (asked_by []) (all_behind at.front at.last) ∙ asked_both [] (all_ops at.front) at.last) in
     let names : AreNames (asked_in (at.front ++ at.last ∷ [])) earlier = subst (λ now. AreNames now earlier) asked at.names in
     record {
@@ -158,15 +158,15 @@ after_phase earlier at =
       own = λ k n may. names n ∙ may.0;
     }
 
-after_item : (f : Profile) (i : Item) (earlier : List Item) → reason_of f earlier i ≡ None → HasLast earlier → HasLast (i ∷ earlier)
-after_item f NextPhase earlier passed at = after_phase earlier at
+after_item : (f : Profile) (i : Item) (earlier : List Item) → reason_of f earlier i ≡ None → HasLast f earlier → HasLast f (i ∷ earlier)
+after_item f NextPhase earlier passed at = after_phase f earlier at
 after_item f i earlier passed at = after_other f i earlier refl passed at
 
-after_all : (f : Profile) (items : List Item) → AreChecked f items → HasLast items
+after_all : (f : Profile) (items : List Item) → AreChecked f items → HasLast f items
 after_all f [] checked = record { front = []; last = []; same = refl; fronts = tt; names = λ n. refl; frees = λ k. tt; own = λ k n may. may.0 }
 after_all f (i ∷ earlier) checked = after_item f i earlier checked.0.passes (after_all f earlier checked.1)
 
 pub every_phase : {text : List ℕ} {plan : Plan} → IsPlanOf text plan → FreeTheirOwn [] (map ops_of (phases_of plan.phases))
 every_phase {text} {plan} is =
-    let at = after_all is.header is.items (parts_of text is.header is.items is.read).checked in
+    let at = after_all is.header.profile is.items (parts_of text is.header is.items is.read).checked in
     subst (FreeTheirOwn []) (sym (is.phases ∙ at.same)) (frees_last [] at.front at.last at.fronts at.frees)

@@ -32,14 +32,14 @@ bound_at f items k (suc n) lt =
 pub every_plan : {text : List ℕ} {plan : Plan} → IsPlanOf text plan → IsSound text plan
 every_plan {text} {plan} is =
     let all = parts_of text is.header is.items is.read in
-    let f = is.header in
+    let f = is.header.profile in
     let g : Profile = record f { shared = shared_in is.items } in
-    let ops : operations_of plan ≡ ops_in is.items = ap all_ops is.phases in
-    let follow = following f (shared_in is.items) is.items all.checked in
+    let ops : operations_of plan ≡ ops_in f is.items = ap all_ops is.phases in
+    let follow = following f (shared_in is.items) is.items all.valid all.checked in
     let lines = lines_few text in
     let few = all.few in
-    let phases = phases_within is.items in
-    let many : length (phases_of plan.phases) ≡ length (phases_in is.items) = sym (length-map (phases_of plan.phases) ops_of) ∙ ap (λ ps. length ps) is.phases in
+    let phases = phases_within f is.items in
+    let many : length (phases_of plan.phases) ≡ length (phases_in f is.items) = sym (length-map (phases_of plan.phases) ops_of) ∙ ap (λ ps. length ps) is.phases in
     let bound : (k : ℕ) → k < f.threads + 1 → slice_index (bounds_of plan.bounds) k ≡ bound_of f is.items k = λ k lt. ap (λ bs. slice_index bs k) is.bounds ∙ bound_at f is.items k (f.threads + 1) lt in
     let own : (k : ℕ) → own_records plan.profile k (operations_of plan) ≡ own_costs f k is.items = λ k. ap (λ h. own_records h k (operations_of plan)) is.profile ∙ ap (own_records g k) ops ∙ all_own f (shared_in is.items) k is.items in
     let valid = all.valid in
@@ -56,7 +56,7 @@ every_plan {text} {plan} is =
         heaps = valid.heaps;
       });
       operations = subst (λ h. AreSound h [] (operations_of plan)) (sym is.profile) (subst (AreSound g []) (sym ops) follow.sound);
-      names = subst (AreBelow plan.names_limit) (sym ops) (all_below plan.names_limit [] (ops_in is.items) (λ n asked. is.names n (sym (follow.names n) ∙ asked)));
+      names = subst (AreBelow plan.names_limit) (sym ops) (all_below plan.names_limit [] (ops_in f is.items) (λ n asked. is.names n (sym (follow.names n) ∙ asked)));
       phases = omega (arith, many, phases, few, lines);
       count = ap (λ bs. length bs) is.bounds ∙ bounds_count f is.items (f.threads + 1) ∙ ap (λ h. h.threads + 1) (sym is.profile);
       scavenger = bound 0 (omega arith) ∙ sym (bound-first f is.items 0 (own_costs f 0 is.items) refl refl) ∙ omega (arith, own 0);

@@ -5,16 +5,17 @@ use Rattle.std.proofs.lemmas.Bool.{ltb-true}
 use Rattle.pas_trace.specs.Texts.{words_of}
 use Rattle.pas_trace.specs.Numbers.{number_of, address_of_word}
 use Rattle.pas_trace.specs.Asked.{epoch_of}
-use Rattle.pas_trace.specs.Items.{same_bytes, below, trace_name, epoch_word, turn_word, item1, item2, item3, item5, item_of_two, item_of_words, item_of_line}
+use Rattle.pas_trace.specs.Items.{same_bytes, below, trace_name, epoch_word, turn_word, since, has_since, item1, item2, item3, item4, item5, item_of_two, item_of_six, item_by_count, item_of_words, item_of_line}
 use Rattle.pas_trace.specs.declared.fault.Reason.{Reason}
 use Rattle.pas_trace.specs.declared.item.Item.{Item}
 use Rattle.pas_trace.specs.declared.item.Item.TheVariants.{Shares, Operates, Scavenges}
-use Rattle.pas_trace.specs.declared.item.Wish.TheVariants.{Asks, Frees, FreesRaw, Flushes, Stops}
+use Rattle.pas_trace.specs.declared.item.Wish.TheVariants.{Asks, Frees, FreesSized, FreesRaw, FreesRawSized, Remakes, Flushes, Stops}
 use Rattle.pas_trace.specs.declared.plan.Chore.{Chore}
 
 -- a turn has a next one, and epochs are below 2^40
 abbrev pub IsInRange : Item → Type 0
 IsInRange (Operates t (FreesRaw a n)) = n < 2 ^ 40 - 1
+IsInRange (Operates t (FreesRawSized b n s a)) = n < 2 ^ 40 - 1
 IsInRange (Scavenges c) = MatchOption (epoch_of c) (Unit {0}) (λ e. e < 2 ^ 40)
 IsInRange i = Unit {0}
 
@@ -34,10 +35,19 @@ range3 : (make : ℕ → ℕ → ℕ → Item) (a b c : Option ℕ) → ((x y z 
 range3 make None b c all = tt
 range3 make (Some a) b c all = range2 (make a) b c (all a)
 
-range5 : (make : ℕ → ℕ → ℕ → ℕ → ℕ → Item) (a b c d e : Option ℕ) → ((v w x y z : ℕ) → e ≡ Some z → IsInRange (make v w x y z)) → IfOk (item5 make a b c d e) IsInRange
+range4 : (make : ℕ → ℕ → ℕ → ℕ → Item) (a b c d : Option ℕ) → ((w x y z : ℕ) → IsInRange (make w x y z)) → IfOk (item4 make a b c d) IsInRange
+range4 make None b c d all = tt
+range4 make (Some a) b c d all = range3 (make a) b c d (λ x y z is. all a x y z)
+
+-- .. of five by the third
+first_of_three : (make : ℕ → ℕ → ℕ → Item) (a b c : Option ℕ) → ((x y z : ℕ) → a ≡ Some x → IsInRange (make x y z)) → IfOk (item3 make a b c) IsInRange
+first_of_three make None b c all = tt
+first_of_three make (Some a) b c all = range2 (make a) b c (λ y z is. all a y z refl)
+
+range5 : (make : ℕ → ℕ → ℕ → ℕ → ℕ → Item) (a b c d e : Option ℕ) → ((v w x y z : ℕ) → c ≡ Some x → IsInRange (make v w x y z)) → IfOk (item5 make a b c d e) IsInRange
 range5 make None b c d e all = tt
 range5 make (Some a) None c d e all = tt
-range5 make (Some a) (Some b) c d e all = range3 (make a b) c d e (all a b)
+range5 make (Some a) (Some b) c d e all = first_of_three (make a b) c d e (all a b)
 
 kept_lt : (t : Bool) (limit n m : ℕ) → nat_lt m limit ≡ t → (if t then Some m else None) ≡ Some n → n < limit
 kept_lt true limit n m is e = let same : m ≡ n = cc in let lt = ltb-true m limit is in omega (arith, same, lt)
@@ -55,18 +65,27 @@ two_range started w a =
     (if_range (same_bytes w (codes "tick")) _ _ (range1 (λ e. Scavenges (Chore.Tick e)) (epoch_word a) (λ x is. below_lt (2 ^ 40) x (number_of a) is))
     (if_range (same_bytes w (codes "idle")) _ _ (range1 (λ n. Scavenges (Chore.Idle n)) (epoch_word a) (λ x is. below_lt (2 ^ 40) x (number_of a) is)) tt))))
 
-words_range : (started : Bool) (ws : List (List ℕ)) → IfOk (item_of_words started ws) IsInRange
-words_range started [] = tt
-words_range started (w ∷ []) = if_range (same_bytes w (codes "pass")) _ _ tt (if_range (same_bytes w (codes "phase")) _ _ tt tt)
-words_range started (w ∷ a ∷ []) = two_range started w a
-words_range started (w ∷ a ∷ b ∷ []) = if_range (same_bytes w (codes "f")) _ _ (range2 (λ t n. Operates t (Frees n)) (number_of a) (trace_name b) (λ x y is. tt)) tt
-words_range started (w ∷ a ∷ b ∷ c ∷ []) =
-    if_range (same_bytes w (codes "r")) _ _ (range3 (λ t a n. Operates t (FreesRaw a n)) (number_of a) (address_of_word b) (turn_word c) (λ x y z is. below_lt (2 ^ 40 - 1) z (number_of c) is)) tt
-words_range started (w ∷ a ∷ b ∷ c ∷ d ∷ []) = tt
-words_range started (w ∷ a ∷ b ∷ c ∷ d ∷ e ∷ []) =
-    if_range (same_bytes w (codes "a")) _ _ (range5 (λ t n h s a. Operates t (Asks n h s a)) (number_of a) (trace_name b) (number_of c) (number_of d) (number_of e) (λ v w x y z is. tt)) tt
-words_range started (w ∷ a ∷ b ∷ c ∷ d ∷ e ∷ g ∷ more) = tt
+six_range : (w a b c d e : List ℕ) → IfOk (item_of_six w a b c d e) IsInRange
+six_range w a b c d e =
+    if_range (same_bytes w (codes "a")) _ _ (range5 (λ t n h s a. Operates t (Asks n h s a)) (number_of a) (trace_name b) (number_of c) (number_of d) (number_of e) (λ v w x y z is. tt))
+    (if_range (same_bytes w (codes "rs")) _ _ (range5 (λ t b n s a. Operates t (FreesRawSized b n s a)) (number_of a) (address_of_word b) (turn_word c) (number_of d) (number_of e) (λ v w x y z is. below_lt (2 ^ 40 - 1) x (number_of c) is))
+    (if_range (same_bytes w (codes "m")) _ _ (range5 (λ t n o s a. Operates t (Remakes n o s a)) (number_of a) (trace_name b) (trace_name c) (number_of d) (number_of e) (λ v w x y z is. tt)) tt))
 
-pub line_range : (started : Bool) (line : List ℕ) → IfOk (item_of_line started line) IsInRange
-line_range started [] = tt
-line_range started (b ∷ bs) = if_range (b == 35) _ _ tt (words_range started (words_of (b ∷ bs)))
+count_range : (started : Bool) (w : List ℕ) (more : List (List ℕ)) → IfOk (item_by_count started w more) IsInRange
+count_range started w [] = if_range (same_bytes w (codes "pass")) _ _ tt (if_range (same_bytes w (codes "phase")) _ _ tt tt)
+count_range started w (a ∷ []) = two_range started w a
+count_range started w (a ∷ b ∷ []) = if_range (same_bytes w (codes "f")) _ _ (range2 (λ t n. Operates t (Frees n)) (number_of a) (trace_name b) (λ x y is. tt)) tt
+count_range started w (a ∷ b ∷ c ∷ []) =
+    if_range (same_bytes w (codes "r")) _ _ (range3 (λ t a n. Operates t (FreesRaw a n)) (number_of a) (address_of_word b) (turn_word c) (λ x y z is. below_lt (2 ^ 40 - 1) z (number_of c) is)) tt
+count_range started w (a ∷ b ∷ c ∷ d ∷ []) =
+    if_range (same_bytes w (codes "fs")) _ _ (range4 (λ t n s a. Operates t (FreesSized n s a)) (number_of a) (trace_name b) (number_of c) (number_of d) (λ w x y z. tt)) tt
+count_range started w (a ∷ b ∷ c ∷ d ∷ e ∷ []) = six_range w a b c d e
+count_range started w (a ∷ b ∷ c ∷ d ∷ e ∷ g ∷ more) = tt
+
+words_range : (version : ℕ) (started : Bool) (ws : List (List ℕ)) → IfOk (item_of_words version started ws) IsInRange
+words_range version started [] = tt
+words_range version started (w ∷ more) = if_range (has_since version (since w)) _ _ (count_range started w more) tt
+
+pub line_range : (version : ℕ) (started : Bool) (line : List ℕ) → IfOk (item_of_line version started line) IsInRange
+line_range version started [] = tt
+line_range version started (b ∷ bs) = if_range (b == 35) _ _ tt (words_range version started (words_of (b ∷ bs)))

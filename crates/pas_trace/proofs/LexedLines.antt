@@ -1,9 +1,9 @@
 -- Lines that say something by themselves, and what is read of them.
-use Rattle.std.proofs.Common.{◌≡◌, ℕ, ◌+◌, ◌==◌, Bool, true, false, if◌then◌else◌, List, [], ◌∷◌, ◌++◌, OnOk, map, length, Result, Ok, Err, codes, refl, sym, ap, ◌∙◌, arith, append_assoc, length-append}
+use Rattle.std.proofs.Common.{◌≡◌, ℕ, ◌+◌, ◌==◌, Bool, true, false, if◌then◌else◌, List, [], ◌∷◌, ◌++◌, OnOk, map, length, Result, Ok, Err, codes, refl, sym, ap, subst, ◌∙◌, arith, append_assoc, length-append}
 use Rattle.std.proofs.lemmas.List.{map-append}
-use Rattle.pas_profile.specs.declared.profile.Profile.{Profile}
+use Rattle.pas_trace.specs.declared.header.Header.{Header}
 use Rattle.pas_trace.specs.Texts.{lines_of, words_of}
-use Rattle.pas_trace.specs.Items.{same_bytes, item1, item_of_words, item_of_line, plain}
+use Rattle.pas_trace.specs.Items.{same_bytes, since, has_since, item1, item_by_count, item_of_words, item_of_line, plain}
 use Rattle.pas_trace.specs.FirstLines.{FirstSays}
 use Rattle.pas_trace.specs.Reasons.{line_says}
 use Rattle.pas_trace.specs.Plans.{items_from, after_item, line_of_newest}
@@ -24,35 +24,49 @@ shared-anywhere : (is : Bool) (started : Bool) (shares other : Result Item Reaso
 shared-anywhere true started shares other item e = absurd (cc)
 shared-anywhere false started shares other item e = e
 
-words-anywhere : (started : Bool) (words : List (List ℕ)) (item : Item) → item_of_words true words ≡ Ok item → item_of_words started words ≡ Ok item
-words-anywhere started [] item e = e
-words-anywhere started (w ∷ []) item e = e
-words-anywhere started (w ∷ a ∷ []) item e = shared-anywhere (same_bytes w (codes "shared")) started (item1 Shares (plain a)) _ item e
-words-anywhere started (w ∷ a ∷ b ∷ []) item e = e
-words-anywhere started (w ∷ a ∷ b ∷ c ∷ []) item e = e
-words-anywhere started (w ∷ a ∷ b ∷ c ∷ d ∷ []) item e = e
-words-anywhere started (w ∷ a ∷ b ∷ c ∷ d ∷ f ∷ []) item e = e
-words-anywhere started (w ∷ a ∷ b ∷ c ∷ d ∷ f ∷ g ∷ more) item e = e
+count-anywhere : (started : Bool) (w : List ℕ) (more : List (List ℕ)) (item : Item) → item_by_count true w more ≡ Ok item → item_by_count started w more ≡ Ok item
+count-anywhere started w [] item e = e
+count-anywhere started w (a ∷ []) item e = shared-anywhere (same_bytes w (codes "shared")) started (item1 Shares (plain a)) _ item e
+count-anywhere started w (a ∷ b ∷ []) item e = e
+count-anywhere started w (a ∷ b ∷ c ∷ []) item e = e
+count-anywhere started w (a ∷ b ∷ c ∷ d ∷ []) item e = e
+count-anywhere started w (a ∷ b ∷ c ∷ d ∷ f ∷ []) item e = e
+count-anywhere started w (a ∷ b ∷ c ∷ d ∷ f ∷ g ∷ more) item e = e
+
+since-anywhere : (is : Bool) (one other : Result Item Reason) (why : Reason) (item : Item) → (one ≡ Ok item → other ≡ Ok item) → (if is then one else Err why) ≡ Ok item → (if is then other else Err why) ≡ Ok item
+since-anywhere true one other why item h e = h e
+since-anywhere false one other why item h e = absurd (cc)
+
+words-anywhere : (version : ℕ) (started : Bool) (words : List (List ℕ)) (item : Item) → item_of_words version true words ≡ Ok item → item_of_words version started words ≡ Ok item
+words-anywhere version started [] item e = e
+words-anywhere version started (w ∷ more) item e =
+    since-anywhere (has_since version (since w)) (item_by_count true w more) (item_by_count started w more) Reason.BadWord item (count-anywhere started w more item) e
 
 comment-anywhere : (is : Bool) (blank one other : Result Item Reason) (item : Item) → (one ≡ Ok item → other ≡ Ok item) → (if is then blank else one) ≡ Ok item → (if is then blank else other) ≡ Ok item
 comment-anywhere true blank one other item h e = e
 comment-anywhere false blank one other item h e = h e
 
-pub says-anywhere : (started : Bool) (line : List ℕ) (item : Item) → item_of_line true line ≡ Ok item → item_of_line started line ≡ Ok item
-says-anywhere started [] item e = e
-says-anywhere started (b ∷ bs) item e =
-    comment-anywhere (b == 35) _ (item_of_words true (words_of (b ∷ bs))) (item_of_words started (words_of (b ∷ bs))) item (words-anywhere started (words_of (b ∷ bs)) item) e
+pub says-anywhere : (version : ℕ) (started : Bool) (line : List ℕ) (item : Item) → item_of_line version true line ≡ Ok item → item_of_line version started line ≡ Ok item
+says-anywhere version started [] item e = e
+says-anywhere version started (b ∷ bs) item e =
+    comment-anywhere (b == 35) _ (item_of_words version true (words_of (b ∷ bs))) (item_of_words version started (words_of (b ∷ bs))) item (words-anywhere version started (words_of (b ∷ bs)) item) e
 
 -- ---- lines are taken apart, one after another
-pub lexed-none : (text : List ℕ) → AreLexed text [] text
-lexed-none text = record { lines = []; cut = refl; say = λ started. refl; few = omega arith }
+pub lexed-none : (version : ℕ) (text : List ℕ) → AreLexed version text [] text
+lexed-none version text = record { lines = []; cut = refl; say = λ started. refl; few = omega arith }
 
-pub lexed-more : (text left after : List ℕ) (items : List Item) (item : Item) → AreLexed text items left → FirstSays left item after → AreLexed text (items ++ item ∷ []) after
-lexed-more text left after items item h f =
+-- readers of one header lex alike
+pub lexed-now : (old now : Reader) (text : List ℕ) (items others : List Item) (left : List ℕ) → now.header ≡ old.header → items ≡ others → AreLexed old.header.version text items left
+    → AreLexed now.header.version text others left
+lexed-now old now text items others left same is lexed =
+    subst (λ (h : Header). AreLexed h.version text others left) (sym same) (subst (λ (xs : List Item). AreLexed old.header.version text xs left) is lexed)
+
+pub lexed-more : (version : ℕ) (text left after : List ℕ) (items : List Item) (item : Item) → AreLexed version text items left → FirstSays version left item after → AreLexed version text (items ++ item ∷ []) after
+lexed-more version text left after items item h f =
     record {
       lines = h.lines ++ f.line ∷ [];
       cut = h.cut ∙ ap (λ ls. h.lines ++ ls) f.cut ∙ sym (append_assoc h.lines (f.line ∷ []) (lines_of after));
-      say = λ started. map-append (item_of_line started) h.lines (f.line ∷ []) ∙ ap (λ rs. rs ++ item_of_line started f.line ∷ []) (h.say started)
+      say = λ started. map-append (item_of_line version started) h.lines (f.line ∷ []) ∙ ap (λ rs. rs ++ item_of_line version started f.line ∷ []) (h.say started)
           ∙ ap (λ (r : Result Item Reason). map Ok items ++ r ∷ []) (f.says started) ∙ sym (map-append Ok items (item ∷ []));
       few = let long = length-append items (item ∷ []) in omega (arith, long, h.few, f.shorter);
     }
@@ -62,47 +76,50 @@ lexed-more text left after items item h f =
 pub record Further (old : Reader) (start : List Item) (lines : List (List ℕ)) (now : Reader) (items : List Item) : Type 0 where
   pub left : List (List ℕ)
   pub far : SoFar old start lines now left
-  pub say : Say left items
+  pub say : Say old.header.version left items
 
-record FirstOf (left : List (List ℕ)) (item : Item) (items : List Item) : Type 0 where
+record FirstOf (version : ℕ) (left : List (List ℕ)) (item : Item) (items : List Item) : Type 0 where
   line : List ℕ
   rest : List (List ℕ)
   is : left ≡ line ∷ rest
-  says : (started : Bool) → item_of_line started line ≡ Ok item
-  say : Say rest items
+  says : (started : Bool) → item_of_line version started line ≡ Ok item
+  say : Say version rest items
 
-first-of : (left : List (List ℕ)) (item : Item) (items : List Item) → Say left (item ∷ items) → FirstOf left item items
-first-of [] item items say = let e = say true in absurd (cc)
-first-of (line ∷ rest) item items say = record { line = line; rest = rest; is = refl; says = λ started. let e = say started in cc; say = λ started. let e = say started in cc }
+first-of : (version : ℕ) (left : List (List ℕ)) (item : Item) (items : List Item) → Say version left (item ∷ items) → FirstOf version left item items
+first-of version [] item items say = let e = say true in absurd (cc)
+first-of version (line ∷ rest) item items say = record { line = line; rest = rest; is = refl; says = λ started. let e = say started in cc; say = λ started. let e = say started in cc }
 
 -- the item was taken, or has this fault, whichever line it stands on
 abbrev pub Takes : Reader → Item → Reader → Result (Unit {0}) ReadFault → Type 0
-Takes now item new result = (told : List Item) (line : List ℕ) → Tells now told → item_of_line now.started line ≡ Ok item → IsTaken now told line new result
+Takes now item new result = (told : List Item) (line : List ℕ) → Tells now told → item_of_line now.header.version now.started line ≡ Ok item → IsTaken now told line new result
+
+said-now : (old now : Reader) → now.header ≡ old.header → (line : List ℕ) (item : Item) → item_of_line old.header.version now.started line ≡ Ok item → item_of_line now.header.version now.started line ≡ Ok item
+said-now old now same line item says = subst (λ (h : Header). item_of_line h.version now.started line ≡ Ok item) (sym same) says
 
 pub further-more : (old now new : Reader) (start : List Item) (lines : List (List ℕ)) (item : Item) (items : List Item) → Further old start lines now (item ∷ items) → Takes now item new (Ok tt) → Further old start lines new items
 further-more old now new start lines item items h takes =
-    let f = first-of h.left item items h.say in
+    let f = first-of old.header.version h.left item items h.say in
     let far = left-is old now start lines h.left (f.line ∷ f.rest) f.is h.far in
-    record { left = f.rest; far = after-taken old now new start lines f.line f.rest far (takes far.items f.line far.tells (f.says now.started)); say = f.say }
+    record { left = f.rest; far = after-taken old now new start lines f.line f.rest far (takes far.items f.line far.tells (said-now old now far.header f.line item (f.says now.started))); say = f.say }
 
 pub further-line : (old now new : Reader) (start : List Item) (lines : List (List ℕ)) (item : Item) (items : List Item) → Further old start lines now (item ∷ items) → Takes now item new (Ok tt) → new.line ≡ now.line + 1
 further-line old now new start lines item items h takes =
-    let f = first-of h.left item items h.say in
-    let t = takes h.far.items f.line h.far.tells (f.says now.started) in
+    let f = first-of old.header.version h.left item items h.say in
+    let t = takes h.far.items f.line h.far.tells (said-now old now h.far.header f.line item (f.says now.started)) in
     t.4
 
 pub further-fault : (old now new : Reader) (start : List Item) (lines : List (List ℕ)) (item : Item) (items : List Item) (fault : ReadFault) → Further old start lines now (item ∷ items) → Takes now item new (Err fault) → AreTaken old start lines new (Err fault)
 further-fault old now new start lines item items fault h takes =
-    let f = first-of h.left item items h.say in
+    let f = first-of old.header.version h.left item items h.say in
     let far = left-is old now start lines h.left (f.line ∷ f.rest) f.is h.far in
-    taken-fault old now new start lines f.line f.rest fault far (takes far.items f.line far.tells (f.says now.started))
+    taken-fault old now new start lines f.line f.rest fault far (takes far.items f.line far.tells (said-now old now far.header f.line item (f.says now.started)))
 
-none-left : (left : List (List ℕ)) → Say left [] → left ≡ []
-none-left [] say = refl
-none-left (line ∷ left) say = let e = say true in absurd (cc)
+none-left : (version : ℕ) (left : List (List ℕ)) → Say version left [] → left ≡ []
+none-left version [] say = refl
+none-left version (line ∷ left) say = let e = say true in absurd (cc)
 
 pub further-end : (old now : Reader) (start : List Item) (lines : List (List ℕ)) → Further old start lines now [] → AreTaken old start lines now (Ok tt)
-further-end old now start lines h = at-end old now start lines h.left h.far (none-left h.left h.say)
+further-end old now start lines h = at-end old now start lines h.left h.far (none-left old.header.version h.left h.say)
 
 -- ---- lines in front of others
 after-more : (n : ℕ) (says : Result Item Reason) (some more : Item → Result (List Item) TraceFault) (all : List Item) (result : Result (List Item) TraceFault)
@@ -110,7 +127,7 @@ after-more : (n : ℕ) (says : Result Item Reason) (some more : Item → Result 
 after-more n (Ok i) some more all result h e = h i e
 after-more n (Err r) some more all result h e = absurd (cc)
 
-items-more : (f : Profile) (told : List Item) (xs ys : List (List ℕ)) (all : List Item) → items_from f (line_of_newest told + 1) told xs ≡ Ok all
+items-more : (f : Header) (told : List Item) (xs ys : List (List ℕ)) (all : List Item) → items_from f (line_of_newest told + 1) told xs ≡ Ok all
     → items_from f (line_of_newest told + 1) told (xs ++ ys) ≡ items_from f (line_of_newest all + 1) all ys
 items-more f told [] ys all e = let same : told ≡ all = cc in ap (λ (is : List Item). items_from f (line_of_newest is + 1) is ys) same
 items-more f told (x ∷ xs) ys all e =
@@ -121,7 +138,7 @@ after-fault : (n : ℕ) (says : Result Item Reason) (some more : Item → Result
 after-fault n (Ok i) some more fault h e = h i e
 after-fault n (Err r) some more fault h e = e
 
-items-fault : (f : Profile) (n : ℕ) (told : List Item) (xs ys : List (List ℕ)) (fault : TraceFault) → items_from f n told xs ≡ Err fault → items_from f n told (xs ++ ys) ≡ Err fault
+items-fault : (f : Header) (n : ℕ) (told : List Item) (xs ys : List (List ℕ)) (fault : TraceFault) → items_from f n told xs ≡ Err fault → items_from f n told (xs ++ ys) ≡ Err fault
 items-fault f n told [] ys fault e = absurd (cc)
 items-fault f n told (x ∷ xs) ys fault e = after-fault n (line_says f told x) _ _ fault (λ i. items-fault f (n + 1) (i ∷ told) xs ys fault) e
 
@@ -132,7 +149,7 @@ after-lines old now new start lines xs ys far t =
     let after = t.2 in
     let line' : new.line ≡ line_of_newest t.0 = after.line in
     let taken : items_from old.header (line_of_newest far.items + 1) far.items xs ≡ Ok t.0 =
-    ap (λ n. items_from old.header (n + 1) far.items xs) (sym line) ∙ ap (λ (f : Profile). items_from f (now.line + 1) far.items xs) (sym far.header) ∙ t.1 in
+    ap (λ n. items_from old.header (n + 1) far.items xs) (sym line) ∙ ap (λ (f : Header). items_from f (now.line + 1) far.items xs) (sym far.header) ∙ t.1 in
     record {
       items = t.0;
       tells = t.2;
@@ -142,27 +159,27 @@ after-lines old now new start lines xs ys far t =
 
 pub lines-fault : (old now new : Reader) (start : List Item) (lines xs ys : List (List ℕ)) (fault : ReadFault) (far : SoFar old start lines now (xs ++ ys)) → AreTaken now far.items xs new (Err fault) → AreTaken old start lines new (Err fault)
 lines-fault old now new start lines xs ys (Trace fault) far t =
-    far.same ∙ items-fault old.header (now.line + 1) far.items xs ys fault (ap (λ (f : Profile). items_from f (now.line + 1) far.items xs) (sym far.header) ∙ t)
+    far.same ∙ items-fault old.header (now.line + 1) far.items xs ys fault (ap (λ (f : Header). items_from f (now.line + 1) far.items xs) (sym far.header) ∙ t)
 lines-fault old now new start lines xs ys NoMemory far t = tt
 
 -- .. and those that are left
 pub all-read : (old now new : Reader) (start : List Item) (lines left : List (List ℕ)) (result : Result (Unit {0}) ReadFault) (far : SoFar old start lines now left) → AreTaken now far.items left new result → AreTaken old start lines new result
-all-read old now new start lines left (Ok done) far t = (t.0, far.same ∙ ap (λ (f : Profile). items_from f (now.line + 1) far.items left) (sym far.header) ∙ t.1, t.2, t.3 ∙ far.header)
-all-read old now new start lines left (Err (Trace fault)) far t = far.same ∙ ap (λ (f : Profile). items_from f (now.line + 1) far.items left) (sym far.header) ∙ t
+all-read old now new start lines left (Ok done) far t = (t.0, far.same ∙ ap (λ (f : Header). items_from f (now.line + 1) far.items left) (sym far.header) ∙ t.1, t.2, t.3 ∙ far.header)
+all-read old now new start lines left (Err (Trace fault)) far t = far.same ∙ ap (λ (f : Header). items_from f (now.line + 1) far.items left) (sym far.header) ∙ t
 all-read old now new start lines left (Err NoMemory) far t = tt
 
 -- ---- a text of which some lines were taken apart
-pub lexed-far : (old now : Reader) (start : List Item) (text : List ℕ) (items : List Item) (left : List ℕ) → (lexed : AreLexed text items left) → Tells old start → AreTaken old start lexed.lines now (Ok tt)
+pub lexed-far : (old now : Reader) (start : List Item) (text : List ℕ) (items : List Item) (left : List ℕ) → (lexed : AreLexed old.header.version text items left) → Tells old start → AreTaken old start lexed.lines now (Ok tt)
     → SoFar old start (lines_of text) now (lines_of left)
 lexed-far old now start text items left lexed t taken =
     after-lines old old now start (lines_of text) lexed.lines (lines_of left) (left-is old old start (lines_of text) (lines_of text) (lexed.lines ++ lines_of left) lexed.cut (at-first old start (lines_of text) t)) taken
 
-pub lexed-read : (old now new : Reader) (start : List Item) (text : List ℕ) (items : List Item) (left : List ℕ) (result : Result (Unit {0}) ReadFault) → (lexed : AreLexed text items left) → Tells old start
+pub lexed-read : (old now new : Reader) (start : List Item) (text : List ℕ) (items : List Item) (left : List ℕ) (result : Result (Unit {0}) ReadFault) → (lexed : AreLexed old.header.version text items left) → Tells old start
     → AreTaken old start lexed.lines now (Ok tt) → ((told : List Item) → Tells now told → IsRead now told left new result) → IsRead old start text new result
 lexed-read old now new start text items left result lexed t taken read =
     let far = lexed-far old now start text items left lexed t taken in all-read old now new start (lines_of text) (lines_of left) result far (read far.items far.tells)
 
-pub lexed-fault : (old new : Reader) (start : List Item) (text : List ℕ) (items : List Item) (left : List ℕ) (fault : ReadFault) → (lexed : AreLexed text items left) → Tells old start
+pub lexed-fault : (old new : Reader) (start : List Item) (text : List ℕ) (items : List Item) (left : List ℕ) (fault : ReadFault) → (lexed : AreLexed old.header.version text items left) → Tells old start
     → AreTaken old start lexed.lines new (Err fault) → IsRead old start text new (Err fault)
 lexed-fault old new start text items left fault lexed t taken =
     lines-fault old old new start (lines_of text) lexed.lines (lines_of left) fault (left-is old old start (lines_of text) (lines_of text) (lexed.lines ++ lines_of left) lexed.cut (at-first old start (lines_of text) t)) taken

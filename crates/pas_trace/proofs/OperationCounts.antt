@@ -13,21 +13,21 @@ use Rattle.pas_trace.proofs.ParsedItems.{AreChecked, parts_of}
 use Rattle.pas_trace.proofs.PassedChecks.{counts_within}
 
 -- ---- the phases have an operation for each item that is one
-item_count : (i : Item) (earlier : List Item) → length (new_ops i earlier) ≡ (if is_operation i then 1 else 0)
-item_count Blank earlier = refl
-item_count (Shares h) earlier = refl
-item_count NextPhase earlier = refl
-item_count i earlier = refl
+item_count : (f : Profile) (i : Item) (earlier : List Item) → length (new_ops f i earlier) ≡ (if is_operation i then 1 else 0)
+item_count f Blank earlier = refl
+item_count f (Shares h) earlier = refl
+item_count f NextPhase earlier = refl
+item_count f i earlier = refl
 
 count_more : (t : Bool) (n : ℕ) → n + (if t then 1 else 0) ≡ (if t then n + 1 else n)
 count_more true n = refl
 count_more false n = omega arith
 
-all_counted : (items : List Item) → length (ops_in items) ≡ operations_in items
-all_counted [] = refl
-all_counted (i ∷ earlier) =
-    ap (λ (ops : List Op). length ops) (ops_next i earlier)
-    ∙ omega (arith, length-append (ops_in earlier) (new_ops i earlier), item_count i earlier, all_counted earlier) ∙ count_more (is_operation i) (operations_in earlier)
+all_counted : (f : Profile) (items : List Item) → length (ops_in f items) ≡ operations_in items
+all_counted f [] = refl
+all_counted f (i ∷ earlier) =
+    ap (λ (ops : List Op). length ops) (ops_next f i earlier)
+    ∙ omega (arith, length-append (ops_in f earlier) (new_ops f i earlier), item_count f i earlier, all_counted f earlier) ∙ count_more (is_operation i) (operations_in earlier)
 
 -- ---- the check of each is that fewer than 1,000,000 stood before it
 one_more : (t : Bool) (n : ℕ) → n ≤ 1000000 → (t ≡ true → n < 1000000) → (if t then n + 1 else n) ≤ 1000000
@@ -41,7 +41,8 @@ few_items f (i ∷ earlier) checked = one_more (is_operation i) (operations_in e
 -- Every plan has at most 1,000,000 operations.
 pub few_operations : {text : List ℕ} {plan : Plan} → IsPlanOf text plan → length (operations_of plan) ≤ 1000000
 few_operations {text} {plan} is =
-    let few = few_items is.header is.items (parts_of text is.header is.items is.read).checked in
-    let same : operations_of plan ≡ ops_in is.items = ap all_ops is.phases in
-    let count : length (operations_of plan) ≡ operations_in is.items = ap (λ (ops : List Op). length ops) same ∙ all_counted is.items in
+    let f = is.header.profile in
+    let few = few_items f is.items (parts_of text is.header is.items is.read).checked in
+    let same : operations_of plan ≡ ops_in f is.items = ap all_ops is.phases in
+    let count : length (operations_of plan) ≡ operations_in is.items = ap (λ (ops : List Op). length ops) same ∙ all_counted f is.items in
     omega (arith, few, count)

@@ -3,6 +3,7 @@ use Rattle.std.proofs.Common.{◌≡◌, ℕ, ◌+◌, ◌≤◌, List, [], ◌�
 use Rattle.std.specs.Prelude.{IfOk}
 use Rattle.pas_profile.specs.Profiles.{IsValid}
 use Rattle.pas_profile.specs.declared.profile.Profile.{Profile}
+use Rattle.pas_trace.specs.declared.header.Header.{Header}
 use Rattle.pas_trace.specs.Texts.{lines_of}
 use Rattle.pas_trace.specs.Items.{item_of_line}
 use Rattle.pas_trace.specs.Reasons.{started, reason_of, kept, checked, line_says, header_of}
@@ -36,49 +37,49 @@ record AreRead (f : Profile) (items : List Item) (most : ℕ) : Type 0 where
   checked : AreChecked f items
   few : length items ≤ most
 
-next_read : (f : Profile) (number : ℕ) (earlier items : List Item) (line : List ℕ) (lines : List (List ℕ)) (r : Result Item Reason) → line_says f earlier line ≡ r
-    → after_item number r (λ i. items_from f (number + 1) (i ∷ earlier) lines) ≡ Ok items
-    → ((i : Item) → AreChecked f (i ∷ earlier) → items_from f (number + 1) (i ∷ earlier) lines ≡ Ok items → AreRead f items (length (i ∷ earlier) + length lines)) → AreChecked f earlier
-    → AreRead f items (length earlier + length (line ∷ lines))
-next_read f number earlier items line lines (Err r) is e more before = absurd (cc)
-next_read f number earlier items line lines (Ok i) is e more before =
-    let rest = more i (passed f earlier (item_of_line (started earlier) line) i (line_range (started earlier) line) is, before) e in
+next_read : (h : Header) (number : ℕ) (earlier items : List Item) (line : List ℕ) (lines : List (List ℕ)) (r : Result Item Reason) → line_says h earlier line ≡ r
+    → after_item number r (λ i. items_from h (number + 1) (i ∷ earlier) lines) ≡ Ok items
+    → ((i : Item) → AreChecked h.profile (i ∷ earlier) → items_from h (number + 1) (i ∷ earlier) lines ≡ Ok items → AreRead h.profile items (length (i ∷ earlier) + length lines)) → AreChecked h.profile earlier
+    → AreRead h.profile items (length earlier + length (line ∷ lines))
+next_read h number earlier items line lines (Err r) is e more before = absurd (cc)
+next_read h number earlier items line lines (Ok i) is e more before =
+    let rest = more i (passed h.profile earlier (item_of_line h.version (started earlier) line) i (line_range h.version (started earlier) line) is, before) e in
     let few = rest.few in
     record { checked = rest.checked; few = omega (arith, few) }
 
-all_read : (f : Profile) (number : ℕ) (earlier items : List Item) (lines : List (List ℕ)) → AreChecked f earlier → items_from f number earlier lines ≡ Ok items → AreRead f items (length earlier + length lines)
-all_read f number earlier items [] before e = record { checked = subst (AreChecked f) (ok_is e) before; few = let n = ap (λ is. length is) (ok_is e) in omega (arith, n) }
-all_read f number earlier items (line ∷ lines) before e =
-    next_read f number earlier items line lines (line_says f earlier line) refl e (λ i next rest. all_read f (number + 1) (i ∷ earlier) items lines next rest) before
+all_read : (h : Header) (number : ℕ) (earlier items : List Item) (lines : List (List ℕ)) → AreChecked h.profile earlier → items_from h number earlier lines ≡ Ok items → AreRead h.profile items (length earlier + length lines)
+all_read h number earlier items [] before e = record { checked = subst (AreChecked h.profile) (ok_is e) before; few = let n = ap (λ is. length is) (ok_is e) in omega (arith, n) }
+all_read h number earlier items (line ∷ lines) before e =
+    next_read h number earlier items line lines (line_says h earlier line) refl e (λ i next rest. all_read h (number + 1) (i ∷ earlier) items lines next rest) before
 
 -- ---- the whole text
-abbrev parts : Profile → List Item → Parsed
+abbrev parts : Header → List Item → Parsed
 parts header items = record { header = header; items = items }
 
-pub record AreParts (header : Profile) (items : List Item) (lines : ℕ) : Type 0 where
-  pub valid : IsValid header
-  pub checked : AreChecked header items
+pub record AreParts (header : Header) (items : List Item) (lines : ℕ) : Type 0 where
+  pub valid : IsValid header.profile
+  pub checked : AreChecked header.profile items
   pub few : length items + 1 ≤ lines
 
-of_items : (f header : Profile) (items : List Item) (lines : List (List ℕ)) (r : Result (List Item) TraceFault) → IsValid f → items_from f 2 [] lines ≡ r → with_items f r ≡ Ok (parts header items) → AreParts header items (length lines + 1)
+of_items : (f header : Header) (items : List Item) (lines : List (List ℕ)) (r : Result (List Item) TraceFault) → IsValid f.profile → items_from f 2 [] lines ≡ r → with_items f r ≡ Ok (parts header items) → AreParts header items (length lines + 1)
 of_items f header items lines (Err fault) valid is e = absurd (cc)
 of_items f header items lines (Ok js) valid is e =
     let same = ok_is e in
     let header_is : f ≡ header = ap (λ p. p.header) same in
     let read = all_read f 2 [] items lines tt (is ∙ ap (λ p. Ok p.items) same) in
     let few = read.few in
-    record { valid = subst IsValid header_is valid; checked = subst (λ g. AreChecked g items) header_is read.checked; few = omega (arith, few) }
+    record { valid = subst (λ (g : Header). IsValid g.profile) header_is valid; checked = subst (λ (g : Header). AreChecked g.profile items) header_is read.checked; few = omega (arith, few) }
 
-of_header : (line : List ℕ) (o : Option Profile) (header : Profile) (items : List Item) (lines : List (List ℕ)) → header_of line ≡ o → with_header o lines ≡ Ok (parts header items) → AreParts header items (length lines + 1)
+of_header : (line : List ℕ) (o : Option Header) (header : Header) (items : List Item) (lines : List (List ℕ)) → header_of line ≡ o → with_header o lines ≡ Ok (parts header items) → AreParts header items (length lines + 1)
 of_header line None header items lines is e = absurd (cc)
 of_header line (Some f) header items lines is e = of_items f header items lines (items_from f 2 [] lines) (header_valid line f is) refl e
 
-of_lines : (lines : List (List ℕ)) (header : Profile) (items : List Item) → parsed_lines lines ≡ Ok (parts header items) → AreParts header items (length lines)
+of_lines : (lines : List (List ℕ)) (header : Header) (items : List Item) → parsed_lines lines ≡ Ok (parts header items) → AreParts header items (length lines)
 of_lines [] header items e = absurd (cc)
 of_lines (line ∷ lines) header items e =
     let p = of_header line (header_of line) header items lines refl e in
     let few = p.few in
     record { valid = p.valid; checked = p.checked; few = omega (arith, few) }
 
-pub parts_of : (text : List ℕ) (header : Profile) (items : List Item) → parsed text ≡ Ok (parts header items) → AreParts header items (length (lines_of text))
+pub parts_of : (text : List ℕ) (header : Header) (items : List Item) → parsed text ≡ Ok (parts header items) → AreParts header items (length (lines_of text))
 parts_of text header items e = of_lines (lines_of text) header items e

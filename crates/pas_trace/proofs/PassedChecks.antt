@@ -5,7 +5,7 @@ use Rattle.std.proofs.lemmas.Bool.{ltb-true, leb-true, eqb-true, and_parts}
 use Rattle.pas_profile.specs.Classes.{IsAlignment}
 use Rattle.pas_profile.specs.Profiles.{IsValid}
 use Rattle.pas_profile.specs.declared.profile.Profile.{Profile}
-use Rattle.pas_trace.specs.Wishes.{Sizing, heap_in, sizing_in, name_made, name_freed, holds_of, IsFit}
+use Rattle.pas_trace.specs.Wishes.{Sizing, heap_in, sizing_in, name_made, name_freed, holds_of, IsFit, IsFitSizing}
 use Rattle.pas_trace.specs.Reasons.{first_failed, is_thread, is_alignment, record_bound, few_enough, may_free, checks_of, reason_of, operations_in, is_operation, is_named, actor_of}
 use Rattle.pas_trace.specs.EveryPlan.{IsThread}
 use Rattle.pas_trace.specs.declared.fault.Reason.{Reason}
@@ -93,15 +93,14 @@ held_both (Some x) test other P all a b = all x a b
 small_heap : (f : Profile) → IsValid f → (h : ℕ) → nat_lt h f.heaps ≡ true → h < 2 ^ 8
 small_heap f valid h held = let most = valid.heaps in let lt = ltb-true h f.heaps held in omega (arith, most, lt)
 
-small_sizing : (f : Profile) → IsValid f → (s : Sizing) → nat_le s.size (4096 * f.pages) ≡ true → is_alignment s.align ≡ true → (s.size < 2 ^ 32) × (s.align < 2 ^ 32)
-small_sizing f valid s size align =
+fit_sizing : (f : Profile) → IsValid f → (s : Sizing) → nat_le s.size (4096 * f.pages) ≡ true → is_alignment s.align ≡ true → IsFitSizing f s
+fit_sizing f valid s size align =
     let most = valid.pages in
     let le = leb-true s.size (4096 * f.pages) size in
-    let few = (aligns s.align align).1 in
-    (omega (arith, most, le), omega (arith, few))
+    record { small = omega (arith, most, le); within = omega (arith, le); aligned = aligns s.align align }
 
-pub all_fit : (f : Profile) (items : List Item) (t : ℕ) (w : Wish) → IsValid f → OwnPassed f items t w → IsFit w
+pub all_fit : (f : Profile) (items : List Item) (t : ℕ) (w : Wish) → IsValid f → OwnPassed f items t w → IsFit f w
 all_fit f items t w valid p = (
   held_both (heap_in w) (λ h. nat_lt h f.heaps) (λ h. nat_lt h f.heaps) _ (λ h held again. small_heap f valid h held) p.heap p.heap,
-  held_both (sizing_in w) (λ s. nat_le s.size (4096 * f.pages)) (λ s. is_alignment s.align) _ (small_sizing f valid) p.size p.align,
+  held_both (sizing_in w) (λ s. nat_le s.size (4096 * f.pages)) (λ s. is_alignment s.align) _ (fit_sizing f valid) p.size p.align,
 )

@@ -1,6 +1,6 @@
 -- The lines that are read, and those that are left.
 use Rattle.std.proofs.Common.{◌≡◌, ℕ, ◌+◌, List, [], ◌∷◌, Some, Result, Ok, Err, MatchResult, refl, sym, ap, subst, ◌∙◌}
-use Rattle.pas_profile.specs.declared.profile.Profile.{Profile}
+use Rattle.pas_trace.specs.declared.header.Header.{Header}
 use Rattle.pas_trace.specs.Texts.{lines_of}
 use Rattle.pas_trace.specs.Reasons.{line_says, header_of}
 use Rattle.pas_trace.specs.Plans.{parsed, parsed_lines, with_header, with_items, items_from, after_item, IsPlanOf, IsReading}
@@ -24,7 +24,7 @@ at-first r start lines t = record { items = start; tells = t; header = refl; sam
 pub after-taken : (old now new : Reader) (start : List Item) (lines : List (List ℕ)) (line : List ℕ) (left : List (List ℕ)) (far : SoFar old start lines now (line ∷ left)) → IsTaken now far.items line new (Ok tt) → SoFar old start lines new left
 after-taken old now new start lines line left far t =
     let i = t.0 in
-    let says : line_says old.header far.items line ≡ Ok i = ap (λ (f : Profile). line_says f far.items line) (sym far.header) ∙ t.1 in
+    let says : line_says old.header far.items line ≡ Ok i = ap (λ (f : Header). line_says f far.items line) (sym far.header) ∙ t.1 in
     record {
       items = i ∷ far.items;
       tells = t.2;
@@ -35,7 +35,7 @@ after-taken old now new start lines line left far t =
 
 pub taken-fault : (old now new : Reader) (start : List Item) (lines : List (List ℕ)) (line : List ℕ) (left : List (List ℕ)) (fault : ReadFault) (far : SoFar old start lines now (line ∷ left)) → IsTaken now far.items line new (Err fault) → AreTaken old start lines new (Err fault)
 taken-fault old now new start lines line left (Trace fault) far t =
-    let says : line_says old.header far.items line ≡ Err t.0 = ap (λ (f : Profile). line_says f far.items line) (sym far.header) ∙ t.1 in
+    let says : line_says old.header far.items line ≡ Err t.0 = ap (λ (f : Header). line_says f far.items line) (sym far.header) ∙ t.1 in
     far.same ∙ ap (λ says. after_item (now.line + 1) says (λ i. items_from old.header (now.line + 1 + 1) (i ∷ far.items) left)) says
     ∙ ap Err (sym t.2)
 taken-fault old now new start lines line left NoMemory far t = tt
@@ -48,16 +48,17 @@ abbrev pub left-is : (old now : Reader) (start : List Item) (lines left other : 
 left-is old now start lines left other e far = record { items = far.items; tells = far.tells; header = far.header; same = far.same ∙ ap (items_from old.header (now.line + 1) far.items) e }
 
 -- ---- from the text
-pub parsed-items : (text line rest : List ℕ) (f : Profile) → lines_of text ≡ line ∷ lines_of rest → header_of line ≡ Some f → parsed text ≡ with_items f (items_from f 2 [] (lines_of rest))
+pub parsed-items : (text line rest : List ℕ) (f : Header) → lines_of text ≡ line ∷ lines_of rest → header_of line ≡ Some f → parsed text ≡ with_items f (items_from f 2 [] (lines_of rest))
 parsed-items text line rest f e h = ap parsed_lines e ∙ ap (λ header. with_header header (lines_of rest)) h
 
 -- ---- and to the plan
-pub planned : (text line rest : List ℕ) (f : Profile) (all : List Item) (plan : Plan) → lines_of text ≡ line ∷ lines_of rest → header_of line ≡ Some f
+pub planned : (text line rest : List ℕ) (f : Header) (all : List Item) (plan : Plan) → lines_of text ≡ line ∷ lines_of rest → header_of line ≡ Some f
     → items_from f 2 [] (lines_of rest) ≡ Ok all → IsPlanned f all plan → IsPlanOf text plan
 planned text line rest f all plan e h i p = record {
   items = all;
   header = f;
   read = parsed-items text line rest f e h ∙ ap (with_items f) i;
+  version = p.version;
   profile = p.profile;
   phases = p.phases;
   bounds = p.bounds;
@@ -71,7 +72,7 @@ from-second r rest t = ap (λ n. items_from r.header n [] (lines_of rest)) (sym 
 pub read-planned : (text rest : List ℕ) (r new : Reader) (plan : Plan) → IsBegun text r rest → IsRead r [] rest new (Ok tt)
     → ((items : List Item) → Tells new items → IsPlanned new.header items plan) → IsPlanOf text plan
 read-planned text rest r new plan b h made =
-    planned text b.line rest r.header h.0 plan b.cut b.header (from-second r rest b.tells ∙ h.1) (subst (λ (g : Profile). IsPlanned g h.0 plan) h.3 (made h.0 h.2))
+    planned text b.line rest r.header h.0 plan b.cut b.header (from-second r rest b.tells ∙ h.1) (subst (λ (g : Header). IsPlanned g h.0 plan) h.3 (made h.0 h.2))
 
 pub read-failed : (text rest : List ℕ) (r new : Reader) (fault : ReadFault) → IsBegun text r rest → IsRead r [] rest new (Err fault) → IsReading text (Err fault)
 read-failed text rest r new (Trace fault) b h = parsed-items text b.line rest r.header b.cut b.header ∙ ap (with_items r.header) (from-second r rest b.tells ∙ h)

@@ -1,21 +1,24 @@
 -- What the reader keeps after each item.
-use Rattle.std.proofs.Common.{◌≡◌, ◌≢◌, ℕ, ◌+◌, ◌<◌, ◌≤◌, ◌==◌, Bool, true, false, not, ◌&&◌, ◌||◌, if◌then◌else◌, List, [], ◌∷◌, ◌++◌, length, get_or, set, None, Some, refl, sym, ap, subst, ◌∙◌, arith, inl, inr, add-one}
+use Rattle.std.proofs.Common.{◌≡◌, ◌≢◌, ℕ, ◌+◌, ◌<◌, ◌≤◌, ◌==◌, Bool, true, false, not, ◌&&◌, ◌||◌, if◌then◌else◌, List, [], ◌∷◌, ◌++◌, length, get_or, set, Option, None, Some, refl, sym, ap, subst, ◌∙◌, arith, inl, inr, add-one}
 use Rattle.std.proofs.Math.ListN.{length-set}
 use Rattle.std.proofs.lemmas.Bool.{eq-eqb, ne_eqb, cases_eq}
 use Rattle.pas_profile.specs.Profiles.{IsValid}
 use Rattle.pas_profile.specs.declared.profile.Profile.{Profile}
-use Rattle.pas_trace.specs.Wishes.{name_made, is_name}
-use Rattle.pas_trace.specs.Reasons.{cost_of, costs_of, cost_of_wish, records_of_chore, record_bound, reason_of, operations_in, is_operation, is_phase, actor_of, makes, is_named, is_named_now, thread_of, started}
+use Rattle.pas_trace.specs.declared.header.Header.{Header}
+use Rattle.pas_trace.specs.Wishes.{heap_in, name_made, name_freed, heap_by, heap_made, is_name}
+use Rattle.pas_trace.specs.Reasons.{cost_of, costs_of, cost_of_wish, records_of_chore, record_bound, reason_of, operations_in, is_operation, is_phase, actor_of, makes, is_named, is_named_now, thread_of, heap_of_item, heap_of, started}
 use Rattle.pas_trace.specs.Plans.{shared_by, shared_in, phases_after, phases_in, line_of_newest, own_costs, bound_of, bounds_upto, operation, what_wished, what_of_chore, add_last}
-use Rattle.pas_trace.specs.Told.{owner_in, Tells, NameTold, IsReady, IsCounted, IsOperated, IsAdded}
+use Rattle.pas_trace.specs.Told.{owner_in, heap_told, Tells, NameTold, IsReady, IsCounted, IsOperated, IsAdded}
 use Rattle.pas_trace.specs.declared.item.Item.{Item}
 use Rattle.pas_trace.specs.declared.item.Item.TheVariants.{Operates, Scavenges}
 use Rattle.pas_trace.specs.declared.item.Wish.{Wish}
+use Rattle.pas_trace.specs.declared.item.Wish.TheVariants.{Remakes}
 use Rattle.pas_trace.specs.declared.names.Owner.{Owner}
 use Rattle.pas_trace.specs.declared.names.Names.{Names}
 use Rattle.pas_trace.specs.declared.plan.Chore.{Chore}
 use Rattle.pas_trace.specs.declared.plan.Op.{Op}
 use Rattle.pas_trace.specs.declared.plan.What.{What}
+use Rattle.pas_trace.specs.declared.plan.What.TheVariants.{Remake}
 use Rattle.pas_trace.specs.declared.reader.Reader.{Reader}
 use Rattle.pas_trace.proofs.Checking.{bound-after}
 use Rattle.pas_trace.proofs.Gathering.{get_or-written}
@@ -35,14 +38,14 @@ own_costs-le f k (i ∷ items) =
 
 pub cost-within : (r : Reader) (items : List Item) (k : ℕ) → Tells r items → k < 17 → get_or r.counts.costs k 0 ≤ r.counts.bound
 cost-within r items k t lt =
-    let own : get_or r.counts.costs k 0 ≡ own_costs r.header k items = t.costs k lt in
-    let all : r.counts.bound ≡ record_bound r.header items = t.bound in
-    omega (arith, own, all, own_costs-le r.header k items)
+    let own : get_or r.counts.costs k 0 ≡ own_costs r.header.profile k items = t.costs k lt in
+    let all : r.counts.bound ≡ record_bound r.header.profile items = t.bound in
+    omega (arith, own, all, own_costs-le r.header.profile k items)
 
-pub ready : (r : Reader) (items : List Item) (i : Item) (actor cost : ℕ) → Tells r items → FineCounts r.header items i → actor ≤ 16 → cost ≡ cost_of r.header i → IsReady r.counts actor cost
+pub ready : (r : Reader) (items : List Item) (i : Item) (actor cost : ℕ) → Tells r items → FineCounts r.header.profile items i → actor ≤ 16 → cost ≡ cost_of r.header.profile i → IsReady r.counts actor cost
 ready r items i actor cost t fine le e =
     let few : operations_in items < 1000000 = fine.few in
-    let small : record_bound r.header (i ∷ items) ≤ 2000000 = fine.small in
+    let small : record_bound r.header.profile (i ∷ items) ≤ 2000000 = fine.small in
     let all = bound-after r items i t in
     let ops : r.counts.operations ≡ operations_in items = t.operations in
     record {
@@ -57,34 +60,46 @@ pub kept-name : (i : Item) (items : List Item) (o : Owner) (p n : ℕ) → is_ph
 kept-name i items o p n phase none h = record {
   named = ap (λ b. b || is_named items n) none ∙ h.named;
   thread = ap (λ b. if b then actor_of i else thread_of items n) none ∙ h.thread;
+  heap = ap (λ b. if b then heap_of_item (heap_of items) i else heap_of items n) none ∙ h.heap;
   now = ap (λ b. if b then false else (makes i n || is_named_now items n)) phase ∙ ap (λ b. b || is_named_now items n) none ∙ h.now;
   before = h.before;
 }
 
-taken-here : (t p : ℕ) (w : Wish) (items : List Item) (n : ℕ) → 1 ≤ t → is_name (name_made w) n ≡ true → NameTold (record { thread = t; phase = p }) p (Operates t w ∷ items) n
-taken-here t p w items n least e =
+-- the heap of a name that is made, by heaps that are the same
+heap-by-same : (heaps others : ℕ → ℕ) (heap freed : Option ℕ) → ((n : ℕ) → heaps n ≡ others n) → heap_by heaps heap freed ≡ heap_by others heap freed
+heap-by-same heaps others (Some h) freed same = refl
+heap-by-same heaps others None None same = refl
+heap-by-same heaps others None (Some old) same = same old
+
+what-same : (f : Profile) (heaps others : ℕ → ℕ) (w : Wish) → ((n : ℕ) → heaps n ≡ others n) → what_wished f heaps w ≡ what_wished f others w
+what-same f heaps others (Remakes n o s a) same = ap (λ heap. Remake n o heap s a) (same o)
+what-same f heaps others w same = refl
+
+taken-here : (t heap p : ℕ) (w : Wish) (items : List Item) (n : ℕ) → heap_made (heap_of items) w ≡ heap → 1 ≤ t → is_name (name_made w) n ≡ true → NameTold (record { thread = t; heap = heap; phase = p }) p (Operates t w ∷ items) n
+taken-here t heap p w items n home least e =
     let some : (t == 0) ≡ false = ne_eqb t 0 (λ z. absurd (omega (arith, z, least))) in
     let same : (p == p) ≡ true = eq-eqb p p refl in
     record {
       named = ap (λ b. b || is_named items n) e ∙ sym (ap not some);
       thread = ap (λ b. if b then t else thread_of items n) e;
+      heap = ap (λ b. if b then heap_made (heap_of items) w else heap_of items n) e ∙ home;
       now = ap (λ b. b || is_named_now items n) e ∙ sym (ap (λ b. not b && (p == p)) some ∙ same);
       before = omega arith;
     }
 
-taken-by : (here : Bool) (t p : ℕ) (w : Wish) (items : List Item) (o o' : Owner) (n : ℕ) → is_name (name_made w) n ≡ here → 1 ≤ t → o' ≡ (if here then record { thread = t; phase = p } else o) → NameTold o p items n
+taken-by : (here : Bool) (t heap p : ℕ) (w : Wish) (items : List Item) (o o' : Owner) (n : ℕ) → heap_made (heap_of items) w ≡ heap → is_name (name_made w) n ≡ here → 1 ≤ t → o' ≡ (if here then record { thread = t; heap = heap; phase = p } else o) → NameTold o p items n
     → NameTold o' p (Operates t w ∷ items) n
-taken-by true t p w items o o' n is least e told = subst (λ (x : Owner). NameTold x p (Operates t w ∷ items) n) (sym e) (taken-here t p w items n least is)
-taken-by false t p w items o o' n is least e told = subst (λ (x : Owner). NameTold x p (Operates t w ∷ items) n) (sym e) (kept-name (Operates t w) items o p n refl is told)
+taken-by true t heap p w items o o' n home is least e told = subst (λ (x : Owner). NameTold x p (Operates t w ∷ items) n) (sym e) (taken-here t heap p w items n home least is)
+taken-by false t heap p w items o o' n home is least e told = subst (λ (x : Owner). NameTold x p (Operates t w ∷ items) n) (sym e) (kept-name (Operates t w) items o p n refl is told)
 
 -- ---- an item that is an operation, of a thread or of the scavenger
-pub record IsOperation (f : Profile) (i : Item) (actor : ℕ) (what : What) (cost : ℕ) : Type 0 where
+pub record IsOperation (f : Profile) (heaps : ℕ → ℕ) (i : Item) (actor : ℕ) (what : What) (cost : ℕ) : Type 0 where
   pub operates : is_operation i ≡ true
   pub same_phase : is_phase i ≡ false
   pub marks : (m : ℕ) → shared_by i m ≡ m
   pub thread : actor_of i ≡ actor
   pub costs : cost_of f i ≡ cost
-  pub phases : (line : ℕ) (ps : List (List Op)) → phases_after i line ps ≡ add_last (Some (operation line actor what)) ps
+  pub phases : (line : ℕ) (ps : List (List Op)) → phases_after f heaps i line ps ≡ add_last (Some (operation line actor what)) ps
 
 cost-added : (f : Profile) (i : Item) (items : List Item) (costs : List ℕ) (actor cost k : ℕ) → actor < length costs → actor_of i ≡ actor → cost_of f i ≡ cost
     → get_or costs k 0 ≡ own_costs f k items → get_or (set costs actor (get_or costs actor 0 + cost)) k 0 ≡ own_costs f k (i ∷ items)
@@ -102,7 +117,7 @@ cost-added f i items costs actor cost k lt is_actor is_cost told = elim (cases_e
       ∙ told ∙ sym (ap (λ b. if b then own_costs f k items + cost_of f i else own_costs f k items) own)
 ]
 
-pub operated : (old new : Reader) (names : Names) (items : List Item) (i : Item) (actor : ℕ) (what : What) (cost : ℕ) → Tells old items → IsOperation old.header i actor what cost
+pub operated : (old new : Reader) (names : Names) (items : List Item) (i : Item) (actor : ℕ) (what : What) (cost : ℕ) → Tells old items → IsOperation old.header.profile (heap_of items) i actor what cost
     → IsReady old.counts actor cost → ((n : ℕ) → NameTold (owner_in names n) old.phase (i ∷ items) n)
     → IsCounted (record old { line = old.line + 1; names = names }) new actor what cost → Tells new (i ∷ items)
 operated old new names items i actor what cost t op can told h =
@@ -114,55 +129,65 @@ operated old new names items i actor what cost t op can told h =
     let line : new.line ≡ old.line + 1 = h.line in
     let le : old.phase ≤ old.line = t.phase in
     record {
-      header = subst (λ (f : Profile). IsValid f) (sym h.header) t.header;
+      header = subst (λ (g : Header). IsValid g.profile) (sym h.header) t.header;
       shared = h.shared ∙ t.shared ∙ sym (op.marks (shared_in items));
       started = h.started ∙ sym (ap (λ b. b || is_phase i || started items) op.operates);
       line = line ∙ ap (λ n. n + 1) t.line;
       phase = omega (arith, phase, line, le);
       names = λ n. subst (λ (o : Owner). NameTold o new.phase (i ∷ items) n) (sym (h.names n)) (subst (λ (p : ℕ). NameTold (owner_in names n) p (i ∷ items) n) (sym phase) (told n));
       operations = h.operations ∙ ap (λ n. n + 1) t.operations ∙ sym (ap (λ b. if b then operations_in items + 1 else operations_in items) op.operates);
-      bound = bound ∙ ap (λ n. old.counts.bound + n) (sym op.costs) ∙ bound-after old items i t ∙ ap (λ (f : Profile). record_bound f (i ∷ items)) (sym h.header);
+      bound = bound ∙ ap (λ n. old.counts.bound + n) (sym op.costs) ∙ bound-after old items i t ∙ ap (λ (g : Header). record_bound g.profile (i ∷ items)) (sym h.header);
       small = omega (arith, bound, small);
       width = ap length h.costs ∙ length-set old.counts.costs actor (get_or old.counts.costs actor 0 + cost) ∙ size;
-      costs = λ k lt. ap (λ xs. get_or xs k 0) h.costs ∙ cost-added old.header i items old.counts.costs actor cost k actor-lt op.thread op.costs (t.costs k lt) ∙ ap (λ (f : Profile). own_costs f k (i ∷ items)) (sym h.header);
-      phases = h.phases ∙ ap (λ ps. add_last (Some (operation (old.line + 1) actor what)) ps) t.phases ∙ ap (λ n. add_last (Some (operation (n + 1) actor what)) (phases_in items)) t.line
-          ∙ sym (op.phases (line_of_newest (i ∷ items)) (phases_in items));
+      costs = λ k lt. ap (λ xs. get_or xs k 0) h.costs ∙ cost-added old.header.profile i items old.counts.costs actor cost k actor-lt op.thread op.costs (t.costs k lt) ∙ ap (λ (g : Header). own_costs g.profile k (i ∷ items)) (sym h.header);
+      phases = h.phases ∙ ap (λ ps. add_last (Some (operation (old.line + 1) actor what)) ps) t.phases ∙ ap (λ n. add_last (Some (operation (n + 1) actor what)) (phases_in old.header.profile items)) t.line
+          ∙ sym (op.phases (line_of_newest (i ∷ items)) (phases_in old.header.profile items)) ∙ ap (λ (g : Header). phases_in g.profile (i ∷ items)) (sym h.header);
     }
 
 -- what the names hold after an item
 abbrev pub NamesAfter : Reader → Names → Item → Type 0
-NamesAfter old names i = (items : List Item) → Tells old items → reason_of old.header items i ≡ None → (n : ℕ) → NameTold (owner_in names n) old.phase (i ∷ items) n
+NamesAfter old names i = (items : List Item) → Tells old items → reason_of old.header.profile items i ≡ None → (n : ℕ) → NameTold (owner_in names n) old.phase (i ∷ items) n
 
-names-taken : (old : Reader) (names : Names) (t : ℕ) (w : Wish) → ((n : ℕ) → owner_in names n ≡ (if is_name (name_made w) n then record { thread = t; phase = old.phase } else owner_in old.names n)) → NamesAfter old names (Operates t w)
+names-taken : (old : Reader) (names : Names) (t : ℕ) (w : Wish) → ((n : ℕ) → owner_in names n ≡ (if is_name (name_made w) n then record { thread = t; heap = heap_made (heap_told old) w; phase = old.phase } else owner_in old.names n)) → NamesAfter old names (Operates t w)
 names-taken old names t w given items told e n =
-    taken-by (is_name (name_made w) n) t old.phase w items (owner_in old.names n) (owner_in names n) n refl (own_passed old.header items t w e).thread.0 (given n) (told.names n)
+    taken-by (is_name (name_made w) n) t (heap_made (heap_told old) w) old.phase w items (owner_in old.names n) (owner_in names n) n
+    (heap-by-same (heap_of items) (heap_told old) (heap_in w) (name_freed w) (λ m. (told.names m).heap)) refl (own_passed old.header.profile items t w e).thread.0 (given n) (told.names n)
 
 names-kept : (old : Reader) (c : Chore) → NamesAfter old old.names (Scavenges c)
 names-kept old c items told e n = kept-name (Scavenges c) items (owner_in old.names n) old.phase n refl refl (told.names n)
 
-pub added : (old new : Reader) (names : Names) (i : Item) (actor : ℕ) (what : What) (cost : ℕ) → IsOperation old.header i actor what cost → NamesAfter old names i
+pub added : (old new : Reader) (names : Names) (i : Item) (actor : ℕ) (what : What) (cost : ℕ) → ((items : List Item) → Tells old items → IsOperation old.header.profile (heap_of items) i actor what cost) → NamesAfter old names i
     → IsCounted (record old { line = old.line + 1; names = names }) new actor what cost → IsAdded old new i
 added old new names i actor what cost op after h = record {
   header = h.header;
   line = h.line;
   tells = λ items t e.
-      let most = actor_within old.header items i e in
+      let most = actor_within old.header.profile items i e in
       let header = t.header in
-      let threads : old.header.threads ≤ 16 = header.threads in
-      let is : actor_of i ≡ actor = op.thread in
-      let can = ready old items i actor cost t (counts_within old.header items i op.operates e) (omega (arith, most, threads, is)) (sym op.costs) in
-      operated old new names items i actor what cost t op can (after items t e) h;
+      let threads : old.header.profile.threads ≤ 16 = header.threads in
+      let is : actor_of i ≡ actor = (op items t).thread in
+      let can = ready old items i actor cost t (counts_within old.header.profile items i (op items t).operates e) (omega (arith, most, threads, is)) (sym (op items t).costs) in
+      operated old new names items i actor what cost t (op items t) can (after items t e) h;
 }
 
 pub added_wish : (old new : Reader) (t : ℕ) (w : Wish) → IsOperated (record old { line = old.line + 1 }) new t w (cost_of_wish w) → IsAdded old new (Operates t w)
 added_wish old new t w h =
-    let op : IsOperation old.header (Operates t w) t (what_wished w) (cost_of_wish w) = record { operates = refl; same_phase = refl; marks = λ m. refl; thread = refl; costs = refl; phases = λ line ps. refl } in
-    added old new h.names (Operates t w) t (what_wished w) (cost_of_wish w) op (names-taken old h.names t w h.given) h.counted
+    let f = old.header.profile in
+    let what = what_wished f (heap_told old) w in
+    let op : (items : List Item) → Tells old items → IsOperation f (heap_of items) (Operates t w) t what (cost_of_wish w) = λ items told. record {
+      operates = refl;
+      same_phase = refl;
+      marks = λ m. refl;
+      thread = refl;
+      costs = refl;
+      phases = λ line ps. ap (λ what. add_last (Some (operation line t what)) ps) (what-same f (heap_of items) (heap_told old) w (λ m. (told.names m).heap));
+    } in
+    added old new h.names (Operates t w) t what (cost_of_wish w) op (names-taken old h.names t w h.given) h.counted
 
-pub added_chore : (old new : Reader) (c : Chore) → IsCounted (record old { line = old.line + 1 }) new 0 (what_of_chore c) (records_of_chore old.header c) → IsAdded old new (Scavenges c)
+pub added_chore : (old new : Reader) (c : Chore) → IsCounted (record old { line = old.line + 1 }) new 0 (what_of_chore c) (records_of_chore old.header.profile c) → IsAdded old new (Scavenges c)
 added_chore old new c h =
-    let cost = records_of_chore old.header c in
-    let op : IsOperation old.header (Scavenges c) 0 (what_of_chore c) cost = record { operates = refl; same_phase = refl; marks = λ m. refl; thread = refl; costs = refl; phases = λ line ps. refl } in
+    let cost = records_of_chore old.header.profile c in
+    let op : (items : List Item) → Tells old items → IsOperation old.header.profile (heap_of items) (Scavenges c) 0 (what_of_chore c) cost = λ items told. record { operates = refl; same_phase = refl; marks = λ m. refl; thread = refl; costs = refl; phases = λ line ps. refl } in
     added old new old.names (Scavenges c) 0 (what_of_chore c) cost op (names-kept old c) h
 
 -- ---- bounds

@@ -1,9 +1,9 @@
 -- What an operation asks for, in few tables, by which all that is said of operations goes.
-use Rattle.std.specs.Prelude.{ℕ, Option, None, Some}
+use Rattle.std.specs.Prelude.{ℕ, ◌+◌, Option, None, Some}
 use Rattle.pas_trace.specs.Reasons.{cost_of_size}
 use Rattle.pas_trace.specs.declared.item.Request.{Request}
 use Rattle.pas_trace.specs.declared.plan.What.{What}
-use Rattle.pas_trace.specs.declared.plan.What.TheVariants.{Alloc, Free, Raw, Flush, Stop, Tick, Pass, Idle}
+use Rattle.pas_trace.specs.declared.plan.What.TheVariants.{Alloc, Free, FreeSized, Raw, RawSized, Remake, Flush, Stop, Tick, Pass, Idle}
 use Rattle.pas_trace.specs.declared.plan.Task.{Task}
 use Rattle.pas_trace.specs.declared.plan.Chore.{Chore}
 use Rattle.pas_trace.specs.declared.plan.Work.{Work}
@@ -11,8 +11,11 @@ use Rattle.pas_trace.specs.declared.plan.Work.{Work}
 -- who acts, and for what
 abbrev pub work_of : What → Work
 work_of (Alloc name heap size align) = Work.Own (Task.Request name heap size align)
-work_of (Free name) = Work.Own (Task.Free name)
-work_of (Raw block) = Work.Own (Task.FreeRaw block)
+work_of (Free name) = Work.Own (Task.Free name None)
+work_of (FreeSized name room) = Work.Own (Task.Free name (Some room))
+work_of (Raw block) = Work.Own (Task.FreeRaw block None)
+work_of (RawSized room block) = Work.Own (Task.FreeRaw block (Some room))
+work_of (Remake name old heap size align) = Work.Own (Task.Remake name old heap size align)
 work_of Flush = Work.Own Task.Flush
 work_of Stop = Work.Own Task.Stop
 work_of (Tick epoch) = Work.Chore (Chore.Tick epoch)
@@ -23,24 +26,27 @@ work_of (Idle n) = Work.Chore (Chore.Idle n)
 -- a request: its name, its heap, how many bytes, and at a multiple of what
 abbrev pub request_of : Task → Option Request
 request_of (Task.Request name heap size align) = Some record { name = name; heap = heap; size = size; align = align }
-request_of (Task.Free name) = None
-request_of (Task.FreeRaw block) = None
+request_of (Task.Free name room) = None
+request_of (Task.FreeRaw block room) = None
+request_of (Task.Remake name old heap size align) = Some record { name = name; heap = heap; size = size; align = align }
 request_of Task.Flush = None
 request_of Task.Stop = None
 
--- the name that is freed
+-- the name that is freed or reallocated
 abbrev pub freed_of : Task → Option ℕ
 freed_of (Task.Request name heap size align) = None
-freed_of (Task.Free name) = Some name
-freed_of (Task.FreeRaw block) = None
+freed_of (Task.Free name room) = Some name
+freed_of (Task.FreeRaw block room) = None
+freed_of (Task.Remake name old heap size align) = Some old
 freed_of Task.Flush = None
 freed_of Task.Stop = None
 
 -- how many records it may make, beside deeds
 abbrev pub cost_of_task : Task → ℕ
 cost_of_task (Task.Request name heap size align) = cost_of_size size
-cost_of_task (Task.Free name) = 1
-cost_of_task (Task.FreeRaw block) = 1
+cost_of_task (Task.Free name room) = 1
+cost_of_task (Task.FreeRaw block room) = 1
+cost_of_task (Task.Remake name old heap size align) = cost_of_size size + 1
 cost_of_task Task.Flush = 0
 cost_of_task Task.Stop = 0
 

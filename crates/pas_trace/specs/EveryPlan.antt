@@ -1,5 +1,5 @@
 -- What the plan of every text keeps.
-use Rattle.std.specs.Prelude.{ℕ, ◌+◌, ◌-◌, ◌*◌, ◌^◌, ◌<◌, ◌≤◌, ◌≡◌, ◌==◌, ◌||◌, Bool, true, false, if◌then◌else◌, List, [], ◌∷◌, ◌++◌, map, length, slice_index, Option, None, Some, MatchOption}
+use Rattle.std.specs.Prelude.{ℕ, ◌+◌, ◌-◌, ◌*◌, ◌%◌, ◌^◌, ◌<◌, ◌≤◌, ◌≡◌, ◌==◌, ◌||◌, Bool, true, false, if◌then◌else◌, List, [], ◌∷◌, ◌++◌, map, length, slice_index, Option, None, Some, MatchOption}
 use Rattle.pas_profile.specs.Profiles.{IsValid, IsAdmitted}
 use Rattle.pas_profile.specs.declared.profile.Profile.{Profile}
 use Rattle.pas_trace.specs.Asked.{work_of, request_in, epoch_of, cost_of_task}
@@ -59,12 +59,17 @@ IsActorBy f (Work.Chore chore) k = k ≡ 0
 abbrev pub IsActorOf : Profile → What → ℕ → Type 0
 IsActorOf f what k = IsActorBy f (work_of what) k
 
--- The operation may follow those that asked for these names. A request has a new name, and its heap, size and alignment are of the profile; a
--- free has a name that was asked for; a turn has a next one; epochs are below 2^40.
+-- a room that a free names is of whole grains, of one at least, and no larger than the region
+abbrev pub IsRoomNamed : Profile → Option ℕ → Type 0
+IsRoomNamed f room = MatchOption room (Unit {0}) (λ r. (r % 16 ≡ 0) × (16 ≤ r) × (r ≤ 4096 * f.pages))
+
+-- The operation may follow those that asked for these names. A request has a new name, and its heap, size and alignment are of the profile, and so
+-- has a reallocation; what is freed or reallocated has a name that was asked for; a turn has a next one; a room is one that a block of the region may have; epochs are below 2^40.
 abbrev pub IsSoundTask : Profile → List ℕ → Task → Type 0
 IsSoundTask f asked (Task.Request name heap size align) = IsAdmitted f size align heap × (is_asked asked name ≡ false)
-IsSoundTask f asked (Task.Free name) = is_asked asked name ≡ true
-IsSoundTask f asked (Task.FreeRaw block) = block.turn < 2 ^ 40 - 1
+IsSoundTask f asked (Task.Free name room) = (is_asked asked name ≡ true) × IsRoomNamed f room
+IsSoundTask f asked (Task.FreeRaw block room) = (block.turn < 2 ^ 40 - 1) × IsRoomNamed f room
+IsSoundTask f asked (Task.Remake name old heap size align) = IsAdmitted f size align heap × (is_asked asked name ≡ false) × (is_asked asked old ≡ true)
 IsSoundTask f asked Task.Flush = Unit {0}
 IsSoundTask f asked Task.Stop = Unit {0}
 

@@ -1,6 +1,7 @@
 -- What stands at the front of a text.
 use Rattle.std.specs.Prelude.{ℕ, ◌<◌, ◌≡◌, Bool, true, List, [], ◌∷◌, ◌++◌, length, Option, None, Some, Ok}
 use Rattle.pas_profile.specs.declared.profile.Profile.{Profile}
+use Rattle.pas_trace.specs.declared.header.Header.{Header}
 use Rattle.pas_trace.specs.Texts.{lines_of}
 use Rattle.pas_trace.specs.Reasons.{header_of}
 use Rattle.pas_trace.specs.Numbers.{all_digits, number_of}
@@ -14,17 +15,21 @@ pub record BeginsWith (text : List ℕ) (n end : ℕ) (rest : List ℕ) : Type 0
   pub number : number_of word ≡ Some n
   pub text_is : text ≡ word ++ end ∷ rest
 
--- the first line of the text says this item, whatever stands before it
-pub record FirstSays (text : List ℕ) (item : Item) (rest : List ℕ) : Type 0 where
+-- the first line of the text, which is of this version, says this item, whatever stands before it
+pub record FirstSays (version : ℕ) (text : List ℕ) (item : Item) (rest : List ℕ) : Type 0 where
   pub line : List ℕ
   pub cut : lines_of text ≡ line ∷ lines_of rest
   pub shorter : length rest < length text
-  pub says : (started : Bool) → item_of_line started line ≡ Ok item
+  pub says : (started : Bool) → item_of_line version started line ≡ Ok item
 
 -- the region that the first line of a text names, if there is one and it is a header
-abbrev pub header_of_first : List (List ℕ) → Option Profile
+abbrev pub header_of_first : List (List ℕ) → Option Header
 header_of_first [] = None
 header_of_first (line ∷ lines) = header_of line
 
+abbrev pub region_named : Option Header → Option Profile
+region_named None = None
+region_named (Some header) = Some header.profile
+
 abbrev pub first_header : List ℕ → Option Profile
-first_header text = header_of_first (lines_of text)
+first_header text = region_named (header_of_first (lines_of text))

@@ -1,10 +1,10 @@
 -- What a line says: the lines of a trace, word by word.
-use Rattle.std.specs.Prelude.{ℕ, ◌-◌, ◌^◌, ◌==◌, nat_lt, nat_le, Bool, true, false, ◌&&◌, if◌then◌else◌, List, [], ◌∷◌, Option, None, Some, codes, Result, Ok, Err}
+use Rattle.std.specs.Prelude.{ℕ, ◌-◌, ◌^◌, ◌==◌, nat_lt, nat_le, Bool, true, false, ◌&&◌, ◌||◌, if◌then◌else◌, List, [], ◌∷◌, Option, None, Some, codes, Result, Ok, Err}
 use Rattle.pas_trace.specs.Texts.{words_of}
 use Rattle.pas_trace.specs.Numbers.{number_of, address_of_word}
 use Rattle.pas_trace.specs.declared.item.Item.{Item}
 use Rattle.pas_trace.specs.declared.item.Item.TheVariants.{Blank, Shares, NextPhase, Operates, Scavenges}
-use Rattle.pas_trace.specs.declared.item.Wish.TheVariants.{Asks, Frees, FreesRaw, Flushes, Stops}
+use Rattle.pas_trace.specs.declared.item.Wish.TheVariants.{Asks, Frees, FreesSized, FreesRaw, FreesRawSized, Remakes, Flushes, Stops}
 use Rattle.pas_trace.specs.declared.plan.Chore.{Chore}
 use Rattle.pas_trace.specs.declared.fault.Reason.{Reason}
 
@@ -52,10 +52,22 @@ abbrev pub item3 : (ℕ → ℕ → ℕ → Item) → Option ℕ → Option ℕ 
 item3 make None b c = Err Reason.BadNumber
 item3 make (Some a) b c = item2 (make a) b c
 
+abbrev pub item4 : (ℕ → ℕ → ℕ → ℕ → Item) → Option ℕ → Option ℕ → Option ℕ → Option ℕ → Result Item Reason
+item4 make None b c d = Err Reason.BadNumber
+item4 make (Some a) b c d = item3 (make a) b c d
+
 abbrev pub item5 : (ℕ → ℕ → ℕ → ℕ → ℕ → Item) → Option ℕ → Option ℕ → Option ℕ → Option ℕ → Option ℕ → Result Item Reason
 item5 make None b c d e = Err Reason.BadNumber
-item5 make (Some a) None c d e = Err Reason.BadNumber
-item5 make (Some a) (Some b) c d e = item3 (make a b) c d e
+item5 make (Some a) b c d e = item4 (make a) b c d e
+
+-- ---- which words begin lines of a version
+-- the version in which the word began a line first, where that isn't the first of all; of a word that begins no line nothing is said here
+abbrev pub since : List ℕ → Option ℕ
+since w = if same_bytes w (codes "fs") || same_bytes w (codes "rs") then Some 2 else (if same_bytes w (codes "m") then Some 4 else None)
+
+abbrev pub has_since : ℕ → Option ℕ → Bool
+has_since version None = true
+has_since version (Some first) = nat_le first version
 
 -- ---- a line's words, by how many there are: the first word and the number of words choose the item
 -- `started` says that an operation or a `phase` line stands before: a `shared` line may not follow it
@@ -76,20 +88,30 @@ item_of_three w a b = if same_bytes w (codes "f") then item2 (λ t n. Operates t
 abbrev pub item_of_four : List ℕ → List ℕ → List ℕ → List ℕ → Result Item Reason
 item_of_four w a b c = if same_bytes w (codes "r") then item3 (λ t a n. Operates t (FreesRaw a n)) (plain a) (address_of_word b) (turn_word c) else Err Reason.BadWord
 
-abbrev pub item_of_six : List ℕ → List ℕ → List ℕ → List ℕ → List ℕ → List ℕ → Result Item Reason
-item_of_six w a b c d e = if same_bytes w (codes "a") then item5 (λ t n h s a. Operates t (Asks n h s a)) (plain a) (trace_name b) (plain c) (plain d) (plain e) else Err Reason.BadWord
+abbrev pub item_of_five : List ℕ → List ℕ → List ℕ → List ℕ → List ℕ → Result Item Reason
+item_of_five w a b c d = if same_bytes w (codes "fs") then item4 (λ t n s a. Operates t (FreesSized n s a)) (plain a) (trace_name b) (plain c) (plain d) else Err Reason.BadWord
 
-abbrev pub item_of_words : Bool → List (List ℕ) → Result Item Reason
-item_of_words started [] = Ok Blank
-item_of_words started (w ∷ []) = item_of_one w
-item_of_words started (w ∷ a ∷ []) = item_of_two started w a
-item_of_words started (w ∷ a ∷ b ∷ []) = item_of_three w a b
-item_of_words started (w ∷ a ∷ b ∷ c ∷ []) = item_of_four w a b c
-item_of_words started (w ∷ a ∷ b ∷ c ∷ d ∷ []) = Err Reason.BadWord
-item_of_words started (w ∷ a ∷ b ∷ c ∷ d ∷ e ∷ []) = item_of_six w a b c d e
-item_of_words started (w ∷ a ∷ b ∷ c ∷ d ∷ e ∷ g ∷ more) = Err Reason.BadWord
+abbrev pub item_of_six : List ℕ → List ℕ → List ℕ → List ℕ → List ℕ → List ℕ → Result Item Reason
+item_of_six w a b c d e =
+    if same_bytes w (codes "a") then item5 (λ t n h s a. Operates t (Asks n h s a)) (plain a) (trace_name b) (plain c) (plain d) (plain e) else
+    (if same_bytes w (codes "rs") then item5 (λ t b n s a. Operates t (FreesRawSized b n s a)) (plain a) (address_of_word b) (turn_word c) (plain d) (plain e) else
+    (if same_bytes w (codes "m") then item5 (λ t n o s a. Operates t (Remakes n o s a)) (plain a) (trace_name b) (trace_name c) (plain d) (plain e) else Err Reason.BadWord))
+
+abbrev pub item_by_count : Bool → List ℕ → List (List ℕ) → Result Item Reason
+item_by_count started w [] = item_of_one w
+item_by_count started w (a ∷ []) = item_of_two started w a
+item_by_count started w (a ∷ b ∷ []) = item_of_three w a b
+item_by_count started w (a ∷ b ∷ c ∷ []) = item_of_four w a b c
+item_by_count started w (a ∷ b ∷ c ∷ d ∷ []) = item_of_five w a b c d
+item_by_count started w (a ∷ b ∷ c ∷ d ∷ e ∷ []) = item_of_six w a b c d e
+item_by_count started w (a ∷ b ∷ c ∷ d ∷ e ∷ g ∷ more) = Err Reason.BadWord
+
+-- in a text of this version
+abbrev pub item_of_words : ℕ → Bool → List (List ℕ) → Result Item Reason
+item_of_words version started [] = Ok Blank
+item_of_words version started (w ∷ more) = if has_since version (since w) then item_by_count started w more else Err Reason.BadWord
 
 -- a line whose first byte is `#` is a comment
-abbrev pub item_of_line : Bool → List ℕ → Result Item Reason
-item_of_line started [] = Ok Blank
-item_of_line started (b ∷ bs) = if b == 35 then Ok Blank else item_of_words started (words_of (b ∷ bs))
+abbrev pub item_of_line : ℕ → Bool → List ℕ → Result Item Reason
+item_of_line version started [] = Ok Blank
+item_of_line version started (b ∷ bs) = if b == 35 then Ok Blank else item_of_words version started (words_of (b ∷ bs))

@@ -1,20 +1,22 @@
 -- The plan of a text, or its first fault.
 use Rattle.std.specs.Prelude.{ℕ, zero, suc, ◌+◌, ◌^◌, ◌<◌, ◌≡◌, ◌==◌, true, if◌then◌else◌, bit_or, List, [], ◌∷◌, ◌++◌, map, Option, None, Some, Result, Ok, Err}
+use Rattle.pas_profile.specs.Requests.{room_in}
 use Rattle.pas_profile.specs.declared.profile.Profile.{Profile}
 use Rattle.pas_profile.specs.declared.name.Name.{Name}
+use Rattle.pas_trace.specs.declared.header.Header.{Header}
 use Rattle.pas_trace.specs.Texts.{lines_of}
 use Rattle.pas_trace.specs.declared.item.Item.{Item}
 use Rattle.pas_trace.specs.declared.item.Item.TheVariants.{Blank, Shares, NextPhase, Operates, Scavenges}
 use Rattle.pas_trace.specs.declared.item.Wish.{Wish}
-use Rattle.pas_trace.specs.declared.item.Wish.TheVariants.{Asks, Frees, FreesRaw, Flushes, Stops}
+use Rattle.pas_trace.specs.declared.item.Wish.TheVariants.{Asks, Frees, FreesSized, FreesRaw, FreesRawSized, Remakes, Flushes, Stops}
 use Rattle.pas_trace.specs.declared.plan.Chore.{Chore}
-use Rattle.pas_trace.specs.Reasons.{header_of, line_says, is_named, actor_of, cost_of, record_bound}
+use Rattle.pas_trace.specs.Reasons.{header_of, line_says, is_named, heap_of, actor_of, cost_of, record_bound}
 use Rattle.pas_trace.specs.declared.fault.Reason.{Reason}
 use Rattle.pas_trace.specs.declared.fault.TraceFault.{TraceFault}
 use Rattle.pas_trace.specs.declared.fault.ReadFault.{ReadFault}
 use Rattle.pas_trace.specs.declared.fault.ReadFault.TheVariants.{Trace, NoMemory}
 use Rattle.pas_trace.specs.declared.plan.What.{What}
-use Rattle.pas_trace.specs.declared.plan.What.TheVariants.{Alloc, Free, Raw, Flush, Stop, Tick, Pass, Idle}
+use Rattle.pas_trace.specs.declared.plan.What.TheVariants.{Alloc, Free, FreeSized, Raw, RawSized, Remake, Flush, Stop, Tick, Pass, Idle}
 use Rattle.pas_trace.specs.declared.plan.Op.{Op}
 use Rattle.pas_trace.specs.declared.plan.Phase.{Phase}
 use Rattle.pas_trace.specs.declared.plan.Phases.{Phases}
@@ -30,22 +32,22 @@ abbrev pub after_item : ℕ → Result Item Reason → (Item → Result (List It
 after_item number (Err r) more = Err (fault_at number r)
 after_item number (Ok i) more = more i
 
-abbrev pub items_from : Profile → ℕ → List Item → List (List ℕ) → Result (List Item) TraceFault
-items_from f number earlier [] = Ok earlier
-items_from f number earlier (line ∷ lines) = after_item number (line_says f earlier line) (λ i. items_from f (number + 1) (i ∷ earlier) lines)
+abbrev pub items_from : Header → ℕ → List Item → List (List ℕ) → Result (List Item) TraceFault
+items_from h number earlier [] = Ok earlier
+items_from h number earlier (line ∷ lines) = after_item number (line_says h earlier line) (λ i. items_from h (number + 1) (i ∷ earlier) lines)
 
--- the region of a text and its items from line 2 on, the newest first; or its first fault
+-- the header of a text and its items from line 2 on, the newest first; or its first fault
 pub record Parsed : Type 0 where
-  pub header : Profile
+  pub header : Header
   pub items : List Item
 
-abbrev pub with_items : Profile → Result (List Item) TraceFault → Result Parsed TraceFault
-with_items f (Err fault) = Err fault
-with_items f (Ok items) = Ok record { header = f; items = items }
+abbrev pub with_items : Header → Result (List Item) TraceFault → Result Parsed TraceFault
+with_items h (Err fault) = Err fault
+with_items h (Ok items) = Ok record { header = h; items = items }
 
-abbrev pub with_header : Option Profile → List (List ℕ) → Result Parsed TraceFault
+abbrev pub with_header : Option Header → List (List ℕ) → Result Parsed TraceFault
 with_header None lines = Err (fault_at 1 Reason.BadHeader)
-with_header (Some f) lines = with_items f (items_from f 2 [] lines)
+with_header (Some h) lines = with_items h (items_from h 2 [] lines)
 
 abbrev pub parsed_lines : List (List ℕ) → Result Parsed TraceFault
 parsed_lines [] = Err (fault_at 1 Reason.BadHeader)
@@ -73,13 +75,17 @@ name_at address turn = record { address = record { 0 = address }; turn = turn }
 abbrev pub operation : ℕ → ℕ → What → Op
 operation line actor what = record { line = line; actor = actor; what = what }
 
--- what a wish and a chore are in a plan
-abbrev pub what_wished : Wish → What
-what_wished (Asks n h s a) = Alloc n h s a
-what_wished (Frees n) = Free n
-what_wished (FreesRaw a n) = Raw (name_at a n)
-what_wished Flushes = Flush
-what_wished Stops = Stop
+-- what a wish and a chore are in a plan, where earlier names have these heaps. A free that names a size and an alignment names the room that a
+-- request for them gets in the region
+abbrev pub what_wished : Profile → (ℕ → ℕ) → Wish → What
+what_wished f heaps (Asks n h s a) = Alloc n h s a
+what_wished f heaps (Frees n) = Free n
+what_wished f heaps (FreesSized n s a) = FreeSized n (room_in f s a)
+what_wished f heaps (FreesRaw b n) = Raw (name_at b n)
+what_wished f heaps (FreesRawSized b n s a) = RawSized (room_in f s a) (name_at b n)
+what_wished f heaps (Remakes n o s a) = Remake n o (heaps o) s a
+what_wished f heaps Flushes = Flush
+what_wished f heaps Stops = Stop
 
 abbrev pub what_of_chore : Chore → What
 what_of_chore (Chore.Tick epoch) = Tick epoch
@@ -87,12 +93,12 @@ what_of_chore Chore.Pass = Pass
 what_of_chore (Chore.Idle n) = Idle n
 
 -- an item's operation, where it is one
-abbrev pub operation_of : ℕ → Item → Option Op
-operation_of line Blank = None
-operation_of line (Shares h) = None
-operation_of line NextPhase = None
-operation_of line (Operates t w) = Some (operation line t (what_wished w))
-operation_of line (Scavenges c) = Some (operation line 0 (what_of_chore c))
+abbrev pub operation_of : Profile → (ℕ → ℕ) → ℕ → Item → Option Op
+operation_of f heaps line Blank = None
+operation_of f heaps line (Shares h) = None
+operation_of f heaps line NextPhase = None
+operation_of f heaps line (Operates t w) = Some (operation line t (what_wished f heaps w))
+operation_of f heaps line (Scavenges c) = Some (operation line 0 (what_of_chore c))
 
 -- the phases so far, with their operations in order, from the items (newest first): a `phase` line begins an empty one, and an operation goes
 -- to the end of the last one
@@ -107,16 +113,16 @@ abbrev pub line_of_newest : List Item → ℕ
 line_of_newest [] = 1
 line_of_newest (i ∷ earlier) = line_of_newest earlier + 1
 
-abbrev pub phases_after : Item → ℕ → List (List Op) → List (List Op)
-phases_after Blank line phases = phases
-phases_after (Shares h) line phases = phases
-phases_after NextPhase line phases = phases ++ [] ∷ []
-phases_after (Operates t w) line phases = add_last (operation_of line (Operates t w)) phases
-phases_after (Scavenges c) line phases = add_last (operation_of line (Scavenges c)) phases
+abbrev pub phases_after : Profile → (ℕ → ℕ) → Item → ℕ → List (List Op) → List (List Op)
+phases_after f heaps Blank line phases = phases
+phases_after f heaps (Shares h) line phases = phases
+phases_after f heaps NextPhase line phases = phases ++ [] ∷ []
+phases_after f heaps (Operates t w) line phases = add_last (operation_of f heaps line (Operates t w)) phases
+phases_after f heaps (Scavenges c) line phases = add_last (operation_of f heaps line (Scavenges c)) phases
 
-abbrev pub phases_in : List Item → List (List Op)
-phases_in [] = [] ∷ []
-phases_in (i ∷ earlier) = phases_after i (line_of_newest (i ∷ earlier)) (phases_in earlier)
+abbrev pub phases_in : Profile → List Item → List (List Op)
+phases_in f [] = [] ∷ []
+phases_in f (i ∷ earlier) = phases_after f (heap_of earlier) i (line_of_newest (i ∷ earlier)) (phases_in f earlier)
 
 -- the costs of an actor's own operations
 abbrev pub own_costs : Profile → ℕ → List Item → ℕ
@@ -147,15 +153,16 @@ bounds_of bounds = bounds.bounds.items
 abbrev pub AreNamedBelow : ℕ → List Item → Type 0
 AreNamedBelow limit items = (name : ℕ) → is_named items name ≡ true → name < limit
 
--- The plan is that of the text: its region, its phases, its bounds and its total, and a limit above its names.
+-- The plan is that of the text: its version, its region, its phases, its bounds and its total, and a limit above its names.
 pub record IsPlanOf (text : List ℕ) (plan : Plan) : Type 0 where
   pub items : List Item
-  pub header : Profile
+  pub header : Header
   pub read : parsed text ≡ Ok (record { header = header; items = items })
-  pub profile : plan.profile ≡ record header { shared = shared_in items }
-  pub phases : map ops_of (phases_of plan.phases) ≡ phases_in items
-  pub bounds : bounds_of plan.bounds ≡ bounds_upto header items (header.threads + 1)
-  pub total : plan.total ≡ record_bound header items
+  pub version : plan.version ≡ header.version
+  pub profile : plan.profile ≡ record header.profile { shared = shared_in items }
+  pub phases : map ops_of (phases_of plan.phases) ≡ phases_in header.profile items
+  pub bounds : bounds_of plan.bounds ≡ bounds_upto header.profile items (header.profile.threads + 1)
+  pub total : plan.total ≡ record_bound header.profile items
   pub names : AreNamedBelow plan.names_limit items
 
 -- The answer of the reader: the plan of the text, or its first fault. Nothing is said where memory ran out.

@@ -3,35 +3,50 @@ use Rattle.std.specs.Prelude.{ℕ, ◌+◌, ◌*◌, ◌/◌, ◌%◌, ◌==◌,
 use Rattle.pas_profile.specs.declared.profile.Profile.{Profile}
 use Rattle.pas_trace.specs.Texts.{words_of}
 use Rattle.pas_trace.specs.Numbers.{number_of}
+use Rattle.pas_trace.specs.declared.header.Header.{Header}
 use Rattle.pas_trace.specs.declared.item.Item.{Item}
 use Rattle.pas_trace.specs.declared.item.Item.TheVariants.{Blank, Shares, NextPhase, Operates, Scavenges}
 use Rattle.pas_trace.specs.declared.item.Wish.{Wish}
-use Rattle.pas_trace.specs.declared.item.Wish.TheVariants.{Asks, Frees, FreesRaw, Flushes, Stops}
+use Rattle.pas_trace.specs.declared.item.Wish.TheVariants.{Asks, Frees, FreesSized, FreesRaw, FreesRawSized, Remakes, Flushes, Stops}
 use Rattle.pas_trace.specs.declared.plan.Chore.{Chore}
-use Rattle.pas_trace.specs.Wishes.{heap_in, sizing_in, name_made, name_freed, holds_of, is_name}
+use Rattle.pas_trace.specs.Wishes.{heap_in, sizing_in, name_made, name_freed, heap_made, holds_of, is_name}
 use Rattle.pas_trace.specs.Items.{same_bytes, item_of_line}
 use Rattle.pas_trace.specs.declared.fault.Reason.{Reason}
 
--- ---- the header: `pas 1 pages P threads T heaps H age A`, each number within its limits
+-- ---- the header: `pas V pages P threads T heaps H age A`, each number within its limits
+-- the most pages of a region, by the version of its text
+abbrev pub most_pages : ℕ → ℕ
+most_pages version = if nat_le 3 version then 16384 else 4096
+
+-- .. and how many classes it has
+abbrev pub classes_of : ℕ → ℕ
+classes_of version = if nat_le 3 version then 20 else 16
+
 abbrev pub within : ℕ → ℕ → Option ℕ → Option ℕ
 within least most None = None
 within least most (Some n) = if nat_le least n && nat_le n most then Some n else None
 
-abbrev pub profile_with : Option ℕ → Option ℕ → Option ℕ → Option ℕ → Option Profile
-profile_with None t h a = None
-profile_with (Some p) None h a = None
-profile_with (Some p) (Some t) None a = None
-profile_with (Some p) (Some t) (Some h) None = None
-profile_with (Some p) (Some t) (Some h) (Some a) = Some record { pages = p; threads = t; age = a; heaps = h; shared = 0; classes = 16 }
+abbrev pub header_with : ℕ → Option ℕ → Option ℕ → Option ℕ → Option ℕ → Option Header
+header_with version None t h a = None
+header_with version (Some p) None h a = None
+header_with version (Some p) (Some t) None a = None
+header_with version (Some p) (Some t) (Some h) None = None
+header_with version (Some p) (Some t) (Some h) (Some a) =
+    Some record { version = version; profile = record { pages = p; threads = t; age = a; heaps = h; shared = 0; classes = classes_of version } }
 
-abbrev pub header_of_words : List (List ℕ) → Option Profile
-header_of_words (w1 ∷ w2 ∷ w3 ∷ p ∷ w5 ∷ t ∷ w7 ∷ h ∷ w9 ∷ a ∷ []) =
-    if same_bytes w1 (codes "pas") && same_bytes w2 (codes "1") && same_bytes w3 (codes "pages") && same_bytes w5 (codes "threads") && same_bytes w7 (codes "heaps") && same_bytes w9 (codes "age")
-    then profile_with (within 1 4096 (number_of p)) (within 1 16 (number_of t)) (within 1 32 (number_of h)) (within 1 1000000 (number_of a)) else None
+abbrev pub header_for : Option ℕ → List ℕ → List ℕ → List ℕ → List ℕ → Option Header
+header_for None p t h a = None
+header_for (Some version) p t h a =
+    header_with version (within 1 (most_pages version) (number_of p)) (within 1 16 (number_of t)) (within 1 32 (number_of h)) (within 1 1000000 (number_of a))
+
+abbrev pub header_of_words : List (List ℕ) → Option Header
+header_of_words (w1 ∷ v ∷ w3 ∷ p ∷ w5 ∷ t ∷ w7 ∷ h ∷ w9 ∷ a ∷ []) =
+    if same_bytes w1 (codes "pas") && same_bytes w3 (codes "pages") && same_bytes w5 (codes "threads") && same_bytes w7 (codes "heaps") && same_bytes w9 (codes "age")
+    then header_for (within 1 4 (number_of v)) p t h a else None
 header_of_words other = None
 
 -- the first line is no header where it is empty or begins with `#`, as anywhere
-abbrev pub header_of : List ℕ → Option Profile
+abbrev pub header_of : List ℕ → Option Header
 header_of line = header_of_words (words_of line)
 
 -- ---- what the items before a line come to; they have the NEWEST FIRST
@@ -89,6 +104,18 @@ abbrev pub thread_of : List Item → ℕ → ℕ
 thread_of [] name = 0
 thread_of (i ∷ earlier) name = if makes i name then actor_of i else thread_of earlier name
 
+-- the heap of the name, which a request names, and a reallocation has from the name that it reallocates
+abbrev pub heap_of_item : (ℕ → ℕ) → Item → ℕ
+heap_of_item heaps Blank = 0
+heap_of_item heaps (Shares h) = 0
+heap_of_item heaps NextPhase = 0
+heap_of_item heaps (Operates t w) = heap_made heaps w
+heap_of_item heaps (Scavenges c) = 0
+
+abbrev pub heap_of : List Item → ℕ → ℕ
+heap_of [] name = 0
+heap_of (i ∷ earlier) name = if makes i name then heap_of_item (heap_of earlier) i else heap_of earlier name
+
 -- ---- how many records an item may make
 -- whole pages that hold so many bytes
 abbrev pub pages_for : ℕ → ℕ
@@ -102,7 +129,10 @@ cost_of_size size = if nat_le size 2048 then 2 else 1 + pages_for size
 abbrev pub cost_of_wish : Wish → ℕ
 cost_of_wish (Asks n h s a) = cost_of_size s
 cost_of_wish (Frees n) = 1
-cost_of_wish (FreesRaw a n) = 1
+cost_of_wish (FreesSized n s a) = 1
+cost_of_wish (FreesRaw b n) = 1
+cost_of_wish (FreesRawSized b n s a) = 1
+cost_of_wish (Remakes n o s a) = cost_of_size s + 1
 cost_of_wish Flushes = 0
 cost_of_wish Stops = 0
 
@@ -180,5 +210,5 @@ checked f earlier (Err r) = Err r
 checked f earlier (Ok i) = kept i (reason_of f earlier i)
 
 -- what a line says after the items before it, or its reason
-abbrev pub line_says : Profile → List Item → List ℕ → Result Item Reason
-line_says f earlier line = checked f earlier (item_of_line (started earlier) line)
+abbrev pub line_says : Header → List Item → List ℕ → Result Item Reason
+line_says h earlier line = checked h.profile earlier (item_of_line h.version (started earlier) line)

@@ -1,9 +1,9 @@
 -- What the reader keeps of the lines that it has read.
-use Rattle.std.specs.Prelude.{if◌then◌else◌, ℕ, ◌+◌, ◌==◌, ◌≡◌, ◌≤◌, ◌<◌, nat_lt, Bool, true, not, ◌&&◌, ◌||◌, List, [], ◌∷◌, ◌++◌, map, length, Option, None, Some, Result, Ok, Err, slice_index, slice_index_or, slice_set}
+use Rattle.std.specs.Prelude.{if◌then◌else◌, ℕ, ◌+◌, ◌*◌, ◌==◌, ◌≡◌, ◌≤◌, ◌<◌, nat_lt, nat_le, Bool, true, not, ◌&&◌, ◌||◌, List, [], ◌∷◌, ◌++◌, map, length, Option, None, Some, Result, Ok, Err, slice_index, slice_index_or, slice_set}
 use Rattle.pas_profile.specs.Profiles.{IsValid}
-use Rattle.pas_profile.specs.declared.profile.Profile.{Profile}
-use Rattle.pas_trace.specs.Wishes.{name_made, is_name}
-use Rattle.pas_trace.specs.Reasons.{header_of, first_failed, is_thread, few_enough, own_checks, cost_of_wish, records_of_chore, started, operations_in, is_named, is_named_now, thread_of, record_bound, line_says, reason_of}
+use Rattle.pas_trace.specs.declared.header.Header.{Header}
+use Rattle.pas_trace.specs.Wishes.{name_made, heap_made, is_name}
+use Rattle.pas_trace.specs.Reasons.{header_of, first_failed, is_thread, is_alignment, few_enough, own_checks, cost_of_wish, records_of_chore, started, operations_in, is_named, is_named_now, thread_of, heap_of, record_bound, line_says, reason_of}
 use Rattle.pas_trace.specs.declared.fault.Reason.{Reason}
 use Rattle.pas_trace.specs.declared.item.Item.{Item}
 use Rattle.pas_trace.specs.declared.item.Item.TheVariants.{Blank, Shares, NextPhase, Operates, Scavenges}
@@ -23,18 +23,22 @@ use Rattle.pas_trace.specs.declared.gathered.Gathered.{Gathered}
 
 -- the owner that the names give a name
 abbrev pub owner_in : Names → ℕ → Owner
-owner_in names name = slice_index_or names.owners.items name record { thread = 0; phase = 0 }
+owner_in names name = slice_index_or names.owners.items name record { thread = 0; heap = 0; phase = 0 }
 
 -- the phases that were gathered, in order
 abbrev pub gathered_phases : Gathered → List (List Op)
 gathered_phases gathered = map ops_of gathered.done.items ++ gathered.present.items ∷ []
+
+-- the heap of each name
+abbrev pub heap_told : Reader → ℕ → ℕ
+heap_told r n = (owner_in r.names n).heap
 
 -- ---- the checks, by what the reader keeps
 abbrev pub few_told : Reader → ℕ → List (Bool × Reason)
 few_told r cost = few_enough r.counts.operations (r.counts.bound + cost)
 
 abbrev pub thread_told : Reader → ℕ → ℕ → List (Bool × Reason)
-thread_told r t cost = (is_thread r.header t, Reason.BadThread) ∷ few_told r cost
+thread_told r t cost = (is_thread r.header.profile t, Reason.BadThread) ∷ few_told r cost
 
 abbrev pub has_owner : Reader → ℕ → Bool
 has_owner r n = not ((owner_in r.names n).thread == 0)
@@ -45,12 +49,18 @@ has_owner_now r n = has_owner r n && ((owner_in r.names n).phase == r.phase)
 abbrev pub may_free_told : Reader → ℕ → ℕ → Bool
 may_free_told r t n = (t == (owner_in r.names n).thread) || not (has_owner_now r n)
 
+abbrev pub sizing_told : Reader → ℕ → ℕ → List (Bool × Reason)
+sizing_told r size align = (nat_le size (4096 * r.header.profile.pages), Reason.BadSize) ∷ (is_alignment align, Reason.BadAlign) ∷ []
+
+abbrev pub freed_told : Reader → ℕ → ℕ → List (Bool × Reason)
+freed_told r t n = (has_owner r n, Reason.NameUnknown) ∷ (may_free_told r t n, Reason.TooEarly) ∷ []
+
 abbrev pub told_checks : Reader → Item → List (Bool × Reason)
 told_checks r Blank = []
-told_checks r (Shares h) = (nat_lt h r.header.heaps, Reason.BadHeap) ∷ []
+told_checks r (Shares h) = (nat_lt h r.header.profile.heaps, Reason.BadHeap) ∷ []
 told_checks r NextPhase = []
-told_checks r (Operates t w) = own_checks r.header (has_owner r) (may_free_told r t) t w (few_told r (cost_of_wish w))
-told_checks r (Scavenges c) = few_told r (records_of_chore r.header c)
+told_checks r (Operates t w) = own_checks r.header.profile (has_owner r) (may_free_told r t) t w (few_told r (cost_of_wish w))
+told_checks r (Scavenges c) = few_told r (records_of_chore r.header.profile c)
 
 abbrev pub reason_told : Reader → ℕ → Wish → Option Reason
 reason_told r t w = first_failed (told_checks r (Operates t w))
@@ -60,28 +70,34 @@ abbrev pub IsChecked : Option Reason → ℕ → Result ℕ Reason → Type 0
 IsChecked failed cost (Ok c) = (failed ≡ None) × (c ≡ cost)
 IsChecked failed cost (Err r) = failed ≡ Some r
 
+-- .. and that of some of them, without a cost
+abbrev pub AreTested : List (Bool × Reason) → Result (Unit {0}) Reason → Type 0
+AreTested checks (Ok done) = first_failed checks ≡ None
+AreTested checks (Err r) = first_failed checks ≡ Some r
+
 -- ---- what the reader keeps, told by the items that it has read
 
 -- the owner of a name, after these items
 pub record NameTold (owner : Owner) (phase : ℕ) (items : List Item) (n : ℕ) : Type 0 where
   pub named : is_named items n ≡ not (owner.thread == 0)
   pub thread : thread_of items n ≡ owner.thread
+  pub heap : heap_of items n ≡ owner.heap
   pub now : is_named_now items n ≡ (not (owner.thread == 0) && (owner.phase == phase))
   pub before : owner.phase ≤ phase
 
 pub record Tells (r : Reader) (items : List Item) : Type 0 where
-  pub header : IsValid r.header
+  pub header : IsValid r.header.profile
   pub shared : r.shared ≡ shared_in items
   pub started : r.started ≡ started items
   pub line : r.line ≡ line_of_newest items
   pub phase : r.phase ≤ r.line
   pub names : (n : ℕ) → NameTold (owner_in r.names n) r.phase items n
   pub operations : r.counts.operations ≡ operations_in items
-  pub bound : r.counts.bound ≡ record_bound r.header items
+  pub bound : r.counts.bound ≡ record_bound r.header.profile items
   pub small : r.counts.bound ≤ 2000000
   pub width : length r.counts.costs ≡ 17
-  pub costs : (k : ℕ) → k < 17 → slice_index r.counts.costs k ≡ own_costs r.header k items
-  pub phases : gathered_phases r.gathered ≡ phases_in items
+  pub costs : (k : ℕ) → k < 17 → slice_index r.counts.costs k ≡ own_costs r.header.profile k items
+  pub phases : gathered_phases r.gathered ≡ phases_in r.header.profile items
 
 -- an operation of the actor may be counted
 pub record IsReady (counts : Counts) (actor cost : ℕ) : Type 0 where
@@ -106,8 +122,8 @@ pub record IsCounted (old new : Reader) (actor : ℕ) (what : What) (cost : ℕ)
 -- .. and the name that it makes was given to its thread
 pub record IsOperated (old new : Reader) (actor : ℕ) (wish : Wish) (cost : ℕ) : Type 0 where
   pub names : Names
-  pub given : (n : ℕ) → owner_in names n ≡ (if is_name (name_made wish) n then record { thread = actor; phase = old.phase } else owner_in old.names n)
-  pub counted : IsCounted (record old { names = names }) new actor (what_wished wish) cost
+  pub given : (n : ℕ) → owner_in names n ≡ (if is_name (name_made wish) n then record { thread = actor; heap = heap_made (heap_told old) wish; phase = old.phase } else owner_in old.names n)
+  pub counted : IsCounted (record old { names = names }) new actor (what_wished old.header.profile (heap_told old) wish) cost
 
 -- the next phase was begun
 pub record IsNextPhase (old new : Reader) : Type 0 where
@@ -124,7 +140,7 @@ pub record IsNextPhase (old new : Reader) : Type 0 where
 pub record IsAdded (old new : Reader) (item : Item) : Type 0 where
   pub header : new.header ≡ old.header
   pub line : new.line ≡ old.line + 1
-  pub tells : (items : List Item) → Tells old items → reason_of old.header items item ≡ None → Tells new (item ∷ items)
+  pub tells : (items : List Item) → Tells old items → reason_of old.header.profile items item ≡ None → Tells new (item ∷ items)
 
 -- the next line was taken after these items, or has this fault
 abbrev pub IsTaken : Reader → List Item → List ℕ → Reader → Result (Unit {0}) ReadFault → Type 0
@@ -158,9 +174,10 @@ pub record IsBegun (text : List ℕ) (r : Reader) (rest : List ℕ) : Type 0 whe
   pub tells : Tells r []
 
 -- the plan of a header and items
-pub record IsPlanned (header : Profile) (items : List Item) (plan : Plan) : Type 0 where
-  pub profile : plan.profile ≡ record header { shared = shared_in items }
-  pub phases : map ops_of (phases_of plan.phases) ≡ phases_in items
-  pub bounds : bounds_of plan.bounds ≡ bounds_upto header items (header.threads + 1)
-  pub total : plan.total ≡ record_bound header items
+pub record IsPlanned (header : Header) (items : List Item) (plan : Plan) : Type 0 where
+  pub version : plan.version ≡ header.version
+  pub profile : plan.profile ≡ record header.profile { shared = shared_in items }
+  pub phases : map ops_of (phases_of plan.phases) ≡ phases_in header.profile items
+  pub bounds : bounds_of plan.bounds ≡ bounds_upto header.profile items (header.profile.threads + 1)
+  pub total : plan.total ≡ record_bound header.profile items
   pub names : AreNamedBelow plan.names_limit items

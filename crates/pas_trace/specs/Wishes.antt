@@ -1,15 +1,20 @@
 -- What an operation of a thread asks for, by few tables: one for each value that a check asks for, with a line for each wish.
-use Rattle.std.specs.Prelude.{ℕ, ◌<◌, ◌^◌, ◌==◌, Bool, true, false, Option, None, Some, MatchOption}
+use Rattle.std.specs.Prelude.{ℕ, ◌*◌, ◌<◌, ◌≤◌, ◌^◌, ◌==◌, Bool, true, false, Option, None, Some, MatchOption}
+use Rattle.pas_profile.specs.Classes.{IsAlignment}
+use Rattle.pas_profile.specs.declared.profile.Profile.{Profile}
 use Rattle.pas_trace.specs.declared.item.Request.{Request}
 use Rattle.pas_trace.specs.declared.item.Wish.{Wish}
-use Rattle.pas_trace.specs.declared.item.Wish.TheVariants.{Asks, Frees, FreesRaw, Flushes, Stops}
+use Rattle.pas_trace.specs.declared.item.Wish.TheVariants.{Asks, Frees, FreesSized, FreesRaw, FreesRawSized, Remakes, Flushes, Stops}
 
 -- ---- the tables
 -- the heap that it names
 abbrev pub heap_in : Wish → Option ℕ
 heap_in (Asks n h s a) = Some h
 heap_in (Frees n) = None
-heap_in (FreesRaw a n) = None
+heap_in (FreesSized n s a) = None
+heap_in (FreesRaw b n) = None
+heap_in (FreesRawSized b n s a) = None
+heap_in (Remakes n o s a) = None
 heap_in Flushes = None
 heap_in Stops = None
 
@@ -21,7 +26,10 @@ pub record Sizing : Type 0 where
 abbrev pub sizing_in : Wish → Option Sizing
 sizing_in (Asks n h s a) = Some record { size = s; align = a }
 sizing_in (Frees n) = None
-sizing_in (FreesRaw a n) = None
+sizing_in (FreesSized n s a) = Some record { size = s; align = a }
+sizing_in (FreesRaw b n) = None
+sizing_in (FreesRawSized b n s a) = Some record { size = s; align = a }
+sizing_in (Remakes n o s a) = Some record { size = s; align = a }
 sizing_in Flushes = None
 sizing_in Stops = None
 
@@ -29,15 +37,21 @@ sizing_in Stops = None
 abbrev pub name_made : Wish → Option ℕ
 name_made (Asks n h s a) = Some n
 name_made (Frees n) = None
-name_made (FreesRaw a n) = None
+name_made (FreesSized n s a) = None
+name_made (FreesRaw b n) = None
+name_made (FreesRawSized b n s a) = None
+name_made (Remakes n o s a) = Some n
 name_made Flushes = None
 name_made Stops = None
 
--- the trace name that it frees
+-- the trace name that it frees or reallocates
 abbrev pub name_freed : Wish → Option ℕ
 name_freed (Asks n h s a) = None
 name_freed (Frees n) = Some n
-name_freed (FreesRaw a n) = None
+name_freed (FreesSized n s a) = Some n
+name_freed (FreesRaw b n) = None
+name_freed (FreesRawSized b n s a) = None
+name_freed (Remakes n o s a) = Some o
 name_freed Flushes = None
 name_freed Stops = None
 
@@ -52,10 +66,24 @@ abbrev pub is_name : Option ℕ → ℕ → Bool
 is_name None name = false
 is_name (Some n) name = n == name
 
+-- the heap of the name that it makes, where earlier names have these heaps: the one that it names, or that of the name which it reallocates
+abbrev pub heap_by : (ℕ → ℕ) → Option ℕ → Option ℕ → ℕ
+heap_by heaps (Some h) freed = h
+heap_by heaps None None = 0
+heap_by heaps None (Some old) = heaps old
+
+abbrev pub heap_made : (ℕ → ℕ) → Wish → ℕ
+heap_made heaps w = heap_by heaps (heap_in w) (name_freed w)
+
 -- the wish of a request
 abbrev pub asking : Request → Wish
 asking q = Asks q.name q.heap q.size q.align
 
--- its heap, size and alignment have a place in a plan
-abbrev pub IsFit : Wish → Type 0
-IsFit w = MatchOption (heap_in w) (Unit {0}) (λ h. h < 2 ^ 8) × MatchOption (sizing_in w) (Unit {0}) (λ s. (s.size < 2 ^ 32) × (s.align < 2 ^ 32))
+-- its heap, size and alignment have a place in a plan, and are those of a request of the region
+pub record IsFitSizing (f : Profile) (s : Sizing) : Type 0 where
+  pub small : s.size < 2 ^ 32
+  pub within : s.size ≤ f.pages * 4096
+  pub aligned : IsAlignment s.align
+
+abbrev pub IsFit : Profile → Wish → Type 0
+IsFit f w = MatchOption (heap_in w) (Unit {0}) (λ h. h < 2 ^ 8) × MatchOption (sizing_in w) (Unit {0}) (IsFitSizing f)

@@ -1,5 +1,5 @@
 //! The two commonest lines, read in one pass from the front of a text.
-ghost use Rattle.std.specs.Prelude.{◌≡◌, ◌≤◌, ◌<◌, ◌^◌, ◌++◌, IfSome, true, length, take, codes};
+ghost use Rattle.std.specs.Prelude.{◌≡◌, ◌≤◌, ◌<◌, ◌^◌, ◌++◌, ℕ, IfSome, true, length, take, codes};
 ghost use Rattle.pas_trace.specs.FirstLines.{BeginsWith, FirstSays};
 ghost use Rattle.pas_trace.specs.Numbers.{all_digits, value_from};
 
@@ -57,7 +57,7 @@ fn front_number(text: &[u8], end: u8) -> Option<(u64, &[u8])>
 /// What a line `a T NAME H SIZE ALIGN` says, and the text after it, where this text follows its first two bytes.
 #[inline(always)]
 fn front_allocation(text: &[u8]) -> Option<(Item, &[u8])>
-    ensures { IfSome result (λ p. FirstSays (codes "a " ++ text.now) p.0 p.1.now) }
+    ensures { IfSome result (λ p. (version : ℕ) → FirstSays version (codes "a " ++ text.now) p.0 p.1.now) }
 {
     let (thread, after_thread) = front_number(text, b' ')?;
     let (name, after_name) = front_number(after_thread, b' ')?;
@@ -79,7 +79,7 @@ fn front_allocation(text: &[u8]) -> Option<(Item, &[u8])>
 /// What a line `f T NAME` says, and the text after it, where this text follows its first two bytes.
 #[inline(always)]
 fn front_free(text: &[u8]) -> Option<(Item, &[u8])>
-    ensures { IfSome result (λ p. FirstSays (codes "f " ++ text.now) p.0 p.1.now) }
+    ensures { IfSome result (λ p. (version : ℕ) → FirstSays version (codes "f " ++ text.now) p.0 p.1.now) }
 {
     let (thread, after_thread) = front_number(text, b' ')?;
     let (name, rest) = front_number(after_thread, b'\n')?;
@@ -93,8 +93,8 @@ fn front_free(text: &[u8]) -> Option<(Item, &[u8])>
 /// What the first line of a text says, and the text after it. None for all lines but those that ask for a block or free one by its
 /// name, with single spaces and numbers of up to 18 digits in range: where it answers, it answers the item of the line.
 #[inline(always)]
-pub fn front_item(text: &[u8]) -> Option<(Item, &[u8])>
-    ensures { IfSome result (λ p. FirstSays text.now p.0 p.1.now) }
+pub(crate) fn front_item(text: &[u8]) -> Option<(Item, &[u8])>
+    ensures { IfSome result (λ p. (version : ℕ) → FirstSays version text.now p.0 p.1.now) }
 {
     if text.len() < 2 || text[1] != b' ' {
         return None;

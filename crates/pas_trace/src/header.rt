@@ -4,13 +4,28 @@ ghost use Rattle.pas_profile.specs.Profiles.{IsValid};
 ghost use Rattle.pas_trace.specs.FirstLines.{first_header};
 ghost use Rattle.pas_trace.specs.Texts.{words_of};
 ghost use Rattle.pas_trace.specs.Numbers.{number_of};
-ghost use Rattle.pas_trace.specs.Reasons.{within, profile_with, header_of};
+ghost use Rattle.pas_trace.specs.Reasons.{within, most_pages, classes_of, header_with, header_of};
 
 use crate::lines::next_line;
 use crate::numbers::number;
 use crate::words::{is_word, next_word};
 use pas_profile::Profile;
-use pas_profile::limits::{FEW_CLASSES, FEW_PAGES, MOST_AGE, MOST_HEAPS, MOST_THREADS};
+use pas_profile::limits::{
+    FEW_CLASSES, FEW_PAGES, MOST_AGE, MOST_CLASSES, MOST_HEAPS, MOST_PAGES, MOST_THREADS,
+};
+
+/// The latest version of the format.
+const LATEST: u64 = 4;
+
+/// The first version whose regions have all classes, and may have the most pages.
+const FIRST_LARGE: u64 = 3;
+
+/// What the first line of a trace names: the version of the text, and its region, before any heap is marked as shared.
+#[derive(Clone, Copy, PartialEq, Eq, Drop)]
+pub struct Header {
+    pub version: u8,
+    pub profile: Profile,
+}
 
 /// The first two words of a line, and the bytes after them. None where there are fewer.
 fn word_pair(line: &[u8]) -> Option<(&[u8], &[u8], &[u8])>
@@ -33,27 +48,57 @@ fn number_within(least: u64, most: u64, word: &[u8]) -> Option<u64>
     }
 }
 
-/// The region of the numbers in a header, if each is within its limits: 1 to 4,096 pages, 1 to 16 threads, 1 to 32 heaps, and an
-/// age from 1 to 1,000,000. It has sixteen classes, and no heap is shared.
-fn header_with(pages: &[u8], threads: &[u8], heaps: &[u8], age: &[u8]) -> Option<Profile>
-    ensures { result ≡ profile_with (within 1 4096 (number_of pages.now)) (within 1 16 (number_of threads.now)) (within 1 32 (number_of heaps.now)) (within 1 1000000 (number_of age.now)) }
+/// The most pages of a region, by the version of its text.
+fn pages_limit(version: u8) -> u32
+    ensures value { result ≡ most_pages version }
+    ensures most { result ≤ 16384 }
 {
-    let pages = number_within(1, FEW_PAGES as u64, pages)?;
+    if version as u64 >= FIRST_LARGE {
+        MOST_PAGES
+    } else {
+        FEW_PAGES
+    }
+}
+
+/// How many classes a region has, by the version of its text.
+fn class_count(version: u8) -> u8
+    ensures { result ≡ classes_of version }
+{
+    if version as u64 >= FIRST_LARGE {
+        MOST_CLASSES
+    } else {
+        FEW_CLASSES
+    }
+}
+
+/// The header of a text of this version with these numbers, if each is within its limits: 1 to 4,096 pages, or 16,384 from version 3 on,
+/// 1 to 16 threads, 1 to 32 heaps, and an age from 1 to 1,000,000. No heap is shared.
+fn header_with(
+    version: u8,
+    pages: &[u8],
+    threads: &[u8],
+    heaps: &[u8],
+    age: &[u8],
+) -> Option<Header>
+    ensures { result ≡ header_with version (within 1 (most_pages version) (number_of pages.now)) (within 1 16 (number_of threads.now)) (within 1 32 (number_of heaps.now)) (within 1 1000000 (number_of age.now)) }
+{
+    let pages = number_within(1, pages_limit(version) as u64, pages)?;
     let threads = number_within(1, MOST_THREADS as u64, threads)?;
     let heaps = number_within(1, MOST_HEAPS as u64, heaps)?;
     let age = number_within(1, MOST_AGE, age)?;
-    Some(Profile {
+    let profile = Profile {
         pages: pages as u32,
         threads: threads as u8,
         age,
         heaps: heaps as u8,
         shared: 0,
-        classes: FEW_CLASSES,
-    })
+        classes: class_count(version),
+    };
+    Some(Header { version, profile })
 }
 
-/// The region that a header names: `pas 1 pages P threads T heaps H age A`. None for any other line.
-pub fn read_header(line: &[u8]) -> Option<Profile>
+/// The version and the region that a header names: `pas V pages P threads T heaps H age A`. None for any other line.
+pub(crate) fn read_header(line: &[u8]) -> Option<Header>
     ensures { result ≡ header_of line.now }
 {
     let (format, version, rest) = word_pair(line)?;
@@ -65,16 +110,15 @@ pub fn read_header(line: &[u8]) -> Option<Profile>
         return None;
     }
     let labelled = is_word(format, b"pas")
-        && is_word(version, b"1")
         && is_word(pages_label, b"pages")
         && is_word(threads_label, b"threads")
         && is_word(heaps_label, b"heaps")
         && is_word(age_label, b"age");
-    if labelled {
-        header_with(pages, threads, heaps, age)
-    } else {
-        None
+    if !labelled {
+        return None;
     }
+    let version = number_within(1, LATEST, version)?;
+    header_with(version as u8, pages, threads, heaps, age)
 }
 
 /// The region that the first line of a text names, before any heap is marked as shared. None where there is no line, or where the
@@ -84,5 +128,6 @@ pub fn header_of_text(text: &[u8]) -> Option<Profile>
     ensures valid { IfSome result (λ header. IsValid header) }
 {
     let (line, _) = next_line(text)?;
-    read_header(line)
+    let header = read_header(line)?;
+    Some(header.profile)
 }

@@ -26,10 +26,30 @@ pub enum Wish {
     Frees {
         name: u32,
     },
+    /// The same, where the block has the room of a request for so many bytes at a multiple of the alignment.
+    FreesSized {
+        name: u32,
+        size: u64,
+        align: u64,
+    },
     /// The end of the block with this address and turn.
     FreesRaw {
         address: u32,
         turn: u64,
+    },
+    /// The same, where the block has the room of such a request.
+    FreesRawSized {
+        address: u32,
+        turn: u64,
+        size: u64,
+        align: u64,
+    },
+    /// The block that has the old trace name with another size and alignment, under the name.
+    Remakes {
+        name: u32,
+        old: u32,
+        size: u64,
+        align: u64,
     },
     /// That the frees are passed on which the thread has saved.
     Flushes,

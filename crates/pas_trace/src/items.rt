@@ -1,8 +1,10 @@
 //! From a line to what it says.
 ghost use Rattle.std.specs.Prelude.{◌≡◌, ℕ, Option, Some, None, MatchResult};
-ghost use Rattle.pas_trace.specs.Items.{plain, trace_name, epoch_word, turn_word, item_of_one, item_of_two, item_of_three, item_of_four, item_of_six, item_of_words, item_of_line};
+ghost use Rattle.pas_trace.specs.Items.{plain, trace_name, epoch_word, turn_word, since, has_since, item_of_one, item_of_two, item_of_three, item_of_four, item5, item_of_five, item_of_six, item_by_count, item_of_words, item_of_line};
 ghost use Rattle.pas_trace.specs.Numbers.{address_of_word};
 ghost use Rattle.pas_trace.specs.Texts.{words_of};
+ghost use Rattle.pas_trace.specs.declared.item.Item.TheVariants.{Operates};
+ghost use Rattle.pas_trace.specs.declared.item.Wish.TheVariants.{Asks, FreesRawSized, Remakes};
 
 use crate::fault::Reason;
 use crate::item::{Item, Wish};
@@ -136,21 +138,26 @@ fn item_of_four_words(word: &[u8], a: &[u8], b: &[u8], c: &[u8]) -> Result<Item,
     Ok(Item::Operates { thread, wish })
 }
 
-/// What a line of six words says.
-#[inline]
-fn item_of_six_words(
-    word: &[u8],
-    a: &[u8],
-    b: &[u8],
-    c: &[u8],
-    d: &[u8],
-    e: &[u8],
-) -> Result<Item, Reason>
-    ensures { result ≡ item_of_six word.now a.now b.now c.now d.now e.now }
+/// What a line of five words says.
+fn item_of_five_words(word: &[u8], a: &[u8], b: &[u8], c: &[u8], d: &[u8]) -> Result<Item, Reason>
+    ensures { result ≡ item_of_five word.now a.now b.now c.now d.now }
 {
-    if !is_word(word, b"a") {
+    if !is_word(word, b"fs") {
         return Err(Reason::BadWord);
     }
+    let thread = number_at(a)?;
+    let name = name_at(b)?;
+    let size = number_at(c)?;
+    let align = number_at(d)?;
+    let wish = Wish::FreesSized { name, size, align };
+    Ok(Item::Operates { thread, wish })
+}
+
+/// What a line says that begins with `a`, by the five words behind it.
+#[inline]
+fn item_of_request(a: &[u8], b: &[u8], c: &[u8], d: &[u8], e: &[u8]) -> Result<Item, Reason>
+    ensures { result ≡ item5 (λ t n h s a. Operates t (Asks n h s a)) (plain a.now) (trace_name b.now) (plain c.now) (plain d.now) (plain e.now) }
+{
     let thread = number_at(a)?;
     let name = name_at(b)?;
     let heap = number_at(c)?;
@@ -165,14 +172,84 @@ fn item_of_six_words(
     Ok(Item::Operates { thread, wish })
 }
 
-/// What the words of a line say: their number and the first of them choose the kind.
-#[inline]
-fn item_of_words(started: bool, line: &[u8]) -> Result<Item, Reason>
-    ensures { result ≡ item_of_words started (words_of line.now) }
+/// .. that begins with `rs`.
+fn item_of_sized_raw(a: &[u8], b: &[u8], c: &[u8], d: &[u8], e: &[u8]) -> Result<Item, Reason>
+    ensures { result ≡ item5 (λ t b n s a. Operates t (FreesRawSized b n s a)) (plain a.now) (address_of_word b.now) (turn_word c.now) (plain d.now) (plain e.now) }
 {
-    let Some((word, rest)) = next_word(line) else {
-        return Ok(Item::Blank);
+    let thread = number_at(a)?;
+    let address = address_at(b)?;
+    let turn = turn_at(c)?;
+    let size = number_at(d)?;
+    let align = number_at(e)?;
+    let wish = Wish::FreesRawSized {
+        address,
+        turn,
+        size,
+        align,
     };
+    Ok(Item::Operates { thread, wish })
+}
+
+/// .. that begins with `m`.
+fn item_of_remake(a: &[u8], b: &[u8], c: &[u8], d: &[u8], e: &[u8]) -> Result<Item, Reason>
+    ensures { result ≡ item5 (λ t n o s a. Operates t (Remakes n o s a)) (plain a.now) (trace_name b.now) (trace_name c.now) (plain d.now) (plain e.now) }
+{
+    let thread = number_at(a)?;
+    let name = name_at(b)?;
+    let old = name_at(c)?;
+    let size = number_at(d)?;
+    let align = number_at(e)?;
+    let wish = Wish::Remakes {
+        name,
+        old,
+        size,
+        align,
+    };
+    Ok(Item::Operates { thread, wish })
+}
+
+/// What a line of six words says.
+#[inline]
+fn item_of_six_words(
+    word: &[u8],
+    a: &[u8],
+    b: &[u8],
+    c: &[u8],
+    d: &[u8],
+    e: &[u8],
+) -> Result<Item, Reason>
+    ensures { result ≡ item_of_six word.now a.now b.now c.now d.now e.now }
+{
+    if is_word(word, b"a") {
+        item_of_request(a, b, c, d, e)
+    } else if is_word(word, b"rs") {
+        item_of_sized_raw(a, b, c, d, e)
+    } else if is_word(word, b"m") {
+        item_of_remake(a, b, c, d, e)
+    } else {
+        Err(Reason::BadWord)
+    }
+}
+
+/// Whether the word begins lines of this version, if it begins lines of any.
+#[inline]
+fn has_word(version: u8, word: &[u8]) -> bool
+    ensures { result ≡ has_since version (since word.now) }
+{
+    if is_word(word, b"fs") || is_word(word, b"rs") {
+        version >= 2
+    } else if is_word(word, b"m") {
+        version >= 4
+    } else {
+        true
+    }
+}
+
+/// What the words of a line say of which this is the first: their number and the first of them choose the kind.
+#[inline]
+fn item_by_count(started: bool, word: &[u8], rest: &[u8]) -> Result<Item, Reason>
+    ensures { result ≡ item_by_count started word.now (words_of rest.now) }
+{
     let Some((a, rest)) = next_word(rest) else {
         return item_of_one_word(word);
     };
@@ -186,7 +263,7 @@ fn item_of_words(started: bool, line: &[u8]) -> Result<Item, Reason>
         return item_of_four_words(word, a, b, c);
     };
     let Some((e, rest)) = next_word(rest) else {
-        return Err(Reason::BadWord);
+        return item_of_five_words(word, a, b, c, d);
     };
     match next_word(rest) {
         None => item_of_six_words(word, a, b, c, d, e),
@@ -194,14 +271,28 @@ fn item_of_words(started: bool, line: &[u8]) -> Result<Item, Reason>
     }
 }
 
-/// What a line from the second on says, or BadWord or BadNumber. `started` says that an operation or a `phase` line stands
-/// before. One pass.
+/// What the words of a line of this version say.
 #[inline]
-pub fn read_item(started: bool, line: &[u8]) -> Result<Item, Reason>
-    ensures { result ≡ item_of_line started line.now }
+fn item_of_words(version: u8, started: bool, line: &[u8]) -> Result<Item, Reason>
+    ensures { result ≡ item_of_words version started (words_of line.now) }
+{
+    let Some((word, rest)) = next_word(line) else {
+        return Ok(Item::Blank);
+    };
+    if !has_word(version, word) {
+        return Err(Reason::BadWord);
+    }
+    item_by_count(started, word, rest)
+}
+
+/// What a line from the second on of a text of this version says, or BadWord or BadNumber. `started` says that an operation or a `phase`
+/// line stands before. One pass.
+#[inline]
+pub(crate) fn read_item(version: u8, started: bool, line: &[u8]) -> Result<Item, Reason>
+    ensures { result ≡ item_of_line version started line.now }
 {
     if !line.is_empty() && line[0] == b'#' {
         return Ok(Item::Blank);
     }
-    item_of_words(started, line)
+    item_of_words(version, started, line)
 }

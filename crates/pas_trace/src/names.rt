@@ -4,16 +4,18 @@ ghost use Rattle.pas_trace.specs.Told.{owner_in};
 
 use std::alloc::{AllocError, Global};
 
-/// The thread that allocated a name, and the number of the phase in which it did. Thread 0 stands for a name that is free.
+/// The thread that made a name, the heap of its block, and the number of the phase in which it did. Thread 0 stands for a name that is free.
 #[derive(Clone, Copy, PartialEq, Eq, Drop)]
 pub struct Owner {
     pub thread: u8,
+    pub heap: u8,
     pub phase: u32,
 }
 
 /// The owner of a name that nobody took.
 const NOBODY: Owner = Owner {
     thread: 0,
+    heap: 0,
     phase: 0,
 };
 
@@ -26,7 +28,7 @@ pub struct Names {
 impl Names {
     /// No name is taken.
     pub fn new(alloc: Global) -> Names
-        ensures { (n : ℕ) → owner_in result n ≡ record { thread = 0; phase = 0 } }
+        ensures { (n : ℕ) → owner_in result n ≡ record { thread = 0; heap = 0; phase = 0 } }
     {
         Names {
             owners: Vec::new(alloc),

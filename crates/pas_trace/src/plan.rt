@@ -3,7 +3,9 @@
 use pas_profile::{Name, Profile};
 use std::mem::size_of;
 
-/// What an operation asks for, in 24 bytes. Names of allocations are the trace's own numbers, from 1 to 1,000,000; sizes and alignments are in bytes.
+/// What an operation asks for, in 24 bytes. Names of allocations are the trace's own numbers, from 1 to 1,000,000; sizes, alignments and rooms
+/// are in bytes. A free that names a room ends the block only where it has this room. A block is
+/// reallocated in its own heap.
 #[derive(Clone, Copy, PartialEq, Eq, Drop)]
 pub enum What {
     Alloc {
@@ -15,8 +17,23 @@ pub enum What {
     Free {
         name: u32,
     },
+    FreeSized {
+        name: u32,
+        room: u32,
+    },
     Raw {
         block: Name,
+    },
+    RawSized {
+        room: u32,
+        block: Name,
+    },
+    Remake {
+        name: u32,
+        old: u32,
+        heap: u8,
+        size: u32,
+        align: u32,
     },
     Flush,
     Stop,
@@ -33,7 +50,7 @@ pub struct Op {
     pub what: What,
 }
 
-/// What an operation asks a thread for: what `What` has, without the chores of the scavenger.
+/// What an operation asks a thread for: what `What` has, without the chores of the scavenger. A free may name the block's room.
 #[derive(Clone, Copy, PartialEq, Eq, Drop)]
 pub enum Task {
     Request {
@@ -44,9 +61,18 @@ pub enum Task {
     },
     Free {
         name: u32,
+        room: Option<u32>,
     },
     FreeRaw {
         block: Name,
+        room: Option<u32>,
+    },
+    Remake {
+        name: u32,
+        old: u32,
+        heap: u8,
+        size: u32,
+        align: u32,
     },
     Flush,
     Stop,
@@ -89,9 +115,10 @@ pub struct Bounds {
     pub(crate) bounds: Vec<u32>,
 }
 
-/// The plan of a trace. `total` bounds the records of all actors, and each name that a request asks for is below `names_limit`.
+/// The plan of a trace, whose text is of this version. `total` bounds the records of all actors, and each name that a request asks for is below `names_limit`.
 #[derive(Drop)]
 pub struct Plan {
+    pub version: u8,
     pub profile: Profile,
     pub phases: Phases,
     pub bounds: Bounds,
@@ -120,8 +147,29 @@ impl Op {
                 size,
                 align,
             }),
-            What::Free { name } => Work::Own(Task::Free { name }),
-            What::Raw { block } => Work::Own(Task::FreeRaw { block }),
+            What::Free { name } => Work::Own(Task::Free { name, room: None }),
+            What::FreeSized { name, room } => Work::Own(Task::Free {
+                name,
+                room: Some(room),
+            }),
+            What::Raw { block } => Work::Own(Task::FreeRaw { block, room: None }),
+            What::RawSized { block, room } => Work::Own(Task::FreeRaw {
+                block,
+                room: Some(room),
+            }),
+            What::Remake {
+                name,
+                old,
+                heap,
+                size,
+                align,
+            } => Work::Own(Task::Remake {
+                name,
+                old,
+                heap,
+                size,
+                align,
+            }),
             What::Flush => Work::Own(Task::Flush),
             What::Stop => Work::Own(Task::Stop),
             What::Tick(epoch) => Work::Chore(Chore::Tick(epoch)),

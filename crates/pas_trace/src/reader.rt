@@ -6,7 +6,7 @@ ghost use Rattle.pas_trace.specs.Items.{item_of_line};
 ghost use Rattle.pas_trace.specs.Wishes.{asking, IsFit};
 ghost use Rattle.pas_trace.specs.Plans.{IsReading, bounds_of, bounds_upto, fault_at};
 ghost use Rattle.pas_trace.specs.Texts.{lines_of};
-ghost use Rattle.pas_trace.specs.Told.{Tells, IsReady, IsCounted, IsOperated, IsNextPhase, IsAdded, IsTaken, IsFirstTaken, AreTaken, IsRead, IsBegun, IsPlanned, IsChecked, few_told, thread_told, told_checks, reason_told};
+ghost use Rattle.pas_trace.specs.Told.{Tells, IsReady, IsCounted, IsOperated, IsNextPhase, IsAdded, IsTaken, IsFirstTaken, AreTaken, IsRead, IsBegun, IsPlanned, IsChecked, AreTested, few_told, thread_told, sizing_told, freed_told, told_checks, reason_told};
 ghost use Rattle.pas_trace.specs.Lexed.{Say, AreLexed};
 ghost use Rattle.pas_trace.specs.declared.item.Item.{Item};
 ghost use Rattle.pas_trace.specs.declared.item.Wish.{Wish};
@@ -15,7 +15,7 @@ use crate::counts::{Counts, MOST_OPERATIONS, MOST_RECORDS};
 use crate::fault::{ReadFault, Reason, TraceFault};
 use crate::fronts::front_item;
 use crate::gathered::Gathered;
-use crate::header::read_header;
+use crate::header::{Header, read_header};
 use crate::item::{Item, Request, Wish};
 use crate::items::read_item;
 use crate::lines::next_line;
@@ -30,7 +30,7 @@ use std::alloc::{AllocError, Global};
 #[derive(Drop)]
 pub struct Reader {
     alloc: Global,
-    header: Profile,
+    header: Header,
     /// The marks of shared heaps.
     shared: u32,
     /// Whether an operation or a `phase` line was read.
@@ -46,8 +46,8 @@ pub struct Reader {
 
 impl Reader {
     /// A reader that has read the header.
-    fn new(alloc: Global, header: Profile) -> Reader
-        requires { IsValid header }
+    fn new(alloc: Global, header: Header) -> Reader
+        requires { IsValid header.profile }
         ensures tells { Tells result [] }
         ensures header { result.header ≡ header }
     {
@@ -59,17 +59,24 @@ impl Reader {
             line: 1,
             phase: 0,
             names: Names::new(alloc),
-            counts: Counts::new(&header),
+            counts: Counts::new(&header.profile),
             gathered: Gathered::new(alloc),
         }
+    }
+
+    /// The version of the text.
+    pub(crate) fn version(&self) -> u8
+        ensures { result ≡ self.now.header.version }
+    {
+        self.header.version
     }
 
     /// Whether the thread is one of the region's.
     #[inline(always)]
     fn has_thread(&self, thread: u64) -> bool
-        ensures { result ≡ is_thread self.now.header thread }
+        ensures { result ≡ is_thread self.now.header.profile thread }
     {
-        thread >= 1 && thread <= self.header.threads as u64
+        thread >= 1 && thread <= self.header.profile.threads as u64
     }
 
     /// The checks of every operation.
@@ -97,38 +104,45 @@ impl Reader {
         self.check_counts(cost)
     }
 
+    /// The checks of a size and an alignment.
+    #[inline(always)]
+    fn check_sizing(&self, size: u64, align: u64) -> Result<(), Reason>
+        requires { IsValid self.now.header.profile }
+        ensures { AreTested (sizing_told self.now size align) result }
+    {
+        if size > PAGE_BYTES as u64 * self.header.profile.pages as u64 {
+            return Err(Reason::BadSize);
+        }
+        if !is_aligning(align) {
+            return Err(Reason::BadAlign);
+        }
+        Ok(())
+    }
+
     /// The checks of a request.
     #[inline(always)]
     fn check_request(&self, thread: u64, request: Request) -> Result<u32, Reason>
-        requires { IsValid self.now.header }
+        requires { IsValid self.now.header.profile }
         ensures { IsChecked (reason_told self.now thread (asking request)) (cost_of_size request.size) result }
     {
         if !self.has_thread(thread) {
             return Err(Reason::BadThread);
         }
-        if request.heap >= self.header.heaps as u64 {
+        if request.heap >= self.header.profile.heaps as u64 {
             return Err(Reason::BadHeap);
         }
-        if request.size > PAGE_BYTES as u64 * self.header.pages as u64 {
-            return Err(Reason::BadSize);
-        }
-        if !is_aligning(request.align) {
-            return Err(Reason::BadAlign);
-        }
+        self.check_sizing(request.size, request.align)?;
         if self.names.owner(request.name).thread != 0 {
             return Err(Reason::NameTaken);
         }
         self.check_counts(cost_of_allocation(request.size as u32))
     }
 
-    /// The checks of a free by trace name. A free by another thread than the one that allocated waits for a later phase.
+    /// The checks of a trace name that is freed. Another thread than the one that allocated waits for a later phase.
     #[inline(always)]
-    fn check_free(&self, thread: u64, name: u32) -> Result<u32, Reason>
-        ensures { IsChecked (reason_told self.now thread (Wish.Frees name)) 1 result }
+    fn check_freed(&self, thread: u64, name: u32) -> Result<(), Reason>
+        ensures { AreTested (freed_told self.now thread name) result }
     {
-        if !self.has_thread(thread) {
-            return Err(Reason::BadThread);
-        }
         let owner = self.names.owner(name);
         if owner.thread == 0 {
             return Err(Reason::NameUnknown);
@@ -136,13 +150,74 @@ impl Reader {
         if thread != owner.thread as u64 && owner.phase == self.phase {
             return Err(Reason::TooEarly);
         }
+        Ok(())
+    }
+
+    /// The checks of a free by trace name.
+    #[inline(always)]
+    fn check_free(&self, thread: u64, name: u32) -> Result<u32, Reason>
+        ensures { IsChecked (reason_told self.now thread (Wish.Frees name)) 1 result }
+    {
+        if !self.has_thread(thread) {
+            return Err(Reason::BadThread);
+        }
+        self.check_freed(thread, name)?;
         self.check_counts(1)
+    }
+
+    /// .. that names a size and an alignment.
+    fn check_sized_free(&self, thread: u64, name: u32, size: u64, align: u64) -> Result<u32, Reason>
+        requires { IsValid self.now.header.profile }
+        ensures { IsChecked (reason_told self.now thread (Wish.FreesSized name size align)) 1 result }
+    {
+        if !self.has_thread(thread) {
+            return Err(Reason::BadThread);
+        }
+        self.check_sizing(size, align)?;
+        self.check_freed(thread, name)?;
+        self.check_counts(1)
+    }
+
+    /// The checks of a free by address and turn that names a size and an alignment.
+    fn check_sized_raw(&self, thread: u64, size: u64, align: u64) -> Result<u32, Reason>
+        requires { IsValid self.now.header.profile }
+        ensures { (address turn : ℕ) → IsChecked (reason_told self.now thread (Wish.FreesRawSized address turn size align)) 1 result }
+    {
+        if !self.has_thread(thread) {
+            return Err(Reason::BadThread);
+        }
+        self.check_sizing(size, align)?;
+        self.check_counts(1)
+    }
+
+    /// The checks of a reallocation.
+    #[inline(never)]
+    fn check_remake(
+        &self,
+        thread: u64,
+        name: u32,
+        old: u32,
+        size: u64,
+        align: u64,
+    ) -> Result<u32, Reason>
+        requires { IsValid self.now.header.profile }
+        ensures { IsChecked (reason_told self.now thread (Wish.Remakes name old size align)) (cost_of_size size + 1) result }
+    {
+        if !self.has_thread(thread) {
+            return Err(Reason::BadThread);
+        }
+        self.check_sizing(size, align)?;
+        if self.names.owner(name).thread != 0 {
+            return Err(Reason::NameTaken);
+        }
+        self.check_freed(thread, old)?;
+        self.check_counts(cost_of_allocation(size as u32) + 1)
     }
 
     /// The cost of an operation of a thread that passes its checks, or the first reason that applies.
     #[inline(always)]
     fn check_wish(&self, thread: u64, wish: Wish) -> Result<u32, Reason>
-        requires { IsValid self.now.header }
+        requires { IsValid self.now.header.profile }
         ensures { IsChecked (reason_told self.now thread wish) (cost_of_wish wish) result }
     {
         match wish {
@@ -161,7 +236,17 @@ impl Reader {
                 self.check_request(thread, request)
             }
             Wish::Frees { name } => self.check_free(thread, name),
+            Wish::FreesSized { name, size, align } => {
+                self.check_sized_free(thread, name, size, align)
+            }
             Wish::FreesRaw { .. } => self.check_thread(thread, 1),
+            Wish::FreesRawSized { size, align, .. } => { self.check_sized_raw(thread, size, align) }
+            Wish::Remakes {
+                name,
+                old,
+                size,
+                align,
+            } => self.check_remake(thread, name, old, size, align),
             Wish::Flushes => self.check_thread(thread, 0),
             Wish::Stops => self.check_thread(thread, 0),
         }
@@ -170,27 +255,27 @@ impl Reader {
     /// The same of an operation of the scavenger.
     #[inline(always)]
     fn check_chore(&self, chore: Chore) -> Result<u32, Reason>
-        requires { IsValid self.now.header }
-        ensures { IsChecked (first_failed (few_told self.now (records_of_chore self.now.header chore))) (records_of_chore self.now.header chore) result }
+        requires { IsValid self.now.header.profile }
+        ensures { IsChecked (first_failed (few_told self.now (records_of_chore self.now.header.profile chore))) (records_of_chore self.now.header.profile chore) result }
     {
         match chore {
             Chore::Tick(_) => self.check_counts(1),
-            Chore::Pass => self.check_counts(1 + self.header.pages),
-            Chore::Idle(_) => self.check_counts(self.header.threads as u32),
+            Chore::Pass => self.check_counts(1 + self.header.profile.pages),
+            Chore::Idle(_) => self.check_counts(self.header.profile.threads as u32),
         }
     }
 
     /// The cost of an item that passes its checks, or the first reason that applies.
     #[inline(always)]
     fn check(&self, item: Item) -> Result<u32, Reason>
-        requires { IsValid self.now.header }
-        ensures { IsChecked (first_failed (told_checks self.now item)) (cost_of self.now.header item) result }
+        requires { IsValid self.now.header.profile }
+        ensures { IsChecked (first_failed (told_checks self.now item)) (cost_of self.now.header.profile item) result }
     {
         match item {
             Item::Blank => Ok(0),
             Item::NextPhase => Ok(0),
             Item::Shares(heap) => {
-                if heap < self.header.heaps as u64 {
+                if heap < self.header.profile.heaps as u64 {
                     Ok(0)
                 } else {
                     Err(Reason::BadHeap)
@@ -217,7 +302,8 @@ impl Reader {
     #[inline(always)]
     fn operate(&mut self, thread: u8, wish: Wish, cost: u32) -> Result<(), AllocError>
         requires ready { IsReady self.old.counts thread cost }
-        requires fits { IsFit wish }
+        requires valid { IsValid self.old.header.profile }
+        requires fits { IsFit self.old.header.profile wish }
         ensures { OnOk result (IsOperated self.old self.new thread wish cost) }
     {
         match wish {
@@ -228,7 +314,12 @@ impl Reader {
                 align,
             } => {
                 let phase = self.phase;
-                self.names.give(name, Owner { thread, phase })?;
+                let owner = Owner {
+                    thread,
+                    heap: heap as u8,
+                    phase,
+                };
+                self.names.give(name, owner)?;
                 let what = What::Alloc {
                     name,
                     heap: heap as u8,
@@ -238,10 +329,48 @@ impl Reader {
                 self.count(thread, what, cost)
             }
             Wish::Frees { name } => self.count(thread, What::Free { name }, cost),
+            Wish::FreesSized { name, size, align } => {
+                let room = self.header.profile.room_for(size as u32, align as u32);
+                self.count(thread, What::FreeSized { name, room }, cost)
+            }
             Wish::FreesRaw { address, turn } => {
                 let address = Address(address);
                 let block = Name { address, turn };
                 self.count(thread, What::Raw { block }, cost)
+            }
+            Wish::FreesRawSized {
+                address,
+                turn,
+                size,
+                align,
+            } => {
+                let room = self.header.profile.room_for(size as u32, align as u32);
+                let address = Address(address);
+                let block = Name { address, turn };
+                self.count(thread, What::RawSized { block, room }, cost)
+            }
+            Wish::Remakes {
+                name,
+                old,
+                size,
+                align,
+            } => {
+                let phase = self.phase;
+                let heap = self.names.owner(old).heap;
+                let owner = Owner {
+                    thread,
+                    heap,
+                    phase,
+                };
+                self.names.give(name, owner)?;
+                let what = What::Remake {
+                    name,
+                    old,
+                    heap,
+                    size: size as u32,
+                    align: align as u32,
+                };
+                self.count(thread, what, cost)
             }
             Wish::Flushes => self.count(thread, What::Flush, cost),
             Wish::Stops => self.count(thread, What::Stop, cost),
@@ -262,8 +391,8 @@ impl Reader {
     /// Adds an item that passed its checks.
     #[inline(always)]
     fn add(&mut self, item: Item, cost: u32) -> Result<(), AllocError>
-        requires tells { (items : List Item) × Tells self.old items × (reason_of self.old.header items item ≡ None) }
-        requires cost { cost ≡ cost_of self.old.header item }
+        requires tells { (items : List Item) × Tells self.old items × (reason_of self.old.header.profile items item ≡ None) }
+        requires cost { cost ≡ cost_of self.old.header.profile item }
         requires line { self.old.line < 2 ^ 25 }
         ensures { OnOk result (IsAdded self.old self.new item) }
     {
@@ -297,7 +426,7 @@ impl Reader {
     fn take_item(&mut self, item: Item) -> Result<(), ReadFault>
         requires tells { (items : List Item) × Tells self.old items }
         requires line { self.old.line < 2 ^ 25 }
-        ensures { (items : List Item) (line : List ℕ) → Tells self.old items → item_of_line self.old.started line ≡ Ok item → IsTaken self.old items line self.new result }
+        ensures { (items : List Item) (line : List ℕ) → Tells self.old items → item_of_line self.old.header.version self.old.started line ≡ Ok item → IsTaken self.old items line self.new result }
     {
         match self.check(item) {
             Ok(cost) => match self.add(item, cost) {
@@ -315,7 +444,7 @@ impl Reader {
         requires line { self.old.line < 2 ^ 25 }
         ensures { (items : List Item) → Tells self.old items → IsTaken self.old items line.now self.new result }
     {
-        match read_item(self.started, line) {
+        match read_item(self.header.version, self.started, line) {
             Ok(item) => self.take_item(item),
             Err(reason) => Err(self.fault(reason)),
         }
@@ -359,9 +488,9 @@ impl Reader {
     #[inline(never)]
     fn take_items(&mut self, items: &[Item]) -> Result<(), ReadFault>
         requires tells { (told : List Item) × Tells self.old told }
-        requires said { (lines : List (List ℕ)) × Say lines items.now }
+        requires said { (lines : List (List ℕ)) × Say self.old.header.version lines items.now }
         requires size { self.old.line + length items.now ≤ 2 ^ 24 + 1 }
-        ensures taken { (told : List Item) (lines : List (List ℕ)) → Tells self.old told → Say lines items.now → AreTaken self.old told lines self.new result }
+        ensures taken { (told : List Item) (lines : List (List ℕ)) → Tells self.old told → Say self.old.header.version lines items.now → AreTaken self.old told lines self.new result }
         ensures few { OnOk result (self.new.line ≤ self.old.line + length items.now) }
     {
         for item in items {
@@ -373,9 +502,9 @@ impl Reader {
     /// Takes what the lines of a text say, and then reads the text that is left of it.
     pub(crate) fn take_lexed(&mut self, items: &[Item], left: &[u8]) -> Result<(), ReadFault>
         requires tells { (told : List Item) × Tells self.old told }
-        requires lexed { (text : List ℕ) × AreLexed text items.now left.now × (self.old.line + length text ≤ 2 ^ 24 + 1) }
-        ensures read { (told : List Item) (text : List ℕ) → Tells self.old told → AreLexed text items.now left.now → IsRead self.old told text self.new result }
-        ensures few { OnOk result ((text : List ℕ) → AreLexed text items.now left.now → self.new.line ≤ self.old.line + length text) }
+        requires lexed { (text : List ℕ) × AreLexed self.old.header.version text items.now left.now × (self.old.line + length text ≤ 2 ^ 24 + 1) }
+        ensures read { (told : List Item) (text : List ℕ) → Tells self.old told → AreLexed self.old.header.version text items.now left.now → IsRead self.old told text self.new result }
+        ensures few { OnOk result ((text : List ℕ) → AreLexed self.old.header.version text items.now left.now → self.new.line ≤ self.old.line + length text) }
     {
         self.take_items(items)?;
         self.read_lines(left)
@@ -384,11 +513,15 @@ impl Reader {
     /// The bounds of the actors: for a thread a deed for each page and its costs, for the scavenger its costs.
     fn bounds(&self) -> Result<Bounds, AllocError>
         requires { (items : List Item) × Tells self.now items }
-        ensures { IfOk result (λ bounds. (items : List Item) → Tells self.now items → bounds_of bounds ≡ bounds_upto self.now.header items (self.now.header.threads + 1)) }
+        ensures { IfOk result (λ bounds. (items : List Item) → Tells self.now items → bounds_of bounds ≡ bounds_upto self.now.header.profile items (self.now.header.profile.threads + 1)) }
     {
         let mut bounds = Vec::new(self.alloc);
-        for actor in 0..self.header.threads as usize + 1 {
-            let deeds = if actor == 0 { 0 } else { self.header.pages };
+        for actor in 0..self.header.profile.threads as usize + 1 {
+            let deeds = if actor == 0 {
+                0
+            } else {
+                self.header.profile.pages
+            };
             bounds.push(deeds + self.counts.costs[actor])?;
         }
         Ok(Bounds { bounds })
@@ -408,8 +541,10 @@ impl Reader {
             gathered,
             ..
         } = self;
+        let Header { version, profile } = header;
         Ok(Plan {
-            profile: Profile { shared, ..header },
+            version,
+            profile: Profile { shared, ..profile },
             phases: gathered.finish()?,
             bounds,
             total: counts.bound,

@@ -53,19 +53,20 @@ fn take_and_lex<'a, R: Threads + Sync>(
     next: &mut Vec<Item>,
 ) -> (Result<(), ReadFault>, &'a [u8])
     requires tells { (told : List Item) × Tells reader.old told }
-    requires lexed { (text : List ℕ) × AreLexed text items.now left.now × (reader.old.line + length text ≤ 2 ^ 24 + 1) }
-    ensures read { (told : List Item) (text : List ℕ) → Tells reader.old told → AreLexed text items.now left.now → IsRead reader.old told text reader.new result.0 }
-    ensures few { OnOk result.0 ((text : List ℕ) → AreLexed text items.now left.now → reader.new.line ≤ reader.old.line + length text) }
-    ensures next { AreLexed piece.now next.new.items result.1.now }
+    requires lexed { (text : List ℕ) × AreLexed reader.old.header.version text items.now left.now × (reader.old.line + length text ≤ 2 ^ 24 + 1) }
+    ensures read { (told : List Item) (text : List ℕ) → Tells reader.old told → AreLexed reader.old.header.version text items.now left.now → IsRead reader.old told text reader.new result.0 }
+    ensures few { OnOk result.0 ((text : List ℕ) → AreLexed reader.old.header.version text items.now left.now → reader.new.line ≤ reader.old.line + length text) }
+    ensures next { AreLexed reader.old.header.version piece.now next.new.items result.1.now }
 {
+    let version = reader.version();
     let mut take_apart = || -> &[u8]
-        ensures { AreLexed piece.entry.now next.exit.now.items result.now }
-    { lex(piece, next) };
+        ensures { AreLexed version piece.entry.now next.exit.now.items result.now }
+    { lex(version, piece, next) };
     let mut take = || -> Result<(), ReadFault>
         requires tells { (told : List Item) × Tells reader.now told }
-        requires lexed { (text : List ℕ) × AreLexed text items.now left.now × (reader.now.line + length text ≤ 2 ^ 24 + 1) }
-        ensures read { (told : List Item) (text : List ℕ) → Tells reader.entry.now told → AreLexed text items.entry.now left.entry.now → IsRead reader.entry.now told text reader.exit.now result }
-        ensures few { OnOk result ((text : List ℕ) → AreLexed text items.entry.now left.entry.now → reader.exit.now.line ≤ reader.entry.now.line + length text) }
+        requires lexed { (text : List ℕ) × AreLexed reader.now.header.version text items.now left.now × (reader.now.line + length text ≤ 2 ^ 24 + 1) }
+        ensures read { (told : List Item) (text : List ℕ) → Tells reader.entry.now told → AreLexed reader.entry.now.header.version text items.entry.now left.entry.now → IsRead reader.entry.now told text reader.exit.now result }
+        ensures few { OnOk result ((text : List ℕ) → AreLexed reader.entry.now.header.version text items.entry.now left.entry.now → reader.exit.now.line ≤ reader.entry.now.line + length text) }
     { reader.take_lexed(items, left) };
     let (after, took) = join_mut(rt, &mut take_apart, &mut take);
     (took, after)

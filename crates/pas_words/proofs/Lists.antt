@@ -1,16 +1,21 @@
 -- Lists of words that are accepted.
-use Rattle.std.proofs.Common.{◌≡◌, ℕ, ◌≤◌, ◌<◌, Bool, List, [], ◌∷◌, IsTrue, Bor, get_or, length, ap, ◌∙◌, sym, inl, inr, arith, nat_eq, refl}
+use Rattle.std.proofs.Common.{◌≡◌, ℕ, ◌≤◌, ◌<◌, Bool, false, List, [], ◌∷◌, IsTrue, Bor, get_or, length, ap, ◌∙◌, sym, inl, inr, arith, nat_eq, refl}
 use Rattle.std.specs.Prelude.{codes}
+use Rattle.std.proofs.lemmas.Bool.{false≢true}
 use Rattle.std.proofs.lemmas.Slice.Eq.{slice_eq-Decides}
 use Rattle.std.proofs.lemmas.Bool.Decides.{Decides-eqb}
 use Rattle.std.specs.Cmp.Lexicographic.{pointwise}
 use Rattle.pas_trace.specs.Numbers.{number_of}
-use Rattle.pas_words.specs.Words.{texts_of, word_of, IsReplaying, IsGen, IsNumbers, IsAccepted}
+use Rattle.pas_words.specs.Words.{texts_of, word_of, IsReplaying, IsChecking, IsGen, IsNumbers, IsAccepted}
 use Rattle.pas_words.specs.declared.manner.Manner.{Manner}
 
 -- a word that is the text
 is_text : (word text : List ℕ) (r : Bool) → r ≡ pointwise nat_eq word text → IsTrue r → word ≡ text
 is_text word text r is t = (slice_eq-Decides Decides-eqb word text r is).0 t
+
+-- .. or isn't
+pub isnt_text : (word text : List ℕ) (r : Bool) → r ≡ pointwise nat_eq word text → r ≡ false → word ≡ text → ⊥
+isnt_text word text r is f same = false≢true (sym f ∙ (slice_eq-Decides Decides-eqb word text r is).1 same)
 
 -- one word
 one_word : (words : List (Bor (List ℕ))) (d : Bor (List ℕ)) → 1 ≤ length words → length words < 2 → texts_of words ≡ (get_or words 0 d).now ∷ []
@@ -28,9 +33,14 @@ not_one a b c d e x h = cc
 same_word : (a b : List ℕ) → a ∷ [] ≡ b ∷ [] → a ≡ b
 same_word a b h = cc
 
-pub not_manner : (words : List (Bor (List ℕ))) (d : Bor (List ℕ)) → 1 ≤ length words → length words < 2 → ((manner : Manner) → (get_or words 0 d).now ≡ word_of manner → ⊥) → IsAccepted (texts_of words) → ⊥
-not_manner words d some few never (inl (manner, is)) = never manner (same_word _ _ (sym (one_word words d some few) ∙ is))
-not_manner words d some few never (inr (seed, ops, threads, pages, is)) = not_one _ _ _ _ _ _ (sym is.words_are ∙ one_word words d some few)
+pub check_words : (words : List (Bor (List ℕ))) (d : Bor (List ℕ)) (r : Bool) → 1 ≤ length words → length words < 2 → r ≡ pointwise nat_eq (get_or words 0 d).now (codes "check") → IsTrue r → IsChecking (texts_of words)
+check_words words d r some few is t = one_word words d some few ∙ ap (λ (x : List ℕ). x ∷ []) (is_text (get_or words 0 d).now (codes "check") r is t)
+
+pub not_one_of : (words : List (Bor (List ℕ))) (d : Bor (List ℕ)) → 1 ≤ length words → length words < 2 → ((get_or words 0 d).now ≡ codes "check" → ⊥) → ((manner : Manner) → (get_or words 0 d).now ≡ word_of manner → ⊥)
+    → IsAccepted (texts_of words) → ⊥
+not_one_of words d some few other never (inl (manner, is)) = never manner (same_word _ _ (sym (one_word words d some few) ∙ is))
+not_one_of words d some few other never (inr (inl is)) = other (same_word _ _ (sym (one_word words d some few) ∙ is))
+not_one_of words d some few other never (inr (inr (seed, ops, threads, pages, is))) = not_one _ _ _ _ _ _ (sym is.words_are ∙ one_word words d some few)
 
 -- five words
 five_words : (words : List (Bor (List ℕ))) (d0 d1 d2 d3 d4 : Bor (List ℕ)) → 5 ≤ length words → length words < 6
@@ -62,7 +72,8 @@ same_words a b c d e a' b' c' d' e' h = (cc, cc, cc, cc)
 pub not_gen : (words : List (Bor (List ℕ))) (d1 d2 d3 d4 : Bor (List ℕ)) → 5 ≤ length words → length words < 6
     → ((seed ops threads pages : ℕ) → IsNumbers (get_or words 1 d1).now (get_or words 2 d2).now (get_or words 3 d3).now (get_or words 4 d4).now seed ops threads pages → ⊥) → IsAccepted (texts_of words) → ⊥
 not_gen words d1 d2 d3 d4 some few never (inl (manner, is)) = not_one _ _ _ _ _ (word_of manner) (sym (five_words words d1 d1 d2 d3 d4 some few) ∙ is)
-not_gen words d1 d2 d3 d4 some few never (inr (seed, ops, threads, pages, is)) =
+not_gen words d1 d2 d3 d4 some few never (inr (inl is)) = not_one _ _ _ _ _ (codes "check") (sym (five_words words d1 d1 d2 d3 d4 some few) ∙ is)
+not_gen words d1 d2 d3 d4 some few never (inr (inr (seed, ops, threads, pages, is))) =
     let same = same_words _ _ _ _ _ (codes "gen") is.s is.o is.t is.p (sym (five_words words d1 d1 d2 d3 d4 some few) ∙ is.words_are) in
     never seed ops threads pages (record {
       seed_is = ap number_of same.0 ∙ is.numbers.seed_is;

@@ -1,14 +1,15 @@
 -- What the words of a call come to.
 use Rattle.std.specs.Prelude.{ℕ, List}
-use Rattle.pas_words.specs.Words.{IsReplaying, IsGen, IsAccepted}
+use Rattle.pas_words.specs.Words.{IsReplaying, IsChecking, IsGen, IsAccepted}
 use Rattle.pas_words.specs.declared.words.Call.{Call}
-use Rattle.pas_words.specs.declared.words.Call.TheVariants.{Replay, Gen}
+use Rattle.pas_words.specs.declared.words.Call.TheVariants.{Replay, Check, Gen}
 use Rattle.pas_words.specs.declared.words.Misread.{Misread}
 use Rattle.pas_words.specs.declared.words.Misread.TheVariants.{Usage, Memory}
 
 -- the words ask for the call
 abbrev pub IsCall : List (List ℕ) → Call → Type 0
 IsCall words (Replay manner) = IsReplaying manner words
+IsCall words Check = IsChecking words
 IsCall words (Gen job) = IsGen words job.seed job.ops job.threads job.pages
 
 -- no accepted list; an accepted one, where memory was wanting

@@ -18,6 +18,14 @@ word_of Manner.OnThreads = codes "run"
 abbrev pub IsReplaying : Manner → List (List ℕ) → Type 0
 IsReplaying manner words = words ≡ word_of manner ∷ []
 
+-- the words ask for a check of the transcript in the input: they are its one word
+abbrev pub IsChecking : List (List ℕ) → Type 0
+IsChecking words = words ≡ codes "check" ∷ []
+
+-- .. or for either, so that the input is read
+abbrev pub ReadsInput : List (List ℕ) → Type 0
+ReadsInput words = ((manner : Manner) × IsReplaying manner words) ⊎ IsChecking words
+
 -- four words are these numbers, each within its range: decimals without a sign and without a leading zero
 pub record IsNumbers (s o t p : List ℕ) (seed ops threads pages : ℕ) : Type 0 where
   pub seed_is : number_of s ≡ Some seed
@@ -36,4 +44,4 @@ pub record IsGen (words : List (List ℕ)) (seed ops threads pages : ℕ) : Type
   pub numbers : IsNumbers s o t p seed ops threads pages
 
 abbrev pub IsAccepted : List (List ℕ) → Type 0
-IsAccepted words = ((manner : Manner) × IsReplaying manner words) ⊎ ((seed ops threads pages : ℕ) × IsGen words seed ops threads pages)
+IsAccepted words = ((manner : Manner) × IsReplaying manner words) ⊎ IsChecking words ⊎ ((seed ops threads pages : ℕ) × IsGen words seed ops threads pages)

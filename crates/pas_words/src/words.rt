@@ -15,6 +15,8 @@ use std::alloc::{AllocError, Global};
 pub enum Call {
     /// Replay the trace that the source gives.
     Replay(Manner),
+    /// Check a transcript against the trace that stands before it in what the source gives.
+    Check,
     /// Replay a generated trace.
     Gen(Job),
 }
@@ -61,6 +63,7 @@ fn accepted(words: &[&str]) -> Option<Call>
     ensures { MatchOption result (IsAccepted (texts_of words.now) → ⊥) (IsCall (texts_of words.now)) }
 {
     match words {
+        [word] if *word == "check" => Some(Call::Check),
         [word] => Some(Call::Replay(manner_of(word)?)),
         [word, seed, ops, threads, pages] if *word == "gen" => {
             Some(Call::Gen(job_of(seed, ops, threads, pages)?))
@@ -139,17 +142,18 @@ fn program<'a>(alloc: Global) -> Command<'a> {
         .subcommand_required(true)
 }
 
-/// The program's command with those below it that replay an input.
-fn replaying<'a>(alloc: Global) -> Result<Command<'a>, AllocError> {
+/// The program's command with those below it that read an input.
+fn reading<'a>(alloc: Global) -> Result<Command<'a>, AllocError> {
     program(alloc)
         .subcommand(command(alloc, "order"))?
-        .subcommand(command(alloc, "run"))
+        .subcommand(command(alloc, "run"))?
+        .subcommand(command(alloc, "check"))
 }
 
 /// The program's command with all that are below it: one level of subcommands, without help and version.
 fn whole<'a>(alloc: Global) -> Result<Command<'a>, AllocError> {
     let generate = generating(alloc)?;
-    replaying(alloc)?.subcommand(generate)
+    reading(alloc)?.subcommand(generate)
 }
 
 /// The words as `clap` reads them.
@@ -162,6 +166,7 @@ fn is_reading(matches: &ArgMatches, call: &Call) -> bool {
     match (matches.subcommand(), call) {
         (Some(("order", _)), Call::Replay(Manner::InOrder)) => true,
         (Some(("run", _)), Call::Replay(Manner::OnThreads)) => true,
+        (Some(("check", _)), Call::Check) => true,
         (Some(("gen", values)), Call::Gen(job)) => {
             is_value(values, "SEED", job.seed)
                 && is_value(values, "OPS", job.ops as u64)

@@ -1,11 +1,14 @@
+use Rattle.std.proofs.Common.{sym, subst}
+use Rattle.pas_profile.specs.declared.profile.Profile.{Profile}
+use Rattle.pas_answers.specs.Calls.{MayStand}
 use Rattle.pas_acts.proofs.AtDesk.{may_do, fit_at, may_answer, has_operated}
 use Rattle.pas_acts.proofs.at_desk.operate.Goals as goal
 
 pub answer_meant-came-requires-clause-fit : goal.answer_meant-came-requires-clause-fit
 answer_meant-came-requires-clause-fit g c = fit_at (may_do c.requires.stands.4 c.requires.stands.5)
 
-pub answer_meant-came-requires-clause-turn : goal.answer_meant-came-requires-clause-turn
-answer_meant-came-requires-clause-turn g c = c.requires.stands.5.turn
+pub answer_meant-came-requires-clause-stands : goal.answer_meant-came-requires-clause-stands
+answer_meant-came-requires-clause-stands g c = subst (λ (f : Profile). MayStand f c.args.meant) (sym c.requires.stands.5.rests.sits.profile) c.requires.stands.5.stands
 
 pub answer_meant-came-requires-clause-can : goal.answer_meant-came-requires-clause-can
 answer_meant-came-requires-clause-can g c = may_answer (g.D.Desk.spare_of c.args.desk.now) (λ v l stood. g.met.D.Desk.spares c.args.desk.now v l stood) (may_do c.requires.stands.4 c.requires.stands.5)

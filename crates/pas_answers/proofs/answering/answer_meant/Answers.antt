@@ -1,7 +1,7 @@
 use Rattle.std.proofs.Common.{◌≡◌, ◌∙◌, arith, length, drop}
 use Rattle.pas_cache.specs.Caches.{cached}
 use Rattle.pas_answers.specs.Calls.{what_of}
-use Rattle.pas_answers.specs.Indexes.{IsNamedFor}
+use Rattle.pas_answers.specs.Indexes.{IsNamedFor, request_made}
 use Rattle.pas_answers.proofs.Records.{can_rest, shown_longer, records_fit, said_fits, answers_silent, answers_said}
 use Rattle.pas_answers.proofs.answering.answer_meant.Goals as goal
 
@@ -23,13 +23,13 @@ push-requires g c = said_fits (g.D.Desk.standing c.args.desk.now).seat.actor c.a
     c.push_events.ensures.added c.push_events.ensures.room
 
 pub returns-in-Some-clause-answers : goal.returns-in-Some-clause-answers
-returns-in-Some-clause-answers g c = answers_said (λ found. IsNamedFor (g.D.Desk.standing c.args.desk.now).seat.profile (g.O.Door.answers c.args.door.now c.perform-came.new.door) (c.perform-came.new.door ≡ c.args.door.now) (what_of c.args.task) found) (what_of c.args.task) c.args.meant c.perform-came.result.0 (cached c.args.cache.now) (cached c.perform-came.new.cache) c.args.out.now c.push_events.new.out c.push.new.self c.shown-before.result.now c.shown.result.now
+returns-in-Some-clause-answers g c = answers_said (λ found. IsNamedFor (g.D.Desk.standing c.args.desk.now).seat.profile (g.O.Door.answers c.args.door.now c.perform-came.new.door) (c.perform-came.new.door ≡ c.args.door.now) (request_made (what_of c.args.task) c.args.meant) found) (what_of c.args.task) c.args.meant c.perform-came.result.0 (cached c.args.cache.now) (cached c.perform-came.new.cache) c.args.out.now c.push_events.new.out c.push.new.self c.shown-before.result.now c.shown.result.now
     c.in-Some.said c.actor.result c.in-Some.is c.actor.ensures c.perform-came.ensures.performs.0 c.perform-came.ensures.performs.1
     (λ v l stood. c.shown-before.ensures ∙ g.met.D.Desk.shows c.args.desk.now v l stood) (λ v l stood. c.shown.ensures ∙ g.met.D.Desk.shows c.perform-came.new.desk v l stood)
     c.push_events.ensures.added c.push_events.ensures.room c.push.ensures.added c.push.ensures.size
 
 pub returns-in_default-clause-answers : goal.returns-in_default-clause-answers
-returns-in_default-clause-answers g c = answers_silent (λ found. IsNamedFor (g.D.Desk.standing c.args.desk.now).seat.profile (g.O.Door.answers c.args.door.now c.perform-came.new.door) (c.perform-came.new.door ≡ c.args.door.now) (what_of c.args.task) found) (what_of c.args.task) c.args.meant c.perform-came.result.0 (cached c.args.cache.now) (cached c.perform-came.new.cache) c.args.out.now c.push_events.new.out c.shown-before.result.now c.shown.result.now
+returns-in_default-clause-answers g c = answers_silent (λ found. IsNamedFor (g.D.Desk.standing c.args.desk.now).seat.profile (g.O.Door.answers c.args.door.now c.perform-came.new.door) (c.perform-came.new.door ≡ c.args.door.now) (request_made (what_of c.args.task) c.args.meant) found) (what_of c.args.task) c.args.meant c.perform-came.result.0 (cached c.args.cache.now) (cached c.perform-came.new.cache) c.args.out.now c.push_events.new.out c.shown-before.result.now c.shown.result.now
     c.in_default.is c.perform-came.ensures.performs.0 c.perform-came.ensures.performs.1
     (λ v l stood. c.shown-before.ensures ∙ g.met.D.Desk.shows c.args.desk.now v l stood) (λ v l stood. c.shown.ensures ∙ g.met.D.Desk.shows c.perform-came.new.desk v l stood)
     c.push_events.ensures.added c.push_events.ensures.room

@@ -1,12 +1,12 @@
 use Rattle.std.proofs.Common.{◌+◌, List, drop, get_or, true, refl, subst, ◌∙◌}
 use Rattle.std.proofs.lemmas.List.{drop_more}
-use Rattle.pas_profile.specs.declared.name.Name.{Name}
 use Rattle.pas_check.specs.Calls.{EntriesTaken}
+use Rattle.pas_check.specs.declared.entry.Entry.{Entry}
 use Rattle.pas_check.proofs.Emptyings.{entries_amiss, entries_begin, entries_lack, entries_more}
 use Rattle.pas_check.proofs.emptying.take_entries.Goals as goal
 
-pub loop-name-init : goal.loop-name-init
-loop-name-init c = record {
+pub loop-entry-init : goal.loop-entry-init
+loop-entry-init c = record {
   profile = refl;
   within = c.requires.within;
   taken = entries_begin c.args.machine.now c.args.text.now c.args.cursor.now c.args.actor c.args.log.now c.args.epoch c.requires.within;
@@ -15,36 +15,36 @@ loop-name-init c = record {
 pub returns-in_default-clause-taken : goal.returns-in_default-clause-taken
 returns-in_default-clause-taken c =
     let log = c.args.log.now in
-    let i = c.loop-name.name-index in
-    let nobody : Name = record { address = record { 0 = 0 }; turn = 0 } in
-    entries_lack c.args.machine.now c.args.text.now c.args.cursor.now c.args.actor log c.args.epoch c.loop-name.machine c.loop-name.cursor
+    let i = c.loop-entry.entry-index in
+    let nobody : Entry = record { name = record { address = record { 0 = 0 }; turn = 0 }; room = 0 } in
+    entries_lack c.args.machine.now c.args.text.now c.args.cursor.now c.args.actor log c.args.epoch c.loop-entry.machine c.loop-entry.cursor
     c.next_line.new.cursor (get_or log i nobody) (drop (i + 1) log)
-    (subst (λ (names : List Name). EntriesTaken c.args.machine.now c.loop-name.machine c.args.text.now c.args.cursor.now c.loop-name.cursor c.args.actor log
-    names c.args.epoch true) (drop_more log i nobody c.loop-name-test.true) c.loop-name.invariant.taken)
+    (subst (λ (entries : List Entry). EntriesTaken c.args.machine.now c.loop-entry.machine c.args.text.now c.args.cursor.now c.loop-entry.cursor c.args.actor log
+    entries c.args.epoch true) (drop_more log i nobody c.loop-entry-test.true) c.loop-entry.invariant.taken)
     c.next_line.ensures.count c.in_default.ensures.none
 
 pub returns-in-Ok-false-clause-taken : goal.returns-in-Ok-false-clause-taken
 returns-in-Ok-false-clause-taken c =
     let log = c.args.log.now in
-    let i = c.loop-name.name-index in
-    entries_amiss c.args.machine.now c.args.text.now c.args.cursor.now c.args.actor log c.args.epoch c.loop-name.machine c.loop-name.cursor
+    let i = c.loop-entry.entry-index in
+    entries_amiss c.args.machine.now c.args.text.now c.args.cursor.now c.args.actor log c.args.epoch c.loop-entry.machine c.loop-entry.cursor
     c.next_line.new.cursor _ (drop (i + 1) log)
-    (subst (λ (names : List Name). EntriesTaken c.args.machine.now c.loop-name.machine c.args.text.now c.args.cursor.now c.loop-name.cursor c.args.actor log
-    names c.args.epoch true) (drop_more log i _ c.loop-name-test.true) c.loop-name.invariant.taken)
-    c.next_line.ensures.count c.take_entry.new.machine c.in-Some.line.now c.loop-name.invariant.profile c.in-Some.ensures.some
+    (subst (λ (entries : List Entry). EntriesTaken c.args.machine.now c.loop-entry.machine c.args.text.now c.args.cursor.now c.loop-entry.cursor c.args.actor log
+    entries c.args.epoch true) (drop_more log i _ c.loop-entry-test.true) c.loop-entry.invariant.taken)
+    c.next_line.ensures.count c.take_entry.new.machine c.in-Some.line.now c.loop-entry.invariant.profile c.in-Some.ensures.some
     (rw c.in-Ok-false.field-0-test at c.in-Ok-false.ensures.taken)
 
-pub loop-name-preserved : goal.loop-name-preserved
-loop-name-preserved c =
+pub loop-entry-preserved : goal.loop-entry-preserved
+loop-entry-preserved c =
     let log = c.args.log.now in
-    let i = c.loop-name.name-index in
+    let i = c.loop-entry.entry-index in
     record {
-      profile = c.in-Ok-true.ensures.profile ∙ c.loop-name.invariant.profile;
+      profile = c.in-Ok-true.ensures.profile ∙ c.loop-entry.invariant.profile;
       within = c.in-Some.ensures.within;
-      taken = entries_more c.args.machine.now c.args.text.now c.args.cursor.now c.args.actor log c.args.epoch c.loop-name.machine c.loop-name.cursor
+      taken = entries_more c.args.machine.now c.args.text.now c.args.cursor.now c.args.actor log c.args.epoch c.loop-entry.machine c.loop-entry.cursor
           c.next_line.new.cursor _ (drop (i + 1) log)
-          (subst (λ (names : List Name). EntriesTaken c.args.machine.now c.loop-name.machine c.args.text.now c.args.cursor.now c.loop-name.cursor c.args.actor
-          log names c.args.epoch true) (drop_more log i _ c.loop-name-test.true) c.loop-name.invariant.taken)
-          c.next_line.ensures.count c.take_entry.new.machine c.in-Some.line.now c.loop-name.invariant.profile c.in-Some.ensures.some c.in-Some.ensures.within
+          (subst (λ (entries : List Entry). EntriesTaken c.args.machine.now c.loop-entry.machine c.args.text.now c.args.cursor.now c.loop-entry.cursor c.args.actor
+          log entries c.args.epoch true) (drop_more log i _ c.loop-entry-test.true) c.loop-entry.invariant.taken)
+          c.next_line.ensures.count c.take_entry.new.machine c.in-Some.line.now c.loop-entry.invariant.profile c.in-Some.ensures.some c.in-Some.ensures.within
           (rw c.in-Ok-true.field-0-test at c.in-Ok-true.ensures.taken);
     }

@@ -1,6 +1,6 @@
 use Rattle.std.proofs.Common.{◌^◌, ◌<◌, Option, refl, sym, subst, ◌∙◌, arith}
 use Rattle.pas_profile.specs.Profiles.{IsValid}
-use Rattle.pas_profile.specs.declared.name.Name.{Name}
+use Rattle.pas_profile.specs.declared.name.Block.{Block}
 use Rattle.pas_check.specs.Calls.{EndingTaken, RequestTaken}
 use Rattle.pas_check.specs.Leading.{IsWithin}
 use Rattle.pas_check.proofs.Requests.{request_begins, request_ends, request_goes_on, request_lacks}
@@ -28,8 +28,8 @@ returns-in-Ok-false-clause-taken c =
     let new = c.take_ending.new.machine in
     let low : c.lines.cursor.lines < 2 ^ 32 = (let a = c.lines.invariant.within.lines in let b = c.lines.invariant.within.bytes in
     let short = c.requires.short in omega (arith, a, b, short)) in
-    if_ok c.take_ending.result (λ (block : Option (Option Name)). EndingTaken stood new c.args.actor c.args.wanted.now c.in-Some.line.now block)
-    (λ (block : Option (Option Name)). RequestTaken c.args.machine.now new c.args.text.now c.args.cursor.now c.next_line.new.cursor c.args.actor c.args.wanted.now block)
+    if_ok c.take_ending.result (λ (block : Option (Option Block)). EndingTaken stood new c.args.actor c.args.wanted.now c.in-Some.line.now block)
+    (λ (block : Option (Option Block)). RequestTaken c.args.machine.now new c.args.text.now c.args.cursor.now c.next_line.new.cursor c.args.actor c.args.wanted.now block)
     (request_ends c.args.machine.now c.args.text.now c.args.cursor.now c.args.actor c.args.wanted.now c.lines.machine c.lines.cursor c.next_line.new.cursor
     c.lines.invariant.goes c.next_line.ensures.count
     c.in-Some.line.now c.requires.valid c.lines.invariant.profile low c.in-Some.ensures.some new stood c.in-Some.ensures.within

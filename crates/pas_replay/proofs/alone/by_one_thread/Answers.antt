@@ -2,4 +2,4 @@ use Rattle.pas_replay.proofs.RecordsOfOne.{shows_of_one}
 use Rattle.pas_replay.proofs.alone.by_one_thread.Goals as goal
 
 pub returns : goal.returns
-returns c = shows_of_one c.requires.plan.2 c.requires.alone c.in_order.ensures
+returns g c = shows_of_one c.requires.plan.2 c.requires.alone c.in_order.ensures

@@ -15,7 +15,7 @@ use Rattle.pas_replay.proofs.StartAndEnd.{start, shows}
 use Rattle.pas_replay.proofs.kit.in_order.Goals as goal
 
 pub replay-region-requires-clause-phases : goal.replay-region-requires-clause-phases
-replay-region-requires-clause-phases c =
+replay-region-requires-clause-phases g c =
     let n = ap (λ (ps : List Phase). length ps) c.as_slice.ensures in
     let m = length-map c.as_slice.result.now ops_of in
     let k = ap (λ (ps : List Phase). length (map ops_of ps)) c.as_slice.ensures in
@@ -23,12 +23,12 @@ replay-region-requires-clause-phases c =
     omega (arith, m, k, few)
 
 pub replay-region-requires-clause-so_far : goal.replay-region-requires-clause-so_far
-replay-region-requires-clause-so_far c =
+replay-region-requires-clause-so_far g c =
     let plan = c.args.plan.now in
     (replay_of plan, ap (λ (ps : List Phase). acts_of (threads_of plan) (map ops_of ps)) (sym c.as_slice.ensures), start c.requires.plan.2 c.requires.kit c.requires.empty c.requires.room)
 
 pub close-requires : goal.close-requires
-close-requires c =
+close-requires g c =
     let plan = c.args.plan.now in
     let acts = ap (λ (ps : List Phase). acts_of (threads_of plan) (map ops_of ps)) (sym c.as_slice.ensures) in
     let so = c.replay-region.ensures.so_far (replay_of plan) acts (start c.requires.plan.2 c.requires.kit c.requires.empty c.requires.room) in
@@ -36,7 +36,7 @@ close-requires c =
     record { whole = so.0.list; stands = so.1.stands; parts = subst (λ (ps : List PlainPass). All part ps) (sym c.requires.kit.none_left) (All-nil part) }
 
 pub returns : goal.returns
-returns c =
+returns g c =
     let plan = c.args.plan.now in
     let acts = ap (λ (ps : List Phase). acts_of (threads_of plan) (map ops_of ps)) (sym c.as_slice.ensures) in
     let so = c.replay-region.ensures.so_far (replay_of plan) acts (start c.requires.plan.2 c.requires.kit c.requires.empty c.requires.room) in

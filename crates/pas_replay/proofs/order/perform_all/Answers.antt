@@ -6,15 +6,15 @@ use Rattle.pas_replay.proofs.ActsInOrder.{as_first, at_next}
 use Rattle.pas_replay.proofs.order.perform_all.Goals as goal
 
 pub perform-requires-clause-so_far : goal.perform-requires-clause-so_far
-perform-requires-clause-so_far c =
+perform-requires-clause-so_far g c =
     let so0 = c.requires.so_far in
     (so0.0, _, at_next (idle_in c.args.awake so0.0.threads) so0.1 c.args.ops.now c.loop-op.op-index c.loop-op-test.true (c.loop-op.invariant.far so0.0 so0.1 so0.2))
 
 pub loop-op-preserved : goal.loop-op-preserved
-loop-op-preserved c = record {
+loop-op-preserved g c = record {
   far = λ r more so. c.perform.ensures.so_far r _ (at_next (idle_in c.args.awake r.threads) more c.args.ops.now c.loop-op.op-index c.loop-op-test.true (c.loop-op.invariant.far r more so));
   threads = c.perform.ensures.threads ∙ c.loop-op.invariant.threads;
 }
 
 pub returns-clause-so_far : goal.returns-clause-so_far
-returns-clause-so_far c r more so = as_first more (ap (λ (ops : List Op). acts_of_ops (idle_in c.args.awake r.threads) ops) (drop_of_length-le c.args.ops.now c.loop-op-test.false)) (c.loop-op.invariant.far r more so)
+returns-clause-so_far g c r more so = as_first more (ap (λ (ops : List Op). acts_of_ops (idle_in c.args.awake r.threads) ops) (drop_of_length-le c.args.ops.now c.loop-op-test.false)) (c.loop-op.invariant.far r more so)

@@ -6,7 +6,7 @@ use Rattle.pas_replay.specs.Sessions.{Replay, SoFarAt, session}
 use Rattle.pas_replay.proofs.order.perform_all.Given as goal
 
 abbrev pub invariant-loop-op : goal.invariant-loop-op
-invariant-loop-op l = record {
+invariant-loop-op g l = record {
   far : (r : Replay) (more : List Act)
       → SoFarAt r (acts_of_ops (idle_in l.awake r.threads) l.ops ++ more) (session l.fn.desk l.fn.actors l.fn.names l.fn.out)
       → SoFarAt r (acts_of_ops (idle_in l.awake r.threads) (drop l.op-index l.ops) ++ more) (session l.desk l.actors l.names l.out);

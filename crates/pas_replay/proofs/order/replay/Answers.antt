@@ -10,21 +10,22 @@ use Rattle.pas_plans.specs.Awake.{awake_in, idle_in}
 use Rattle.pas_replay.proofs.Turning.{may_sit}
 use Rattle.pas_plans.proofs.ActsLeft.{acts_left, next_phase, first_phase, other_phase, last_phase}
 use Rattle.pas_replay.proofs.ActsInOrder.{as_acts, as_hand, as_first, after_mark, wakes_first}
+use Rattle.pas_replay.proofs.order.replay.Given.{Over}
 use Rattle.pas_replay.proofs.order.replay.Goals as goal
 use Rattle.pas_replay.proofs.order.replay.Goals.{then-number-gt-UNMARKED, else-number-gt-UNMARKED, After-active-awake, After-push-2}
 
 pub sit-desk-requires-clause-may : goal.sit-desk-requires-clause-may
-sit-desk-requires-clause-may c = let at = c.requires.so_far.2.1 in may_sit at.profile_is at.stands (at.each 0 (omega arith))
+sit-desk-requires-clause-may g c = let at = c.requires.so_far.2.1 in may_sit at.profile_is at.stands (at.each 0 (omega arith))
 
 pub loop-phase-init : goal.loop-phase-init
-loop-phase-init c = record {
+loop-phase-init g c = record {
   far = λ r is so. as_acts is (c.sit-desk.ensures.taken, as_hand (c.sit-desk.ensures.hand c.args.names.now c.args.out.now) so);
   count = refl;
   threads = ap (λ v. length v.items) c.sit-desk.ensures.caches;
 }
 
 pub push-requires : goal.push-requires
-push-requires c =
+push-requires g c =
     let so0 = c.requires.so_far in
     let i = c.loop-phase.phase-index in
     let count = c.loop-phase.invariant.count in
@@ -35,7 +36,7 @@ push-requires c =
     omega (arith, spare)
 
 -- what is there before a phase: its acts begin with its mark from the second one on, and then its threads wake
-module _ (c : After-active-awake) (r : Replay) (is : r.acts ≡ acts_of r.threads (map ops_of c.args.phases.now)) (so0 : SoFar r r.acts (hand_of c.args.region c.args.actors.now c.args.names.now c.args.out.now)) where
+module _ (g : Over) (c : After-active-awake g) (r : Replay) (is : r.acts ≡ acts_of r.threads (map ops_of c.args.phases.now)) (so0 : SoFar r r.acts (hand_of c.args.region c.args.actors.now c.args.names.now c.args.out.now)) where
   -- the acts of the phases after this one
   abbrev later : List Act
   later = acts_left r.threads (c.loop-phase.phase-index + 1) (map ops_of (drop (c.loop-phase.phase-index + 1) c.args.phases.now))
@@ -57,28 +58,28 @@ module _ (c : After-active-awake) (r : Replay) (is : r.acts ≡ acts_of r.thread
       ])
 
 pub wake_all-requires-clause-so_far : goal.wake_all-requires-clause-so_far
-wake_all-requires-clause-so_far c =
-    let d = (goal.at.wake_all-requires-clause-so_far c).After-active-awake in
+wake_all-requires-clause-so_far g c =
+    let d = (goal.at.wake_all-requires-clause-so_far g c).After-active-awake in
     let so0 = c.requires.so_far in
-    (c.loop-phase.names, c.if-number-gt-UNMARKED.out, (so0.0, _, begins d so0.0 so0.1 so0.2))
+    (c.loop-phase.names, c.if-number-gt-UNMARKED.out, (so0.0, _, begins g d so0.0 so0.1 so0.2))
 
 pub perform_all-requires-clause-so_far : goal.perform_all-requires-clause-so_far
-perform_all-requires-clause-so_far c =
-    let d = (goal.at.perform_all-requires-clause-so_far c).After-active-awake in
+perform_all-requires-clause-so_far g c =
+    let d = (goal.at.perform_all-requires-clause-so_far g c).After-active-awake in
     let so0 = c.requires.so_far in
-    let more = later d so0.0 so0.1 so0.2 in
-    let woke = c.wake_all.ensures.so_far c.loop-phase.names c.if-number-gt-UNMARKED.out so0.0 _ (begins d so0.0 so0.1 so0.2) in
+    let more = later g d so0.0 so0.1 so0.2 in
+    let woke = c.wake_all.ensures.so_far c.loop-phase.names c.if-number-gt-UNMARKED.out so0.0 _ (begins g d so0.0 so0.1 so0.2) in
     let ops = c.as_slice.ensures ∙ sym c.as_slice-in-loop-phase.ensures in
     (so0.0, more, as_first more (ap (λ (os : List Op). acts_of_ops (idle_in c.active-awake.result so0.0.threads) os) ops) woke)
 
 pub loop-phase-preserved : goal.loop-phase-preserved
-loop-phase-preserved c =
-    let d = (goal.at.loop-phase-preserved c).After-active-awake in
+loop-phase-preserved g c =
+    let d = (goal.at.loop-phase-preserved g c).After-active-awake in
     let ops = c.as_slice.ensures ∙ sym c.as_slice-in-loop-phase.ensures in
     record {
       far = λ r is so0.
-          let more = later d r is so0 in
-          let woke = c.wake_all.ensures.so_far c.loop-phase.names c.if-number-gt-UNMARKED.out r _ (begins d r is so0) in
+          let more = later g d r is so0 in
+          let woke = c.wake_all.ensures.so_far c.loop-phase.names c.if-number-gt-UNMARKED.out r _ (begins g d r is so0) in
           c.perform_all.ensures.so_far r more (as_first more (ap (λ (os : List Op). acts_of_ops (idle_in c.active-awake.result r.threads) os) ops) woke);
       count = ap (λ n. n + 1) c.loop-phase.invariant.count;
       threads = c.perform_all.ensures.threads ∙ c.wake_all.ensures.threads ∙ c.loop-phase.invariant.threads;
@@ -86,23 +87,23 @@ loop-phase-preserved c =
 
 -- ---- the close
 pub push-requires-2 : goal.push-requires-2
-push-requires-2 c =
+push-requires-2 g c =
     let so0 = c.requires.so_far in
     let spare = (as_acts (last_phase so0.0.threads c.args.phases.now c.loop-phase.phase-index c.loop-phase-test.false) (c.loop-phase.invariant.far so0.0 so0.1 so0.2)).1.1.spare in
     omega (arith, spare)
 
-module _ (c : After-push-2) (r : Replay) (is : r.acts ≡ acts_of r.threads (map ops_of c.args.phases.now)) (so0 : SoFar r r.acts (hand_of c.args.region c.args.actors.now c.args.names.now c.args.out.now)) where
+module _ (g : Over) (c : After-push-2 g) (r : Replay) (is : r.acts ≡ acts_of r.threads (map ops_of c.args.phases.now)) (so0 : SoFar r r.acts (hand_of c.args.region c.args.actors.now c.args.names.now c.args.out.now)) where
   closes : SoFarAt r (map Ends (numbers_from 1 r.threads) ++ []) (session c.loop-phase.desk c.loop-phase.actors c.loop-phase.names c.push-2.new.self)
   closes =
       let far = as_acts (last_phase r.threads c.args.phases.now c.loop-phase.phase-index c.loop-phase-test.false) (c.loop-phase.invariant.far r is so0) in
       as_acts (sym (append-nil (map Ends (numbers_from 1 r.threads)))) (after_mark c.push-2.new.self Record.Close far (λ p. refl) (λ j. refl) refl refl (λ limit asked fit. fit) (λ indexes p. (refl, λ q is. tt)) c.push-2.ensures.added c.push-2.ensures.size)
 
 pub stop_all-requires-clause-so_far : goal.stop_all-requires-clause-so_far
-stop_all-requires-clause-so_far c = let so0 = c.requires.so_far in (c.loop-phase.names, (so0.0, [], closes (goal.at.stop_all-requires-clause-so_far c).After-push-2 so0.0 so0.1 so0.2))
+stop_all-requires-clause-so_far g c = let so0 = c.requires.so_far in (c.loop-phase.names, (so0.0, [], closes g (goal.at.stop_all-requires-clause-so_far g c).After-push-2 so0.0 so0.1 so0.2))
 
 pub rise-requires : goal.rise-requires
-rise-requires c = let so0 = c.requires.so_far in (c.stop_all.ensures.so_far c.loop-phase.names so0.0 [] (closes (goal.at.rise-requires c).After-push-2 so0.0 so0.1 so0.2)).0
+rise-requires g c = let so0 = c.requires.so_far in (c.stop_all.ensures.so_far c.loop-phase.names so0.0 [] (closes g (goal.at.rise-requires g c).After-push-2 so0.0 so0.1 so0.2)).0
 
 pub returns-clause-so_far : goal.returns-clause-so_far
-returns-clause-so_far c r is so0 =
-    as_hand (c.rise.ensures.hand c.loop-phase.names c.stop_all.new.out) (c.stop_all.ensures.so_far c.loop-phase.names r [] (closes (goal.at.returns-clause-so_far c).After-push-2 r is so0)).1
+returns-clause-so_far g c r is so0 =
+    as_hand (c.rise.ensures.hand c.loop-phase.names c.stop_all.new.out) (c.stop_all.ensures.so_far c.loop-phase.names r [] (closes g (goal.at.returns-clause-so_far g c).After-push-2 r is so0)).1

@@ -1,33 +1,38 @@
-use Rattle.std.proofs.Common.{◌-◌, subst}
+use Rattle.std.proofs.Common.{◌-◌, ◌++◌, ◌∙◌, subst}
 use Rattle.std.proofs.lemmas.List.{length-set}
 use Rattle.pas_trace.specs.declared.plan.What.{What}
+use Rattle.pas_profile.specs.declared.profile.Profile.{Profile}
+use Rattle.pas_answers.specs.Calls.{Tells, MayStand}
 use Rattle.pas_answers.specs.Fit.{IsFitWhat}
-use Rattle.pas_answers.specs.Names.{names_held}
+use Rattle.pas_answers.specs.Names.{block_named, names_held}
+use Rattle.pas_answers.proofs.Kept.{freed_task, named_task}
 use Rattle.pas_replay.proofs.Turning.{may_take}
 use Rattle.pas_replay.proofs.ByActors.{may_operate, operate_turn}
 use Rattle.pas_replay.proofs.Doors.{written_back}
 use Rattle.pas_replay.proofs.seats.operate.Goals as goal
 
 pub take_seat-requires : goal.take_seat-requires
-take_seat-requires c = let so = c.requires.so_far.3.2 in may_take c.args.desk.now c.args.actors.now c.args.actor c.requires.thread so.0 so.1.1
+take_seat-requires g c = let so = c.requires.so_far.3.2 in may_take c.args.desk.now c.args.actors.now c.args.actor c.requires.thread so.0 so.1.1
 
 pub operate_by-came-requires : goal.operate_by-came-requires
-operate_by-came-requires c =
+operate_by-came-requires g c =
     let so0 = c.requires.so_far in
     let so = so0.3.2.1 in
-    record { stands = (so0.3.0.profile, so0.0, _, so.0, so0.2, may_operate c.args.actor c.index_mut-cache.result.now so0.1 so0.2 c.requires.some c.requires.thread c.take_seat.ensures c.index_mut-cache.ensures.value c.freed-meant.ensures so.1) }
+    record { stands = (so0.3.0.profile, so0.0, _, so.0, so0.2, may_operate c.args.actor c.index_mut-cache.result.now so0.1 so0.2 c.requires.some c.requires.thread c.take_seat.ensures c.index_mut-cache.ensures.value (c.freed-meant.ensures ∙ freed_task (block_named c.args.names.now) c.args.task) so.1) }
 
 pub keep-requires : goal.keep-requires
-keep-requires c =
+keep-requires g c =
     let so0 = c.requires.so_far in
     let names = so0.3.2.1.1.names in
     record { fit = (so0.3.0.profile, names.asked, subst (λ (w : What). IsFitWhat so0.3.0.profile (names_held c.args.names.now) names.asked w) so0.2 names.fit.1) }
 
 pub returns-clause-threads : goal.returns-clause-threads
-returns-clause-threads c = length-set c.args.actors.now.caches.items (c.args.actor - 1) c.operate_by-came.new.cache
+returns-clause-threads g c = length-set c.args.actors.now.caches.items (c.args.actor - 1) c.operate_by-came.new.cache
 
 pub returns-clause-so_far : goal.returns-clause-so_far
-returns-clause-so_far c op mine asks r more (taken, (p, at)) =
-    let did = c.operate_by-came.ensures.operates r.profile op _ p asks (may_operate c.args.actor c.index_mut-cache.result.now mine asks c.requires.some c.requires.thread c.take_seat.ensures c.index_mut-cache.ensures.value c.freed-meant.ensures at) in
+returns-clause-so_far g c op mine asks r more (taken, (p, at)) =
+    let may = may_operate c.args.actor c.index_mut-cache.result.now mine asks c.requires.some c.requires.thread c.take_seat.ensures c.index_mut-cache.ensures.value (c.freed-meant.ensures ∙ freed_task (block_named c.args.names.now) c.args.task) at in
+    let did = c.operate_by-came.ensures.operates r.profile op _ p asks may in
+    let came = subst (λ (f : Profile). MayStand f c.operate_by-came.result) may.rests.sits.profile c.operate_by-came.ensures.stands in
     let acts = written_back c.args.actors.now.indexes.items c.args.actors.now.indexes.len c.deref_mut.ensures.value c.deref_mut.ensures.len did in
-    operate_turn c.args.actor c.operate_by-came.result c.index_mut-cache.result.now c.operate_by-came.new.cache mine asks c.requires.some c.requires.thread c.take_seat.ensures c.index_mut-cache.ensures.value at acts c.keep.ensures.held (c.keep.ensures.tells p.names at.names.tells) (c.keep.ensures.turns at.names.turns c.operate_by-came.ensures.turn)
+    operate_turn c.args.actor c.operate_by-came.result c.index_mut-cache.result.now c.operate_by-came.new.cache mine asks c.requires.some c.requires.thread c.take_seat.ensures c.index_mut-cache.ensures.value at acts c.keep.ensures.held (subst (λ ns. Tells c.keep.new.names (ns ++ p.names)) (named_task c.args.task c.operate_by-came.result) (c.keep.ensures.tells p.names at.names.tells)) (c.keep.ensures.stand r.profile at.names.stand came)

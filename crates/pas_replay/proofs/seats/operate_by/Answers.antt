@@ -15,7 +15,7 @@ abbrev held : PlainDoor → Indexes
 held door = door.indexes.now
 
 pub returns-clause-operates : goal.returns-clause-operates
-returns-clause-operates c = λ f op later p asks may.
+returns-clause-operates g c = λ f op later p asks may.
     let all = c.operate.ensures.operates f op later p asks may in
     let did = all.0 in
     let through = went_through Kept held (λ d. refl) (λ x y z one two. two ∙ one) f op p did.reached did.reaches c.new-door.result c.operate.new.door all.1 in

@@ -4,8 +4,9 @@ use Rattle.pas_telling.specs.Outcomes.{outcome_status, outcome_text}
 use Rattle.pas_words.specs.Calls.{IsCall, IsMisread}
 use Rattle.pas_top.specs.Manners.{way_of}
 use Rattle.pas_top.proofs.Summing.{gen_cut_off, gen_sound, gen_summed}
-use Rattle.pas_top.specs.Outputs.{IsReplaying, IsAccepted, most_bytes, texts_of, usage_text, too_long_text}
+use Rattle.pas_top.specs.Outputs.{IsReplaying, IsChecking, IsAccepted, most_bytes, texts_of, usage_text, too_long_text}
 use Rattle.pas_top.proofs.Statuses.{cut_off, not_four, nothing_left, sound, written}
+use Rattle.pas_top.proofs.Checks.{ended_status, ended_written, ended_failed, ended_cut_off, ended_sound, ended_long, ended_mistraced, ended_judged, ended_checked}
 use Rattle.pas_top.proofs.Headline.{can_write, outcome_output, too_long_output, status_not_four}
 use Rattle.pas_top.proofs.main_call.pas_main.Goals as goal
 
@@ -61,4 +62,36 @@ pub returns-in-Ok-clause-sink_sound : goal.returns-in-Ok-clause-sink_sound
 returns-in-Ok-clause-sink_sound g c whole = sound _ _ _ _ (outcome_text c.in-Ok.outcome) (outcome_status c.in-Ok.outcome) c.tell_outcome.result c.tell_outcome.ensures whole
 
 pub returns-in-Ok-clause-ended : goal.returns-in-Ok-clause-ended
-returns-in-Ok-clause-ended g c manner asked bytes told either = nothing_left _ _ _ c.in-Ok-Whole.field-0-is (c.in-Ok-Whole.ensures.ended bytes told)
+returns-in-Ok-clause-ended g c reads bytes told either = nothing_left _ _ _ c.in-Ok-Whole.field-0-is (c.in-Ok-Whole.ensures.ended bytes told)
+
+-- ---- a check
+pub returns-in-Ok-Check-clause-status : goal.returns-in-Ok-Check-clause-status
+returns-in-Ok-Check-clause-status g c = ended_status _ _ _ _ _ _ _ _ c.check_input.result c.check_input.ensures.ends
+
+pub returns-in-Ok-Check-clause-written : goal.returns-in-Ok-Check-clause-written
+returns-in-Ok-Check-clause-written g c =
+    let asked : IsChecking (texts_of c.args.words.now) = subst (IsCall (texts_of c.args.words.now)) c.in-Ok-Check.field-0-is c.in-Ok-Check.ensures.call in
+    ended_written _ _ _ _ _ _ _ _ c.check_input.result c.check_input.ensures.ends (texts_of c.args.words.now) asked
+
+pub returns-in-Ok-Check-clause-source_failed : goal.returns-in-Ok-Check-clause-source_failed
+returns-in-Ok-Check-clause-source_failed g c three = (ended_failed _ _ _ _ _ _ _ _ c.check_input.result c.check_input.ensures.ends three, c.check_input.ensures.unheard (inl three))
+
+pub returns-in-Ok-Check-clause-sink_failed : goal.returns-in-Ok-Check-clause-sink_failed
+returns-in-Ok-Check-clause-sink_failed g c =
+    let asked : IsChecking (texts_of c.args.words.now) = subst (IsCall (texts_of c.args.words.now)) c.in-Ok-Check.field-0-is c.in-Ok-Check.ensures.call in
+    ended_cut_off _ _ _ _ _ _ _ _ c.check_input.result c.check_input.ensures.ends (texts_of c.args.words.now) asked
+
+pub returns-in-Ok-Check-clause-sink_sound : goal.returns-in-Ok-Check-clause-sink_sound
+returns-in-Ok-Check-clause-sink_sound g c = ended_sound _ _ _ _ _ _ _ _ c.check_input.result c.check_input.ensures.ends (λ quiet. ap g.K.Sink.faults (c.check_input.ensures.unheard quiet))
+
+pub returns-in-Ok-Check-clause-too_long : goal.returns-in-Ok-Check-clause-too_long
+returns-in-Ok-Check-clause-too_long g c reads bytes told long = ended_long _ _ _ _ _ _ _ _ c.check_input.result c.check_input.ensures.ends bytes told long
+
+pub returns-in-Ok-Check-clause-mistraced : goal.returns-in-Ok-Check-clause-mistraced
+returns-in-Ok-Check-clause-mistraced g c asked bytes told short fault first = ended_mistraced _ _ _ _ _ _ _ _ c.check_input.result c.check_input.ensures.ends bytes told short fault first
+
+pub returns-in-Ok-Check-clause-judged : goal.returns-in-Ok-Check-clause-judged
+returns-in-Ok-Check-clause-judged g c asked bytes told short verdict judged = ended_judged _ _ _ _ _ _ _ _ c.check_input.result c.check_input.ensures.ends bytes told short verdict judged
+
+pub returns-in-Ok-Check-clause-checked : goal.returns-in-Ok-Check-clause-checked
+returns-in-Ok-Check-clause-checked g c asked bytes told short plan read never unfailed = ended_checked _ _ _ _ _ _ _ _ c.check_input.result c.check_input.ensures.ends bytes told short plan read never unfailed

@@ -1,5 +1,6 @@
-use Rattle.pas_trace.proofs.Headers.{found_valid}
+use Rattle.std.proofs.Common.{sym}
+use Rattle.pas_trace.proofs.Headers.{header_valid}
 use Rattle.pas_trace.proofs.header.header_of_text.Goals as goal
 
 pub returns-clause-valid : goal.returns-clause-valid
-returns-clause-valid c = found_valid c.in_ok-line.line.now c.read_header.result c.read_header.ensures
+returns-clause-valid c = header_valid c.in_ok-line.line.now c.in_ok-header.header (sym c.in_ok-header.ensures)

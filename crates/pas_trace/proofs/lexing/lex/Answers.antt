@@ -7,5 +7,5 @@ use Rattle.pas_trace.proofs.lexing.lex.Goals as goal
 pub loop-left-preserved : goal.loop-left-preserved
 loop-left-preserved c =
     let first = c.in-Some.ensures in
-    subst (λ (items : List Item). AreLexed c.args.text.now items c.in-Some.after.now) (sym c.push_reserved.ensures.items)
-    (lexed-more c.args.text.now c.loop-left.left.now c.in-Some.after.now c.loop-left.items.items c.in-Some.item c.loop-left.invariant first)
+    subst (λ (items : List Item). AreLexed c.args.version c.args.text.now items c.in-Some.after.now) (sym c.push_reserved.ensures.items)
+    (lexed-more c.args.version c.args.text.now c.loop-left.left.now c.in-Some.after.now c.loop-left.items.items c.in-Some.item c.loop-left.invariant first)

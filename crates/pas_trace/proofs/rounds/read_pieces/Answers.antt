@@ -6,7 +6,7 @@ use Rattle.pas_trace.specs.Texts.{lines_of}
 use Rattle.pas_trace.specs.Told.{AreTaken}
 use Rattle.pas_trace.specs.declared.item.Item.{Item}
 use Rattle.pas_trace.proofs.Reading.{at-first, left-is}
-use Rattle.pas_trace.proofs.LexedLines.{lexed-none, after-lines, lines-fault, all-read, at-ok, none-of}
+use Rattle.pas_trace.proofs.LexedLines.{lexed-none, lexed-now, after-lines, lines-fault, all-read, at-ok, none-of}
 use Rattle.pas_trace.proofs.rounds.read_pieces.Goals as goal
 
 pub loop-rest-init : goal.loop-rest-init
@@ -16,7 +16,7 @@ loop-rest-init g c =
     let piece = c.cut.result.0.now in
     record {
       piece = piece;
-      lexed = subst (λ (items : List Item). AreLexed piece items piece) (sym c.clear.ensures.items) (lexed-none piece);
+      lexed = subst (λ (items : List Item). AreLexed r.header.version piece items piece) (sym c.clear.ensures.items) (lexed-none r.header.version piece);
       far = λ told t. left-is r r told (lines_of text) (lines_of text) (lines_of piece ++ lines_of c.cut.result.1.now) c.cut.ensures.lines (at-first r told (lines_of text) t);
       size = omega (arith, c.requires.size, c.cut.ensures.bytes);
     }
@@ -30,7 +30,9 @@ take_lexed-requires-clause-tells g c =
 pub take_lexed-requires-clause-lexed : goal.take_lexed-requires-clause-lexed
 take_lexed-requires-clause-lexed g c =
     let h = c.loop-rest.invariant in
-    (h.piece, subst (λ (items : List Item). AreLexed h.piece items c.loop-rest.left.now) (sym c.deref-2.ensures.value) h.lexed, omega (arith, h.size))
+    let told = c.requires.tells in
+    let same = (h.far told.0 told.1).header in
+    (h.piece, lexed-now c.args.reader.now c.loop-rest.reader h.piece c.loop-rest.full.items _ c.loop-rest.left.now same (sym c.deref-2.ensures.value) h.lexed, omega (arith, h.size))
 
 pub loop-rest-preserved : goal.loop-rest-preserved
 loop-rest-preserved g c =
@@ -41,11 +43,13 @@ loop-rest-preserved g c =
     let h = c.loop-rest.invariant in
     let e = c.take_and_lex-took.ensures in
     let next = c.cut-in-loop-rest in
-    let lexed = subst (λ (items : List Item). AreLexed h.piece items c.loop-rest.left.now) (sym c.deref.ensures.value) h.lexed in
+    let start = c.requires.tells in
+    let same = (h.far start.0 start.1).header in
+    let lexed = lexed-now r now h.piece c.loop-rest.full.items _ c.loop-rest.left.now same (sym c.deref.ensures.value) h.lexed in
     let few = at-ok c.take_and_lex-took.result.0 _ e.few c.in_ok-took.was h.piece lexed in
     record {
       piece = next.result.0.now;
-      lexed = subst (λ (items : List Item). AreLexed next.result.0.now items c.take_and_lex-took.result.1.now) (sym (ap (λ v. v.items) c.swap.ensures.x_after)) e.next;
+      lexed = lexed-now now r next.result.0.now _ _ c.take_and_lex-took.result.1.now (sym same) (sym (ap (λ v. v.items) c.swap.ensures.x_after)) e.next;
       far = λ told t.
           let far = h.far told t in
           let read = subst (λ result. AreTaken now far.items (lines_of h.piece) new result) c.in_ok-took.was (e.read far.items h.piece far.tells lexed) in
@@ -61,7 +65,7 @@ returns-in_err-took g c told t =
     let far = h.far told t in
     let now = c.loop-rest.reader in
     let new = c.take_and_lex-took.new.reader in
-    let lexed = subst (λ (items : List Item). AreLexed h.piece items c.loop-rest.left.now) (sym c.deref.ensures.value) h.lexed in
+    let lexed = lexed-now c.args.reader.now now h.piece c.loop-rest.full.items _ c.loop-rest.left.now far.header (sym c.deref.ensures.value) h.lexed in
     let read = subst (λ result. AreTaken now far.items (lines_of h.piece) new result) c.in_err-took.was (c.take_and_lex-took.ensures.read far.items h.piece far.tells lexed) in
     rw (p.1, p.2) (lines-fault c.args.reader.now now new told (lines_of c.args.text.now) (lines_of h.piece) (lines_of c.loop-rest.rest.now) _ far read)
 
@@ -69,7 +73,7 @@ pub returns : goal.returns
 returns g c told t =
     let h = c.loop-rest.invariant in
     let far = h.far told t in
-    let lexed = subst (λ (items : List Item). AreLexed h.piece items c.loop-rest.left.now) (sym c.deref-2.ensures.value) h.lexed in
+    let lexed = lexed-now c.args.reader.now c.loop-rest.reader h.piece c.loop-rest.full.items _ c.loop-rest.left.now far.header (sym c.deref-2.ensures.value) h.lexed in
     let none : c.loop-rest.rest.now ≡ [] = none-of c.loop-rest.rest.now (grind arith) in
     let last : lines_of h.piece ++ lines_of c.loop-rest.rest.now ≡ lines_of h.piece = ap (λ (rest : List ℕ). lines_of h.piece ++ lines_of rest) none ∙ append-nil (lines_of h.piece) in
     all-read c.args.reader.now c.loop-rest.reader c.take_lexed.new.self told (lines_of c.args.text.now) (lines_of h.piece) c.take_lexed.result

@@ -1,5 +1,5 @@
 use Rattle.std.proofs.Common.{Option, map, ap, sym, ◌∙◌, arith}
-use Rattle.pas_profile.specs.declared.name.Name.{Name}
+use Rattle.pas_profile.specs.declared.name.Block.{Block}
 use Rattle.pas_answers.specs.Names.{block_named}
 use Rattle.pas_acts.specs.NameBooks.{requests_in, request_at, named_of, came_to}
 use Rattle.pas_acts.proofs.Places.{at_place}
@@ -10,11 +10,11 @@ returns-in-Some c =
     let place = c.place.ensures in
     let own = at_place c.args.self.now 0 (requests_in c.args.requests.now) c.args.name c.place.result c.requires (omega (arith, place)) in
     let made = ap (λ rs. request_at (map named_of rs) c.place.result c.args.name) (sym c.as_slice.ensures) in
-    sym (ap (λ (o : Option (Option Name)). came_to o (block_named c.args.self.now.names c.args.name)) (own ∙ made ∙ sym c.at.ensures ∙ c.in-Some.is))
+    sym (ap (λ (o : Option (Option Block)). came_to o (block_named c.args.self.now.names c.args.name)) (own ∙ made ∙ sym c.at.ensures ∙ c.in-Some.is))
 
 pub returns-in-None : goal.returns-in-None
 returns-in-None c =
     let place = c.place.ensures in
     let own = at_place c.args.self.now 0 (requests_in c.args.requests.now) c.args.name c.place.result c.requires (omega (arith, place)) in
     let made = ap (λ rs. request_at (map named_of rs) c.place.result c.args.name) (sym c.as_slice.ensures) in
-    c.get.ensures ∙ sym (ap (λ (o : Option (Option Name)). came_to o (block_named c.args.self.now.names c.args.name)) (own ∙ made ∙ sym c.at.ensures ∙ c.in-None.is))
+    c.get.ensures ∙ sym (ap (λ (o : Option (Option Block)). came_to o (block_named c.args.self.now.names c.args.name)) (own ∙ made ∙ sym c.at.ensures ∙ c.in-None.is))

@@ -1,16 +1,14 @@
 use Rattle.std.proofs.Common.{ℕ, ◌<◌, get_or, length, refl, ap, sym, ◌∙◌, subst, arith, List}
 use Rattle.pas_trace.specs.declared.plan.Op.{Op}
-use Rattle.pas_trace.specs.declared.plan.What.{What}
 use Rattle.pas_trace.specs.declared.plan.What.TheVariants.{Alloc}
-use Rattle.pas_answers.specs.Fit.{IsBelow}
 use Rattle.pas_answers.specs.Names.{names_held}
 use Rattle.pas_answers.specs.declared.names.Names.{Names}
 use Rattle.pas_acts.specs.NameBooks.{names_asked, ArePlaced}
 use Rattle.pas_trace.specs.Acts.{own_acts}
 use Rattle.std.proofs.lemmas.List.{take_all}
-use Rattle.pas_acts.proofs.Noting.{asks_same, no_request, below_at, placed_next, counted, count_small}
+use Rattle.pas_acts.proofs.Noting.{asks_same, asks_below, below_at, placed_next, counted, count_small}
 use Rattle.pas_acts.proofs.names.NameBook.note.Goals as goal
-use Rattle.pas_acts.proofs.names.NameBook.note.Goals.{in-Alloc, in_default}
+use Rattle.pas_acts.proofs.names.NameBook.note.Goals.{in-Some, in-None}
 
 abbrev past : Op
 past = record { line = 0; actor = 0; what = Alloc 0 0 0 0 }
@@ -28,25 +26,25 @@ add-place-requires c =
 
 pub set_place-requires : goal.set_place-requires
 set_place-requires c =
-    let below = subst (λ (w : What). IsBelow (names_held c.args.self.now.names) w) c.in-Alloc.is (below_at (names_held c.args.self.now.names) c.args.ops.now c.loop-op.op-index past c.requires.below c.loop-op-test.true) in
-    subst (λ (names : Names). c.in-Alloc.name < names_held names) (sym c.loop-op.invariant.names) below
+    let below = asks_below (names_held c.args.self.now.names) (get_or c.args.ops.now c.loop-op.op-index past).what c.in-Some.name (below_at (names_held c.args.self.now.names) c.args.ops.now c.loop-op.op-index past c.requires.below c.loop-op-test.true) c.in-Some.ensures in
+    subst (λ (names : Names). c.in-Some.name < names_held names) (sym c.loop-op.invariant.names) below
 
 pub loop-op-preserved : goal.loop-op-preserved
-loop-op-preserved c = elim c.match-op.branch [
-  | in-Alloc w ↦
+loop-op-preserved c = elim c.match-asked_name.branch [
+  | in-Some w ↦
       let sound = c.requires.sound in
       let here = w.add-place.ensures.before ∙ c.loop-op.invariant.counts (get_or c.args.ops.now c.loop-op.op-index past).actor in
       rw (w.self-is, w.counts-is) (record {
         names = w.set_place.ensures.names ∙ c.loop-op.invariant.names;
-        placed = λ k. placed_next sound.0 sound.1 c.loop-op.self w.set_place.new.self c.args.ops.now c.loop-op.op-index past w.in-Alloc.name w.in-Alloc.heap w.in-Alloc.size w.in-Alloc.align w.add-place.result sound.2 c.loop-op-test.true w.in-Alloc.is
+        placed = λ k. placed_next sound.0 sound.1 c.loop-op.self w.set_place.new.self c.args.ops.now c.loop-op.op-index past w.in-Some.name w.add-place.result sound.2 c.loop-op-test.true w.in-Some.ensures
             w.set_place.ensures.place here k (c.loop-op.invariant.placed k);
         counts = λ k. w.add-place.ensures.one k
-            ∙ counted c.args.ops.now c.loop-op.op-index past w.in-Alloc.name w.in-Alloc.heap w.in-Alloc.size w.in-Alloc.align k w.add-place.result _ c.loop-op-test.true w.in-Alloc.is here (c.loop-op.invariant.counts k);
+            ∙ counted c.args.ops.now c.loop-op.op-index past w.in-Some.name k w.add-place.result _ c.loop-op-test.true w.in-Some.ensures here (c.loop-op.invariant.counts k);
       })
-  | in_default w ↦ rw (w.self-is, w.counts-is) (record {
+  | in-None w ↦ rw (w.self-is, w.counts-is) (record {
     names = c.loop-op.invariant.names;
-    placed = λ k. subst (λ (ns : List ℕ). ArePlaced c.loop-op.self 0 ns) (sym (asks_same k c.args.ops.now c.loop-op.op-index past c.loop-op-test.true (no_request _ w.in_default.not-Alloc))) (c.loop-op.invariant.placed k);
-    counts = λ k. c.loop-op.invariant.counts k ∙ ap (λ (ns : List ℕ). length ns) (sym (asks_same k c.args.ops.now c.loop-op.op-index past c.loop-op-test.true (no_request _ w.in_default.not-Alloc)));
+    placed = λ k. subst (λ (ns : List ℕ). ArePlaced c.loop-op.self 0 ns) (sym (asks_same k c.args.ops.now c.loop-op.op-index past c.loop-op-test.true w.in-None.ensures)) (c.loop-op.invariant.placed k);
+    counts = λ k. c.loop-op.invariant.counts k ∙ ap (λ (ns : List ℕ). length ns) (sym (asks_same k c.args.ops.now c.loop-op.op-index past c.loop-op-test.true w.in-None.ensures));
   })
 ]
 

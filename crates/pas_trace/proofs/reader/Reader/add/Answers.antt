@@ -42,7 +42,7 @@ returns-in-Operates c =
     let r = c.args.self.now in
     let new = c.operate.new.self in
     let a = c.in-Operates in
-    let cost = c.requires.cost ∙ ap (cost_of r.header) a.is in
+    let cost = c.requires.cost ∙ ap (cost_of r.header.profile) a.is in
     on_ok_weaker c.operate.result (λ h. subst (λ (i : Item). IsAdded r new i) (sym a.is)
     (added_wish r new a.thread a.wish (subst (λ n. IsOperated (record r { line = r.line + 1 }) new a.thread a.wish n) cost h))) c.operate.ensures
 
@@ -51,8 +51,8 @@ returns-in-Scavenges c =
     let r = c.args.self.now in
     let new = c.count.new.self in
     let chore = c.in-Scavenges.chore in
-    let records = records_of_chore r.header chore in
-    let cost = c.requires.cost ∙ ap (cost_of r.header) c.in-Scavenges.is in
+    let records = records_of_chore r.header.profile chore in
+    let cost = c.requires.cost ∙ ap (cost_of r.header.profile) c.in-Scavenges.is in
     on_ok_weaker c.count.result (λ h. subst (λ (i : Item). IsAdded r new i) (sym c.in-Scavenges.is)
     (added_chore r new chore (subst (λ what. IsCounted (record r { line = r.line + 1 }) new 0 what records) c.what.ensures
     (subst (λ n. IsCounted (record r { line = r.line + 1 }) new 0 c.what.result n) cost h)))) c.count.ensures

@@ -9,8 +9,8 @@ overflow_add-deeds c =
     let r = c.args.self.now in
     let t = c.requires.1 in
     let h = t.header in
-    let pages : r.header.pages ≤ 16384 = h.pages in
-    let threads : r.header.threads ≤ 16 = h.threads in
+    let pages : r.header.profile.pages ≤ 16384 = h.pages in
+    let threads : r.header.profile.threads ≤ 16 = h.threads in
     let small : r.counts.bound ≤ 2000000 = t.small in
     let cost : get_or r.counts.costs c.loop-actor.actor 0 ≤ r.counts.bound = cost-within r c.requires.0 c.loop-actor.actor t (omega arith) in
     elim c.if-actor-eq0.branch [ then-actor-eq0 w ↦ omega arith | else-actor-eq0 w ↦ omega arith ]
@@ -20,16 +20,16 @@ loop-actor-preserved c items t =
     let r = c.args.self.now in
     let k = c.loop-actor.actor in
     let h = t.header in
-    let threads : r.header.threads ≤ 16 = h.threads in
-    let cost : get_or r.counts.costs k 0 ≡ own_costs r.header k items = t.costs k (omega arith) in
-    let bound : c.if-actor-eq0.deeds + get_or r.counts.costs k 0 ≡ bound_of r.header items k = elim c.if-actor-eq0.branch [
-      | then-actor-eq0 w ↦ ap (λ d. d + get_or r.counts.costs k 0) w.deeds-is ∙ bound-first r.header items k _ w.if-actor-eq0.true cost
-      | else-actor-eq0 w ↦ ap (λ d. d + get_or r.counts.costs k 0) w.deeds-is ∙ bound-other r.header items k _ w.if-actor-eq0.false cost
+    let threads : r.header.profile.threads ≤ 16 = h.threads in
+    let cost : get_or r.counts.costs k 0 ≡ own_costs r.header.profile k items = t.costs k (omega arith) in
+    let bound : c.if-actor-eq0.deeds + get_or r.counts.costs k 0 ≡ bound_of r.header.profile items k = elim c.if-actor-eq0.branch [
+      | then-actor-eq0 w ↦ ap (λ d. d + get_or r.counts.costs k 0) w.deeds-is ∙ bound-first r.header.profile items k _ w.if-actor-eq0.true cost
+      | else-actor-eq0 w ↦ ap (λ d. d + get_or r.counts.costs k 0) w.deeds-is ∙ bound-other r.header.profile items k _ w.if-actor-eq0.false cost
     ] in
-    bounds-more r.header items k c.if-actor-eq0.deeds (get_or r.counts.costs k 0) c.loop-actor.bounds.items c.push.new.self.items (c.loop-actor.invariant items t) bound c.in_ok-push.ensures.items
+    bounds-more r.header.profile items k c.if-actor-eq0.deeds (get_or r.counts.costs k 0) c.loop-actor.bounds.items c.push.new.self.items (c.loop-actor.invariant items t) bound c.in_ok-push.ensures.items
 
 pub returns : goal.returns
 returns c items t =
     let r = c.args.self.now in
-    let end : c.loop-actor.actor ≡ r.header.threads + 1 = omega arith in
-    c.loop-actor.invariant items t ∙ ap (λ n. bounds_upto r.header items n) end
+    let end : c.loop-actor.actor ≡ r.header.profile.threads + 1 = omega arith in
+    c.loop-actor.invariant items t ∙ ap (λ n. bounds_upto r.header.profile items n) end

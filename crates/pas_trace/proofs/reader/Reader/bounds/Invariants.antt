@@ -5,4 +5,4 @@ use Rattle.pas_trace.specs.declared.item.Item.{Item}
 use Rattle.pas_trace.proofs.reader.Reader.bounds.Given as goal
 
 abbrev pub invariant-loop-actor : goal.invariant-loop-actor
-invariant-loop-actor l = (items : List Item) → Tells l.self items → l.bounds.items ≡ bounds_upto l.self.header items l.actor
+invariant-loop-actor l = (items : List Item) → Tells l.self items → l.bounds.items ≡ bounds_upto l.self.header.profile items l.actor

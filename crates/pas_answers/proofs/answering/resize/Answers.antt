@@ -1,0 +1,36 @@
+use Rattle.std.proofs.Common.{Ok, ◌≡◌, ◌∙◌, ap, subst}
+use Rattle.pas_cache.specs.Caches.{cached}
+use Rattle.std.proofs.lemmas.Option.{same_Some}
+use Rattle.pas_answers.specs.Calls.{IsBlockOf}
+use Rattle.pas_answers.proofs.Kept.{none_stands}
+use Rattle.pas_answers.proofs.Reallocations.{can_move, kept, replaced, refused, new_stands}
+use Rattle.pas_answers.proofs.answering.resize.Goals as goal
+
+pub remake-requires-clause-can : goal.remake-requires-clause-can
+remake-requires-clause-can g c = can_move (cached c.args.cache.now) c.args.name 0 0 c.args.size c.args.align (g.D.Desk.spare_of c.args.desk.now) (c.requires.can 0 0)
+
+pub returns-in-Ok-Kept-clause-performs : goal.returns-in-Ok-Kept-clause-performs
+returns-in-Ok-Kept-clause-performs g c = λ n heap.
+    kept (g.D.Desk.standing c.args.desk.now) (g.D.Desk.standing c.remake.new.desk) (cached c.args.cache.now) (cached c.remake.new.cache) c.args.name n heap c.args.size c.args.align c.args.old (g.O.Door.answers c.args.door.now c.remake.new.door) (c.remake.new.door ≡ c.args.door.now)
+    (c.in-Ok-Kept.is ∙ ap (λ moved. Ok moved) c.in-Ok-Kept.field-0-is) c.remake.ensures.moves
+
+pub returns-in-Ok-Kept-clause-stands : goal.returns-in-Ok-Kept-clause-stands
+returns-in-Ok-Kept-clause-stands g c = λ block is. subst (IsBlockOf (g.D.Desk.standing c.args.desk.now).seat.profile) (same_Some _ _ is) c.requires.stands
+
+pub returns-in-Ok-New-clause-performs : goal.returns-in-Ok-New-clause-performs
+returns-in-Ok-New-clause-performs g c = λ n heap.
+    replaced (g.D.Desk.standing c.args.desk.now) (g.D.Desk.standing c.remake.new.desk) (cached c.args.cache.now) (cached c.remake.new.cache) c.args.name n heap c.args.size c.args.align c.args.old (g.O.Door.answers c.args.door.now c.remake.new.door) (c.remake.new.door ≡ c.args.door.now)
+    c.in-Ok-New.block (c.in-Ok-New.is ∙ ap (λ moved. Ok moved) c.in-Ok-New.field-0-is) c.requires.stands.heap c.remake.ensures.moves
+
+pub returns-in-Ok-New-clause-stands : goal.returns-in-Ok-New-clause-stands
+returns-in-Ok-New-clause-stands g c =
+    new_stands (g.D.Desk.standing c.args.desk.now) (g.D.Desk.standing c.remake.new.desk) (cached c.args.cache.now) (cached c.remake.new.cache) c.args.name 0 0 c.args.size c.args.align c.args.old (g.O.Door.answers c.args.door.now c.remake.new.door) (c.remake.new.door ≡ c.args.door.now)
+    (g.D.Desk.spare_of c.args.desk.now) c.in-Ok-New.block c.requires.admitted (c.requires.can 0 0) (c.in-Ok-New.is ∙ ap (λ moved. Ok moved) c.in-Ok-New.field-0-is) c.remake.ensures.moves
+
+pub returns-in-Err-clause-performs : goal.returns-in-Err-clause-performs
+returns-in-Err-clause-performs g c = λ n heap.
+    refused (g.D.Desk.standing c.args.desk.now) (g.D.Desk.standing c.remake.new.desk) (cached c.args.cache.now) (cached c.remake.new.cache) c.args.name n heap c.args.size c.args.align c.args.old (g.O.Door.answers c.args.door.now c.remake.new.door) (c.remake.new.door ≡ c.args.door.now)
+    c.in-Err.room c.refusal.result c.refusal.ensures c.requires.stands.heap c.in-Err.ensures.moves
+
+pub returns-in-Err-clause-stands : goal.returns-in-Err-clause-stands
+returns-in-Err-clause-stands g c = none_stands (g.D.Desk.standing c.args.desk.now).seat.profile

@@ -1,0 +1,57 @@
+//! Whole pages that ended, with an index and without one.
+ghost use Rattle.std.specs.Prelude.{IfOk};
+
+use crate::seating::alone;
+use pas_cache::ThreadCache;
+use pas_large::{Door, NoIndex, PlainDoor};
+use pas_large_index::LargeIndex;
+use pas_profile::*;
+use pas_steps::Desk;
+use pas_trials::reuse_pages;
+use pas_utility::Utility;
+use std::alloc::Global;
+use std::test::Fail;
+
+const PROFILE: Profile = Profile {
+    pages: 1200,
+    threads: 1,
+    age: 2,
+    heaps: 1,
+    shared: 0,
+    classes: 16,
+};
+
+/// In a region of 1,200 pages, of which the first 1,000 were asked for and the last two of them ended: what a request for two pages comes to that asks
+/// this door, and its number of steps.
+fn reuse<O: Door>(alloc: Global, door: &mut O) -> Result<(Result<Block, NoRoom>, u64), Fail> {
+    let mut desk = alone(alloc, PROFILE, 4000)?;
+    let mut utility = Utility::try_new(alloc, desk.profile(), &[0, 4000])?;
+    let Some(seat) = utility.cache_seat(1) else {
+        return Err(NoMemory.into());
+    };
+    let mut cache = ThreadCache::new(seat);
+    Ok(reuse_pages(&mut desk, door, &mut cache))
+}
+
+/// Whether the answer is a block on pages 999 and 1,000.
+fn is_of_last_two(answer: &Result<Block, NoRoom>) -> bool {
+    match answer {
+        Ok(block) => block.name.address == Address(0x003e_7000) && block.room == 8192,
+        Err(_) => false,
+    }
+}
+
+#[test]
+fn the_index_saves_the_scan(rt: HostRuntime) -> Result<(), Fail> {
+    let mut indexes = [LargeIndex::new()];
+    let (answer, steps) = reuse(rt.alloc(), &mut PlainDoor::new(&mut indexes))?;
+    assert!(rt; is_of_last_two(&answer) && steps <= 44);
+    Ok(())
+}
+
+#[test]
+fn without_an_index_the_pages_are_scanned(rt: HostRuntime) -> Result<(), Fail> {
+    let (answer, steps) = reuse(rt.alloc(), &mut NoIndex)?;
+    assert!(rt; is_of_last_two(&answer) && steps > 44);
+    Ok(())
+}

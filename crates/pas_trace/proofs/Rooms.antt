@@ -1,0 +1,28 @@
+-- The room that a free names: of whole grains, of one at least, and no larger than the region.
+use Rattle.std.proofs.Common.{◌≡◌, ℕ, ◌*◌, ◌%◌, ◌≤◌, max, Some, arith}
+use Rattle.pas_profile.specs.Profiles.{IsValid}
+use Rattle.pas_profile.specs.Requests.{room_in}
+use Rattle.pas_profile.specs.Routes.{route_of, room_by, IsRouteOf}
+use Rattle.pas_profile.specs.declared.directory.Route.{Route}
+use Rattle.pas_profile.specs.declared.directory.Route.TheVariants.{Class, Bitfit, Large}
+use Rattle.pas_profile.specs.declared.profile.Profile.{Profile}
+use Rattle.pas_profile.proofs.ClassFacts.{route_is, class_known, class_size-grains, class_grains_positive, class_grains_le}
+use Rattle.pas_trace.specs.EveryPlan.{IsRoomNamed}
+
+abbrev IsRoomWithin : ℕ → ℕ → Type 0
+IsRoomWithin pages room = (room % 16 ≡ 0) × (16 ≤ room) × (room ≤ 4096 * pages)
+
+room_within : (pages classes size align : ℕ) (route : Route) → IsRouteOf classes size align route → 1 ≤ pages → size ≤ pages * 4096 → IsRoomWithin pages (room_by route (max size 1))
+room_within pages classes size align (Class class) is some within =
+    let known = class_known classes size align class is in
+    let grains = class_size-grains class known in
+    let least = class_grains_positive class known in
+    let most = class_grains_le class known in
+    (omega (arith, grains), omega (arith, grains, least), omega (arith, grains, most, some))
+room_within pages classes size align Bitfit is some within = let small = is.0 in (omega arith, omega arith, omega (arith, small, some))
+room_within pages classes size align Large is some within = (omega arith, omega arith, omega (arith, within, some))
+
+pub room_named : (f : Profile) (size align : ℕ) → IsValid f → size ≤ f.pages * 4096 → IsRoomNamed f (Some (room_in f size align))
+room_named f size align valid within =
+    let some = valid.some_page in
+    room_within f.pages f.classes size align (route_of f.classes size align) (route_is f.classes size align) some within

@@ -1,0 +1,347 @@
+"""A second reading of what a right transcript of `pas order` is, for tests/verdicts.py: the number of the first line of a
+text that isn't allowed at its place, by docs/FORMAT.md and the lines before it alone. It knows no words of a region and no
+caches: a request is answered by deeds of its directory and backs, as many as the machine allows, and then by a block or a
+refusal. It has no program of its own."""
+
+import re
+from collections import defaultdict
+from typing import NamedTuple
+
+from orders import GRAIN, GRAINS, PAGE
+from transcripts import CLASSES, CLASSES_OF, MOST_BITFIT, MOST_LOGGED
+
+ALL_ONES = 2**64 - 1
+
+NUMBER = "(0|[1-9][0-9]*)"
+DEED = re.compile(f"{NUMBER} deed page {NUMBER} heap {NUMBER} (class [0-9]+|shared|bitfit|large)\n")
+BACK = re.compile(f"{NUMBER} back page {NUMBER}\n")
+GIVE = re.compile(f"{NUMBER} give 0x([0-9a-f]{{8}}) turn {NUMBER} room {NUMBER} heap {NUMBER}\n")
+HELD = re.compile(f"{NUMBER} held {NUMBER} name {NUMBER}\n")
+OUTCOME = re.compile(f"0 (?:(bare|not-offered) page {NUMBER}|(young) page {NUMBER} stamp {NUMBER}|(unback) page {NUMBER} epoch {NUMBER}"
+                     f"|(in-use) page {NUMBER} word ([0-3]) value 0x([0-9a-f]{{16}}))\n")
+
+
+class Stopped(Exception):
+    """The line at hand isn't allowed at its place, or is wanting."""
+
+
+class Block(NamedTuple):
+    """What a name stands for."""
+
+    address: int
+    turn: int
+    room: int
+    heap: int
+
+    def pages(self):
+        return range(self.address // PAGE, (self.address + self.room - 1) // PAGE + 1)
+
+    def grains_on(self, page):
+        """Its grains on a page, as the bits of a number."""
+        first = max(self.address // GRAIN - page * GRAINS, 0)
+        end = min((self.address + self.room) // GRAIN - page * GRAINS, GRAINS)
+        return (1 << end) - (1 << first)
+
+
+class Wanted(NamedTuple):
+    """What a request asks for."""
+
+    name: int
+    heap: int
+    kind: str
+    room: int
+    align: int
+
+
+class Entry(NamedTuple):
+    """A free that is logged; room is None where it names none."""
+
+    address: int
+    turn: int
+    room: int | None
+
+
+class Trace:
+    """A trace without a fault: its region, and the operations of each phase, as words."""
+
+    def __init__(self, text):
+        first, *lines = text.split("\n")
+        words = first.split()
+        version, self.pages, self.threads, self.heaps, self.age = (int(words[at]) for at in (1, 3, 5, 7, 9))
+        self.classes = CLASSES[:CLASSES_OF[version]]
+        self.shared, self.phases = set(), [[]]
+        for line in lines:
+            word, *rest = line.split() or ["#"]
+            if line.startswith("#") or word == "#":
+                continue
+            if word == "phase":
+                self.phases.append([])
+            elif word == "shared":
+                self.shared.add(int(rest[0]))
+            else:
+                self.phases[-1].append((word, *(int(value, 0) for value in rest)))
+
+    def wanted(self, name, heap, size, align):
+        """The directory and the room of a request: of the smallest class that suits, else of a bit-fit page, else whole pages."""
+        for bytes_ in self.classes:
+            if bytes_ >= size and bytes_ % align == 0:
+                return Wanted(name, heap, "shared" if heap in self.shared else f"class {bytes_}", bytes_, align)
+        if size <= MOST_BITFIT:
+            return Wanted(name, heap, "bitfit", -(-max(size, 1) // GRAIN) * GRAIN, align)
+        return Wanted(name, heap, "large", -(-size // PAGE) * PAGE, align)
+
+
+class Machine:
+    """What the events so far have come to."""
+
+    def __init__(self, trace):
+        self.pages, self.heaps, self.age = trace.pages, trace.heaps, trace.age
+        self.deeds, self.backed, self.live = {}, set(), {}
+        self.gives, self.ends, self.stamps, self.covered = defaultdict(int), defaultdict(int), defaultdict(int), defaultdict(int)
+
+    def may_give(self, block, directory):
+        """Whether the block may be given: on backed pages of the directory, where no block lives, with the next turn."""
+        if block.address % GRAIN or block.room % GRAIN or not block.room or block.turn != self.gives[block.address]:
+            return False
+        return all(self.deeds.get(page) == directory and page in self.backed and not self.covered[page] & block.grains_on(page) for page in block.pages())
+
+    def give(self, block):
+        self.gives[block.address] += 1
+        self.live[block.address] = block
+        for page in block.pages():
+            self.covered[page] |= block.grains_on(page)
+
+    def end(self, address, epoch):
+        block = self.live.pop(address)
+        self.ends[address] += 1
+        for page in block.pages():
+            self.covered[page] &= ~block.grains_on(page)
+            self.stamps[page] = max(self.stamps[page], epoch)
+
+    def has_room(self, page):
+        """Whether a block of the page's kind could cover a grain that is free."""
+        kind = self.deeds[page][1].split()
+        usable = PAGE // int(kind[1]) * int(kind[1]) // GRAIN if len(kind) > 1 else GRAINS
+        return self.covered[page] & ((1 << usable) - 1) != (1 << usable) - 1
+
+
+def lines_of(text):
+    """The lines of a text, each with its newline, which the last may lack."""
+    return re.findall(r"[^\n]*\n|[^\n]+", text)
+
+
+class Lines:
+    """The lines of a text, which are taken in order."""
+
+    def __init__(self, text):
+        self.lines, self.at = lines_of(text), 0
+
+    def peek(self):
+        """The next line, or nothing."""
+        return self.lines[self.at] if self.at < len(self.lines) else ""
+
+    def expect(self, text):
+        """Takes the next line, which is just this one."""
+        if self.peek() != text + "\n":
+            raise Stopped
+        self.at += 1
+
+    def match(self, pattern):
+        """The values of the next line, if it has this form."""
+        found = pattern.fullmatch(self.peek())
+        return found.groups() if found else None
+
+
+class Judge:
+    """Takes the lines of a transcript one after the other."""
+
+    def __init__(self, trace, lines):
+        self.trace, self.lines, self.machine = trace, lines, Machine(trace)
+        self.names = {}
+        self.logs = {thread: [] for thread in range(1, trace.threads + 1)}
+        self.idle_since = dict.fromkeys(self.logs, 0)
+        self.epoch = 0
+
+    def verdict(self):
+        """`yes`, or `no line N`."""
+        try:
+            for number, operations in enumerate(self.trace.phases, 1):
+                self.phase(number, operations)
+            self.lines.expect("close")
+            for thread in self.logs:
+                self.flush(thread)
+            self.report()
+            if self.lines.peek():
+                raise Stopped
+        except Stopped:
+            return f"no line {self.lines.at + 1}"
+        return "yes"
+
+    def phase(self, number, operations):
+        if number > 1:
+            self.lines.expect(f"phase {number}")
+        active = {values[0] for word, *values in operations if word not in ("tick", "pass", "idle")}
+        self.idle_since.update(dict.fromkeys(active, self.epoch))
+        for word, *values in operations:
+            if word == "tick":
+                self.epoch = max(self.epoch, values[0])
+                self.lines.expect(f"0 tick {self.epoch}")
+            elif word == "pass":
+                self.scavenge()
+            elif word == "idle":
+                self.stop_idle(active, *values)
+            else:
+                self.operate(word, *values)
+
+    def operate(self, word, thread, *values):
+        if word == "a":
+            self.request(thread, self.trace.wanted(*values))
+        elif word == "m":
+            self.remake(thread, *values)
+        elif word in ("f", "fs"):
+            name, *asked = values
+            block = self.names[name]
+            if block is None:
+                self.lines.expect(f"{thread} skipped name {name}")
+            else:
+                self.free(thread, block.address, block.turn, asked)
+        elif word in ("r", "rs"):
+            address, turn, *asked = values
+            self.free(thread, address, turn, asked)
+        else:
+            self.flush(thread)
+
+    def request(self, thread, wanted):
+        """Deeds and backs, and then a block or a refusal. Whether it was a block."""
+        directory = wanted.heap, wanted.kind
+        while self.prepares(thread, directory):
+            self.lines.at += 1
+        self.names[wanted.name] = None
+        if self.lines.peek() == f"{thread} no-space name {wanted.name}\n" or self.is_held(thread, wanted.name, directory):
+            self.lines.at += 1
+            return False
+        given = self.lines.match(GIVE)
+        if not given:
+            raise Stopped
+        actor, address, turn, room, heap = int(given[0]), int(given[1], 16), *map(int, given[2:])
+        block = Block(address, turn, room, heap)
+        if (actor, room, heap) != (thread, wanted.room, wanted.heap) or address % wanted.align or not self.machine.may_give(block, directory):
+            raise Stopped
+        self.lines.at += 1
+        self.machine.give(block)
+        self.names[wanted.name] = block
+        return True
+
+    def prepares(self, thread, directory):
+        """Whether the next line is a deed of the directory or a back, of this thread, that the machine allows; it is done then."""
+        machine = self.machine
+        if deed := self.lines.match(DEED):
+            actor, page, heap = map(int, deed[:3])
+            if actor != thread or (heap, deed[3]) != directory or not 1 <= page <= machine.pages or page in machine.deeds:
+                return False
+            machine.deeds[page] = directory
+            return True
+        if back := self.lines.match(BACK):
+            actor, page = map(int, back)
+            if actor != thread or page not in machine.deeds or page in machine.backed:
+                return False
+            machine.backed.add(page)
+            return True
+        return False
+
+    def is_held(self, thread, name, directory):
+        held = self.lines.match(HELD)
+        return bool(held) and (int(held[0]), int(held[2])) == (thread, name) and self.machine.deeds.get(int(held[1])) == directory
+
+    def remake(self, thread, name, old, size, align):
+        """A block that suits is kept; another is asked for, and then the old one is freed."""
+        block = self.names[old]
+        if block is None:
+            self.names[name] = None
+            self.lines.expect(f"{thread} skipped name {name}")
+        elif max(size, 1) <= block.room and block.address % align == 0:
+            self.names[name] = block
+            self.lines.expect(f"{thread} kept {block.address:#010x} turn {block.turn} name {name}")
+        elif self.request(thread, self.trace.wanted(name, block.heap, size, align)):
+            self.free(thread, block.address, block.turn, [])
+
+    def free(self, thread, address, turn, asked):
+        """Refused at once, or logged; a full log is flushed before."""
+        if not 1 <= address // PAGE <= self.trace.pages:
+            self.lines.expect(f"{thread} outside {address:#010x} turn {turn}")
+        elif address % GRAIN:
+            self.lines.expect(f"{thread} unaligned {address:#010x} turn {turn}")
+        else:
+            if len(self.logs[thread]) == MOST_LOGGED:
+                self.flush(thread)
+            room = self.trace.wanted(0, 0, *asked).room if asked else None
+            self.logs[thread].append(Entry(address, turn, room))
+
+    def flush(self, thread):
+        """A line for each free of the log, in order: that of its true reason, or its end."""
+        entries, self.logs[thread] = self.logs[thread], []
+        for address, turn, room in entries:
+            block = self.machine.live.get(address)
+            what = f"{address:#010x} turn {turn}"
+            if self.machine.ends[address] > turn:
+                self.lines.expect(f"{thread} ended {what}")
+            elif block is None or block.turn != turn:
+                self.lines.expect(f"{thread} no-block {what}")
+            elif room is not None and room != block.room:
+                self.lines.expect(f"{thread} size-differs {what} asked {room}")
+            else:
+                self.lines.expect(f"{thread} freed {what} epoch {self.epoch}")
+                self.machine.end(address, self.epoch)
+
+    def scavenge(self):
+        """A pass, and then its outcomes, of pages that rise."""
+        self.lines.expect(f"0 pass {self.epoch}")
+        last = 0
+        while (outcome := self.lines.match(OUTCOME)) and (page := self.outcome(*[value for value in outcome if value is not None])) > last:
+            if outcome[5]:
+                self.machine.backed.remove(page)
+            last = page
+            self.lines.at += 1
+
+    def outcome(self, word, page, *values):
+        """The page of an outcome that is allowed, or 0."""
+        machine, page = self.machine, int(page)
+        allowed = {
+            "bare": lambda: page not in machine.backed,
+            "not-offered": lambda: page in machine.deeds,
+            "young": lambda: int(values[0]) == machine.stamps[page] and self.epoch < int(values[0]) + machine.age,
+            "in-use": lambda: int(values[1], 16) != ALL_ONES,
+            "unback": lambda: (page in machine.backed and not machine.covered[page] and int(values[0]) == self.epoch
+                               and self.epoch >= machine.stamps[page] + machine.age),
+        }
+        return page if 1 <= page <= machine.pages and allowed[word]() else 0
+
+    def stop_idle(self, active, epochs):
+        for thread in self.logs:
+            if thread not in active and self.epoch >= self.idle_since[thread] + epochs:
+                self.flush(thread)
+                self.lines.expect(f"0 stopped {thread}")
+
+    def report(self):
+        machine = self.machine
+        self.lines.expect("report")
+        begun = defaultdict(int)
+        for block in machine.live.values():
+            begun[block.address // PAGE] += 1
+        for page in sorted(machine.deeds):
+            heap, kind = machine.deeds[page]
+            free = GRAINS - machine.covered[page].bit_count()
+            front = f"page {page} heap {heap} {kind} live {begun[page]} free {free} stamp {machine.stamps[page]} marks "
+            if self.lines.peek() not in {front + marks + "\n" for marks in self.marks(page)}:
+                raise Stopped
+            self.lines.at += 1
+        live, ended = len(machine.live), sum(machine.ends.values())
+        self.lines.expect(f"total deeds {len(machine.deeds)} backed {len(machine.backed)} live {live} given {live + ended} ended {ended}")
+
+    def marks(self, page):
+        """The marks that a page may have, joined."""
+        machine = self.machine
+        backed = ["backed"] if page in machine.backed else []
+        rights = [["offered"]] if machine.has_room(page) else [["offered"], ["parked"]]
+        hints = [["hinted"]] if backed and not machine.covered[page] else [[], ["hinted"]]
+        return ["+".join(backed + right + hint) for right in rights for hint in hints]
