@@ -4,6 +4,7 @@ mod FrontLines
 pub mod Digits
 mod Gathering
 pub mod Costs
+mod Sampling
 mod Checking
 mod Headers
 pub mod PassedChecks
