@@ -7,7 +7,7 @@ use Rattle.pas_profile.specs.Profiles.{IsValid}
 use Rattle.pas_profile.specs.declared.profile.Profile.{Profile}
 use Rattle.pas_trace.specs.declared.header.Header.{Header}
 use Rattle.pas_trace.specs.Wishes.{heap_in, name_made, name_freed, heap_by, heap_made, is_name}
-use Rattle.pas_trace.specs.Reasons.{guard_after, guard_in, large_requests, actors_by, cost_of, costs_of, cost_of_wish, records_of_chore, record_bound, reason_of, operations_in, is_operation, is_phase, actor_of, makes, is_named, is_named_now, thread_of, heap_of_item, heap_of, started}
+use Rattle.pas_trace.specs.Reasons.{is_guard_number, guard_after, guard_in, large_requests, actors_by, cost_of, costs_of, cost_of_wish, records_of_chore, record_bound, reason_of, operations_in, is_operation, is_phase, actor_of, makes, is_named, is_named_now, thread_of, heap_of_item, heap_of, started}
 use Rattle.pas_trace.specs.Plans.{shared_by, shared_in, phases_after, phases_in, line_of_newest, own_costs, kept_costs, keeper_for, bound_of, bounds_upto, all_bounds, operation, what_wished, what_of_chore, add_last}
 use Rattle.pas_trace.specs.Told.{owner_in, heap_told, keeper_told, Tells, TellsSamples, NameTold, IsReady, CanSample, IsCounted, IsOperated, IsGuarding, IsAdded}
 use Rattle.pas_trace.specs.declared.item.Item.{Item}
@@ -261,8 +261,8 @@ none-costs f (i ∷ items) none =
     let rest = none-costs f items both.1 in
     omega (arith, cost, rest)
 
-pub added_guard : (old new : Reader) (n : ℕ) → IsGuarding (record old { line = old.line + 1 }) new n → IsAdded old new (Guards (Some n))
-added_guard old new n h = record {
+numbered : (old new : Reader) (n : ℕ) → IsGuarding (record old { line = old.line + 1 }) new (Some n) → IsAdded old new (Guards (Some n))
+numbered old new n h = record {
   header = h.header;
   line = h.line;
   tells = λ items t e.
@@ -302,6 +302,10 @@ added_guard old new n h = record {
         phases = h.phases ∙ t.phases ∙ ap (λ (g : Header). phases_in g.profile (Guards (Some n) ∷ items)) (sym h.header);
       };
 }
+
+pub added_guard : (old new : Reader) (n : Option ℕ) → is_guard_number n ≡ true → IsGuarding (record old { line = old.line + 1 }) new n → IsAdded old new (Guards n)
+added_guard old new None number h = absurd (cc)
+added_guard old new (Some n) number h = numbered old new n h
 
 -- ---- bounds
 pub bounds-more : (f : Profile) (items : List Item) (k bound : ℕ) (bounds more : List ℕ) → bounds ≡ bounds_upto f items k → bound ≡ bound_of f items k → more ≡ bounds ++ bound ∷ [] → more ≡ bounds_upto f items (k + 1)

@@ -13,12 +13,11 @@ use Rattle.pas_trace.specs.declared.plan.Op.{Op}
 
 -- `Operates`: a thread's operation, after which the runs of large blocks that its cache noted are handed on (`Settles`). `Ticks` and `MakesPass`: those of
 -- the scavenger. An idle operation is several acts: the scavenger reads the epoch, and then each thread that is idle in the phase is stopped, where it was
--- idle for so many epochs. What such a stop noted is handed on after the thread's next operation. A guarded request is first tried by its keeper (`Raises`), which
--- lowers the guards of blocks that were ended and then raises one for it, where it finds a run; the thread's operation serves the request only where the keeper didn't.
--- `Lowers`: a keeper lowers all its guards.
+-- idle for so many epochs. What such a stop noted is handed on after the thread's next operation. `Guards`: a guarded request, by its keeper, which
+-- lowers the guards of blocks that were ended and then raises one for it, and, where that finds no run, by its thread as any request. `Lowers`: a keeper lowers all its guards.
 pub data Act : Type 0 where
-  Raises : ℕ → Op → Act
   Operates : Op → Act
+  Guards : ℕ → Op → Act
   Settles : ℕ → Act
   Ticks : ℕ → Act
   MakesPass : Act
@@ -32,8 +31,8 @@ pub data Act : Type 0 where
 
 -- the operation of a thread that an act is
 abbrev pub operation_in : Act → Option Op
-operation_in (Raises keeper op) = None
 operation_in (Operates op) = Some op
+operation_in (Guards keeper op) = Some op
 operation_in (Settles k) = None
 operation_in (Ticks epoch) = None
 operation_in MakesPass = None
@@ -45,10 +44,10 @@ operation_in MarksClose = None
 operation_in (Ends k) = None
 operation_in (Lowers keeper) = None
 
--- whose steps an act makes; a mark makes none
+-- whose steps an act makes; a mark makes none. Those of a guarded request are its keeper's, and its thread's after them
 abbrev pub stepper_of : Act → ℕ
-stepper_of (Raises keeper op) = keeper
 stepper_of (Operates op) = op.actor
+stepper_of (Guards keeper op) = op.actor
 stepper_of (Settles k) = k
 stepper_of (Ticks epoch) = 0
 stepper_of MakesPass = 0
@@ -103,13 +102,13 @@ acts_of_chore idle (Chore.Tick epoch) = Ticks epoch ∷ []
 acts_of_chore idle Chore.Pass = MakesPass ∷ []
 acts_of_chore idle (Chore.Idle n) = ReadsEpoch ∷ idle_stops n idle
 
--- of a thread's, whose request is first tried by a keeper where it has one
-abbrev pub tried_first : Op → Option ℕ → List Act → List Act
-tried_first op None acts = acts
-tried_first op (Some keeper) acts = Raises keeper op ∷ acts
+-- that of a thread's operation, whose guard is kept by this actor, if it is guarded
+abbrev pub act_kept : Option ℕ → Op → Act
+act_kept None op = Operates op
+act_kept (Some keeper) op = Guards keeper op
 
 abbrev pub acts_of_work : List ℕ → Op → Work → List Act
-acts_of_work idle op (Work.Own task) = tried_first op (keeper_of task) (Operates op ∷ (Settles op.actor ∷ []))
+acts_of_work idle op (Work.Own task) = act_kept (keeper_of task) op ∷ (Settles op.actor ∷ [])
 acts_of_work idle op (Work.Chore chore) = acts_of_chore idle chore
 
 abbrev pub acts_of_what : List ℕ → Op → What → List Act
@@ -121,10 +120,10 @@ acts_of_op idle op = acts_of_what idle op op.what
 abbrev pub acts_of_ops : List ℕ → List Op → List Act
 acts_of_ops idle ops = flat_map (acts_of_op idle) ops
 
--- the acts of thread k's operations among those of a phase, with those of its keeper
+-- the acts of thread k's operations among those of a phase
 abbrev pub own_acts : ℕ → List Op → List Act
 own_acts k [] = []
-own_acts k (op ∷ ops) = if op.actor == k then tried_first op (keeper_in op.what) (Operates op ∷ (Settles op.actor ∷ own_acts k ops)) else own_acts k ops
+own_acts k (op ∷ ops) = if op.actor == k then act_kept (keeper_in op.what) op ∷ (Settles op.actor ∷ own_acts k ops) else own_acts k ops
 
 -- the acts of the scavenger's operations among those of a phase in which these threads are idle
 abbrev pub scavenger_acts : List ℕ → List Op → List Act

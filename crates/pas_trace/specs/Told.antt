@@ -3,7 +3,7 @@ use Rattle.std.specs.Prelude.{if◌then◌else◌, ℕ, ◌+◌, ◌*◌, ◌==�
 use Rattle.pas_profile.specs.Profiles.{IsValid}
 use Rattle.pas_trace.specs.declared.header.Header.{Header}
 use Rattle.pas_trace.specs.Wishes.{name_made, heap_made, asks_pages, is_name}
-use Rattle.pas_trace.specs.Reasons.{header_of, first_failed, is_thread, is_alignment, few_enough, own_checks, guard_checks, guard_in, large_requests, is_sampled, actors_by, cost_of_wish, records_of_chore, started, operations_in, is_named, is_named_now, thread_of, heap_of, record_bound, line_says, reason_of}
+use Rattle.pas_trace.specs.Reasons.{header_of, first_failed, is_thread, is_alignment, few_enough, own_checks, guard_checks, guard_with, guard_in, large_requests, is_sampled, actors_by, cost_of_wish, records_of_chore, started, operations_in, is_named, is_named_now, thread_of, heap_of, record_bound, line_says, reason_of}
 use Rattle.pas_trace.specs.declared.fault.Reason.{Reason}
 use Rattle.pas_trace.specs.declared.item.Item.{Item}
 use Rattle.pas_trace.specs.declared.item.Item.TheVariants.{Blank, Shares, Guards, NextPhase, Operates, Scavenges}
@@ -180,15 +180,15 @@ pub record IsNextPhase (old new : Reader) : Type 0 where
   pub counts : new.counts ≡ old.counts
   pub phases : gathered_phases new.gathered ≡ gathered_phases old.gathered ++ [] ∷ []
 
--- from now on of each thread's requests for whole pages every so many is guarded
-pub record IsGuarding (old new : Reader) (number : ℕ) : Type 0 where
+-- from now on of each thread's requests for whole pages one in so many is guarded
+pub record IsGuarding (old new : Reader) (number : Option ℕ) : Type 0 where
   pub header : new.header ≡ old.header
   pub shared : new.shared ≡ old.shared
   pub started : new.started ≡ old.started
   pub line : new.line ≡ old.line
   pub phase : new.phase ≡ old.phase
   pub names : (n : ℕ) → owner_in new.names n ≡ owner_in old.names n
-  pub samples : new.samples ≡ record old.samples { guard = number }
+  pub samples : new.samples ≡ record old.samples { guard = guard_with number old.samples.guard }
   pub operations : new.counts.operations ≡ old.counts.operations
   pub bound : new.counts.bound ≡ old.counts.bound + old.header.profile.threads * old.header.profile.pages
   pub costs : new.counts.costs ≡ old.counts.costs

@@ -1,10 +1,10 @@
 //! The reader: what it keeps of the lines before, and how it takes a line.
-ghost use Rattle.std.specs.Prelude.{◌≡◌, ◌<◌, ◌≤◌, ◌+◌, ◌∷◌, ◌^◌, [], ℕ, List, Some, None, Ok, Err, OnOk, IfOk, MatchOption, MatchResult, length};
+ghost use Rattle.std.specs.Prelude.{◌≡◌, ◌<◌, ◌≤◌, ◌+◌, ◌∷◌, ◌^◌, [], ℕ, List, Some, None, Ok, Err, OnOk, IfOk, MatchOption, MatchResult, true, if◌then◌else◌, length};
 ghost use Rattle.pas_profile.specs.Profiles.{IsValid};
-ghost use Rattle.pas_trace.specs.Reasons.{reason_of, cost_of, cost_of_request, cost_of_wish, guard_checks, records_of_chore, started, is_thread, first_failed};
+ghost use Rattle.pas_trace.specs.Reasons.{reason_of, cost_of, cost_of_request, cost_of_wish, guard_checks, is_guard_number, records_of_chore, started, is_thread, first_failed};
 ghost use Rattle.pas_trace.specs.Items.{item_of_line};
 ghost use Rattle.pas_trace.specs.Wishes.{asking, IsFit};
-ghost use Rattle.pas_trace.specs.Plans.{IsReading, bounds_of, all_bounds, fault_at};
+ghost use Rattle.pas_trace.specs.Plans.{IsReading, bounds_of, bounds_upto, all_bounds, request_kept, fault_at};
 ghost use Rattle.pas_trace.specs.Texts.{lines_of};
 ghost use Rattle.pas_trace.specs.Told.{Tells, IsReady, CanSample, IsCounted, IsOperated, IsNextPhase, IsGuarding, IsAdded, IsTaken, IsFirstTaken, AreTaken, IsRead, IsBegun, IsPlanned, IsChecked, AreTested, few_told, thread_told, sizing_told, freed_told, told_checks, reason_told};
 ghost use Rattle.pas_trace.specs.Lexed.{Say, AreLexed};
@@ -279,12 +279,14 @@ impl Reader {
     fn check_guard(&self, number: Option<u64>) -> Result<u32, Reason>
         ensures { IsChecked (first_failed (guard_checks self.now.header.profile self.now.started self.now.samples.guard number)) 0 result }
     {
-        if self.started || self.samples.guard != 0 {
+        if self.started {
             return Err(Reason::BadWord);
         }
-        match number {
-            Some(every) if every >= 1 && every <= MOST_SAMPLED => (),
-            _ => return Err(Reason::BadNumber),
+        if self.samples.guard != 0 {
+            return Err(Reason::BadWord);
+        }
+        if !is_guard_number(number) {
+            return Err(Reason::BadNumber);
         }
         if self.header.profile.threads > MOST_GUARDED {
             return Err(Reason::BadThread);
@@ -349,22 +351,10 @@ impl Reader {
                     phase,
                 };
                 self.names.give(name, owner)?;
-                let what = if self.samples.sample(thread, size as u32) {
-                    What::Guarded {
-                        keeper: self.header.profile.threads + thread,
-                        name,
-                        heap: heap as u8,
-                        size: size as u32,
-                        align: align as u32,
-                    }
-                } else {
-                    What::Alloc {
-                        name,
-                        heap: heap as u8,
-                        size: size as u32,
-                        align: align as u32,
-                    }
-                };
+                let guarded = self.samples.sample(thread, size as u32);
+                let keeper = self.header.profile.threads + thread;
+                let what =
+                    request_kept(guarded, keeper, name, heap as u8, size as u32, align as u32);
                 self.count(thread, what, cost)
             }
             Wish::Frees { name } => self.count(thread, What::Free { name }, cost),
@@ -427,13 +417,18 @@ impl Reader {
         self.gathered.next_phase(alloc)
     }
 
-    /// From now on of each thread's requests for whole pages every so many is guarded.
-    fn begin_guarding(&mut self, number: u32)
+    /// From now on of each thread's requests for whole pages one in so many is guarded.
+    #[inline(never)]
+    fn begin_guarding(&mut self, number: Option<u64>)
         requires header { IsValid self.old.header.profile }
         requires small { self.old.counts.bound ≤ 2000000 }
+        requires number { is_guard_number number ≡ true }
         ensures { IsGuarding self.old self.new number }
     {
-        self.samples.guard = number;
+        let Some(every) = number else {
+            unreachable!();
+        };
+        self.samples.guard = every as u32;
         self.counts.add_keepers(&self.header.profile);
     }
 
@@ -453,9 +448,8 @@ impl Reader {
                 self.shared |= 1u32 << heap;
                 Ok(())
             }
-            Item::Guards(None) => Ok(()),
-            Item::Guards(Some(number)) => {
-                self.begin_guarding(number as u32);
+            Item::Guards(number) => {
+                self.begin_guarding(number);
                 Ok(())
             }
             Item::Operates { thread, wish } => self.operate(thread as u8, wish, cost),
@@ -564,24 +558,32 @@ impl Reader {
         self.read_lines(left)
     }
 
-    /// The bounds of the actors: for a thread a deed for each page and its costs, for the scavenger its costs, and for a keeper a deed for each page and what
-    /// it may make for its thread.
+    /// Adds the bounds of the keepers to those of the scavenger and the threads: a deed for each page, and what a keeper may make for its thread.
+    fn add_keeper_bounds(&self, bounds: &mut Vec<u32>) -> Result<(), AllocError>
+        requires tells { (items : List Item) × Tells self.now items }
+        requires threads { (items : List Item) → Tells self.now items → bounds.old.items ≡ bounds_upto self.now.header.profile items (self.now.header.profile.threads + 1) }
+        ensures { OnOk result ((items : List Item) → Tells self.now items → bounds.new.items ≡ all_bounds self.now.header.profile items) }
+    {
+        if self.samples.guard == 0 {
+            return Ok(());
+        }
+        for thread in 1..self.header.profile.threads as usize + 1 {
+            bounds.push(self.header.profile.pages + self.samples.kept[thread])?;
+        }
+        Ok(())
+    }
+
+    /// The bounds of the actors: for a thread a deed for each page and its costs, for the scavenger its costs, and then those of the keepers.
     fn bounds(&self) -> Result<Bounds, AllocError>
         requires { (items : List Item) × Tells self.now items }
         ensures { IfOk result (λ bounds. (items : List Item) → Tells self.now items → bounds_of bounds ≡ all_bounds self.now.header.profile items) }
     {
-        let pages = self.header.profile.pages;
-        let threads = self.header.profile.threads as usize;
         let mut bounds = Vec::new(self.alloc);
         bounds.push(self.counts.costs[0])?;
-        for thread in 1..threads + 1 {
-            bounds.push(pages + self.counts.costs[thread])?;
+        for thread in 1..self.header.profile.threads as usize + 1 {
+            bounds.push(self.header.profile.pages + self.counts.costs[thread])?;
         }
-        if self.samples.guard != 0 {
-            for thread in 1..threads + 1 {
-                bounds.push(pages + self.samples.kept[thread])?;
-            }
-        }
+        self.add_keeper_bounds(&mut bounds)?;
         Ok(Bounds { bounds })
     }
 
@@ -620,6 +622,39 @@ impl Reader {
         match self.finish() {
             Ok(plan) => Ok(plan),
             Err(AllocError) => Err(ReadFault::NoMemory),
+        }
+    }
+}
+
+/// Whether a `guard` line may have the number, from 1 to 1,000,000.
+fn is_guard_number(number: Option<u64>) -> bool
+    ensures { result ≡ is_guard_number number }
+{
+    match number {
+        Some(every) => every >= 1 && every <= MOST_SAMPLED,
+        None => false,
+    }
+}
+
+/// A request in a plan, whose guard the keeper keeps, if it is guarded.
+#[inline(always)]
+fn request_kept(guarded: bool, keeper: u8, name: u32, heap: u8, size: u32, align: u32) -> What
+    ensures { result ≡ request_kept (if guarded then Some keeper else None) name heap size align }
+{
+    if guarded {
+        What::Guarded {
+            keeper,
+            name,
+            heap,
+            size,
+            align,
+        }
+    } else {
+        What::Alloc {
+            name,
+            heap,
+            size,
+            align,
         }
     }
 }

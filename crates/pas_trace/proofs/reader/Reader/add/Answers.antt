@@ -3,7 +3,7 @@ use Rattle.std.proofs.lemmas.Result.{on_ok_weaker}
 use Rattle.pas_trace.specs.Reasons.{actor_of, guard_after, cost_of, records_of_chore, is_operation}
 use Rattle.pas_trace.specs.Told.{IsAdded, IsOperated, IsCounted}
 use Rattle.pas_trace.specs.declared.item.Item.{Item}
-use Rattle.pas_trace.proofs.Telling.{added_wish, added_chore}
+use Rattle.pas_trace.proofs.Telling.{added_wish, added_chore, added_guard}
 use Rattle.pas_trace.proofs.Adding.{small_actor, small_heap, ready_for, sample_for, guard_for, fit_for}
 use Rattle.pas_trace.proofs.reader.Reader.add.Goals as goal
 
@@ -62,3 +62,15 @@ returns-in-Scavenges c =
     on_ok_weaker c.count.result (λ h. subst (λ (i : Item). IsAdded r new i) (sym c.in-Scavenges.is)
     (added_chore r new chore (subst (λ what. IsCounted (record r { line = r.line + 1 }) new 0 what records) c.what.ensures
     (subst (λ n. IsCounted (record r { line = r.line + 1 }) new 0 c.what.result n) cost h)))) c.count.ensures
+
+pub begin_guarding-requires-clause-number : goal.begin_guarding-requires-clause-number
+begin_guarding-requires-clause-number c =
+    let p = c.requires.tells in
+    guard_for c.args.self.now p.0 c.args.item p.1 p.2 c.in-Guards.number c.in-Guards.is
+
+pub returns-in-Guards : goal.returns-in-Guards
+returns-in-Guards c =
+    let r = c.args.self.now in
+    let p = c.requires.tells in
+    let a = c.in-Guards in
+    subst (λ (i : Item). IsAdded r c.begin_guarding.new.self i) (sym a.is) (added_guard r c.begin_guarding.new.self a.number (guard_for r p.0 c.args.item p.1 p.2 a.number a.is) c.begin_guarding.ensures)

@@ -1,4 +1,4 @@
-use Rattle.std.proofs.Common.{◌≡◌, ◌+◌, List}
+use Rattle.std.proofs.Common.{◌≡◌, List}
 use Rattle.pas_trace.specs.Plans.{bounds_upto}
 use Rattle.pas_trace.specs.Told.{Tells}
 use Rattle.pas_trace.specs.declared.item.Item.{Item}
@@ -6,6 +6,3 @@ use Rattle.pas_trace.proofs.reader.Reader.bounds.Given as goal
 
 abbrev pub invariant-loop-thread : goal.invariant-loop-thread
 invariant-loop-thread l = (items : List Item) → Tells l.self items → l.bounds.items ≡ bounds_upto l.self.header.profile items l.thread
-
-abbrev pub invariant-loop-thread2 : goal.invariant-loop-thread2
-invariant-loop-thread2 l = (items : List Item) → Tells l.self items → l.bounds.items ≡ bounds_upto l.self.header.profile items (l.self.header.profile.threads + l.thread)

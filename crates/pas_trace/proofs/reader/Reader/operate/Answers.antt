@@ -1,12 +1,24 @@
-use Rattle.std.proofs.Common.{refl, sym, ap, subst}
+use Rattle.std.proofs.Common.{Some, None, if◌then◌else◌, refl, sym, ap, ◌∙◌, subst}
 use Rattle.std.proofs.lemmas.Result.{on_ok_weaker}
-use Rattle.pas_trace.specs.Plans.{name_at}
+use Rattle.pas_trace.specs.Plans.{name_at, request_kept}
 use Rattle.pas_trace.specs.Told.{IsOperated}
 use Rattle.pas_trace.specs.declared.item.Wish.{Wish}
 use Rattle.pas_trace.specs.declared.names.Owner.{Owner}
 use Rattle.pas_trace.specs.declared.plan.What.{What}
 use Rattle.pas_trace.proofs.Adding.{named, renamed, unnamed}
 use Rattle.pas_trace.proofs.reader.Reader.operate.Goals as goal
+
+pub returns-in_ok-give-in-Asks : goal.returns-in_ok-give-in-Asks
+returns-in_ok-give-in-Asks c =
+    let old = c.args.self.now in
+    let new = c.count.new.self in
+    let a = c.in-Asks in
+    let names = c.give.new.self in
+    let samples = c.sample.new.self in
+    let kept = c.request_kept.ensures ∙ ap (λ guarded. request_kept (if guarded then Some (old.header.profile.threads + c.args.thread) else None) a.name a.heap a.size a.align) c.sample.ensures.guarded in
+    on_ok_weaker c.count.result (λ h. subst (λ (w : Wish). IsOperated old new c.args.thread w c.args.cost) (sym a.is)
+    (named old (record old { names = names; samples = samples }) new names samples c.args.thread a.name a.heap (Wish.Asks a.name a.heap a.size a.align) c.request_kept.result c.args.cost refl refl kept refl
+    c.sample.ensures.sampled c.in_ok-give-in-Asks.ensures h)) c.count.ensures
 
 pub returns-in-Frees : goal.returns-in-Frees
 returns-in-Frees c =
