@@ -11,5 +11,6 @@ pub mod Parts
 mod Shown
 pub mod Tidy
 pub mod TrueRefusals
+pub mod Keepers
 pub mod Consequences
 pub mod SingleActs

@@ -32,7 +32,7 @@ use Rattle.pas_steps.specs.Events.{events_by}
 use Rattle.pas_steps.specs.Lists.{Whole, part, word_after, visible, Legal}
 use Rattle.pas_steps.specs.Desks.{Standing, CanCall}
 use Rattle.pas_trace.specs.declared.item.Request.{Request}
-use Rattle.pas_trace.specs.declared.plan.What.TheVariants.{Alloc}
+use Rattle.pas_trace.specs.declared.plan.What.TheVariants.{Alloc, Guarded}
 use Rattle.pas_cache.specs.Caches.{Cached, AtRest}
 use Rattle.pas_profile.specs.declared.directory.Route.{Route}
 use Rattle.pas_trace.specs.Reasons.{cost_of_size}
@@ -242,3 +242,19 @@ module _ (σ σ' : Standing) (c c' : Cached) (name heap size align : ℕ) (found
     },
     named_for σ.seat.profile name heap size align Answers Same found named,
   )
+
+-- ---- a guarded request that is answered as any
+pub can_unguarded : {σ : Standing} {task : Task} {keeper name heap size align : ℕ} (c : Cached) (spare : ℕ) → task ≡ Task.Guarded keeper name heap size align → CanCall σ (MayPerform σ.seat.profile c (what_of task) spare)
+    → CanCall σ (MayPerform σ.seat.profile c (Alloc name heap size align) spare)
+can_unguarded {σ} {task} {keeper} {name} {heap} {size} {align} c spare is can = can_call adds_none can (λ v l stood met.
+    let room = met.room in
+    let cost : cost_of_what (what_of task) ≡ cost_of_size size + 2 = ap (λ (t : Task). cost_of_what (what_of t)) is in
+    record { rest = met.rest; room = omega (arith, room, cost) })
+
+-- what answers the request answers the guarded one, which costs more
+pub guarded_performs : {σ σ' : Standing} {c c' : Cached} {name heap size align : ℕ} {meant came : Option Block} {said : Option Said} {Answers : ℕ → ℕ → Option ℕ → Type 0} {Same : Type 0} (keeper : ℕ)
+    → (did : PerformsMeant (Alloc name heap size align) meant came c c' σ σ' said) × IsNamedFor σ.seat.profile Answers Same (request_made (Alloc name heap size align) meant) did.found
+    → (did : PerformsMeant (Guarded keeper name heap size align) meant came c c' σ σ' said) × IsNamedFor σ.seat.profile Answers Same (request_made (Guarded keeper name heap size align) meant) did.found
+guarded_performs keeper is =
+    let did = is.0 in
+    (record { steps = did.steps; found = did.found; calls = did.calls; few = λ v rest agreed. let few = did.few v rest agreed in omega (arith, few); answered = did.answered; others = λ none. absurd (let bad = none in cc) }, is.1)

@@ -1,5 +1,7 @@
 pub mod Named
 pub mod Answers
+pub mod Guarding
+pub mod Keeping
 pub mod Reaching
 pub mod Ways
 pub mod Indexes
