@@ -43,7 +43,10 @@ use Rattle.pas_cache.specs.Serves.{IsSmallRoute, Wanted, wanted_for, pages_of, I
 use Rattle.pas_steps.specs.Unknown.{unknown_pages}
 use Rattle.pas_answers.specs.Answers.{named as the_name, block_of, said_by, said_of_request, IsGiven, RefusalEnds, RequestEnds}
 use Rattle.pas_answers.specs.Indexes.{IsNamedFor, request_made}
-use Rattle.pas_answers.specs.Calls.{IsBlockOf, MayStand, owed_events, MayPerform, Serves, events_for, PerformsMeant}
+use Rattle.pas_trace.specs.declared.plan.Task.{Task}
+use Rattle.pas_report.specs.declared.record.Said.{Said}
+use Rattle.pas_answers.specs.Fit.{cost_of_what}
+use Rattle.pas_answers.specs.Calls.{what_of, IsBlockOf, MayStand, owed_events, MayPerform, Serves, events_for, PerformsMeant}
 use Rattle.pas_steps.proofs.Adding.{adds_none, can_call}
 use Rattle.pas_steps.proofs.Unknown.{unknown_stays, has_room}
 use Rattle.pas_cache.proofs.Routes.{is_small, is_large, small_may, small_did, none_named, pages_asked}
@@ -257,4 +260,4 @@ pub guarded_performs : {σ σ' : Standing} {c c' : Cached} {name heap size align
     → (did : PerformsMeant (Guarded keeper name heap size align) meant came c c' σ σ' said) × IsNamedFor σ.seat.profile Answers Same (request_made (Guarded keeper name heap size align) meant) did.found
 guarded_performs keeper is =
     let did = is.0 in
-    (record { steps = did.steps; found = did.found; calls = did.calls; few = λ v rest agreed. let few = did.few v rest agreed in omega (arith, few); answered = did.answered; others = λ none. absurd (let bad = none in cc) }, is.1)
+    (record { steps = did.steps; found = did.found; calls = did.calls; few = λ v rest agreed. let few = did.few v rest agreed in omega (arith, few); answered = did.answered; others = did.others }, is.1)
