@@ -5,7 +5,8 @@ ghost use Rattle.pas_cache.specs.Caches.{cached};
 ghost use Rattle.pas_report.specs.Rooms.{Records as TheRecords};
 ghost use Rattle.pas_utility.specs.Outcomes.{places_of};
 ghost use Rattle.pas_trace.specs.Acts.{Operates, Settles, StopsIdle, Ticks, MakesPass, ReadsEpoch};
-ghost use Rattle.pas_answers.specs.Answers.{Progress};
+ghost use Rattle.pas_cache.specs.Calls.{SettlesEach};
+ghost use Rattle.pas_answers.specs.Answers.{Progress, settled};
 ghost use Rattle.pas_answers.specs.Calls.{what_of, MayStand, named_by};
 ghost use Rattle.pas_trace.specs.declared.plan.Op.{Op as TheOp};
 ghost use Rattle.pas_acts.specs.Works.{Later};
@@ -47,6 +48,14 @@ pub fn operate<D: Desk, O: Door, M: Remake>(
     let came = answer_meant(desk, door, cache, remaker, task, meant, out);
     cache.settle(door);
     came
+}
+
+/// Hands the runs of large blocks that a thread's cache noted to the door, as after each operation of the thread: after one whose block its keeper gave.
+pub fn settle<O: Door>(door: &mut O, cache: &mut ThreadCache)
+    ensures settles { SettlesEach O.settles (cached cache.old).noted door.old door.new }
+    ensures cache { cached cache.new ≡ settled (cached cache.old) }
+{
+    cache.settle(door);
 }
 
 /// Stops the thread of this desk, where it was idle for so many epochs, now that it is this one: whether it did. The records of its flush come to its

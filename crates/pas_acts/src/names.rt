@@ -95,6 +95,7 @@ fn asked_name(op: Op) -> Option<u32>
 {
     match op.what {
         What::Alloc { name, .. } => Some(name),
+        What::Guarded { name, .. } => Some(name),
         What::Remake { name, .. } => Some(name),
         _ => None,
     }

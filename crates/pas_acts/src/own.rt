@@ -42,6 +42,7 @@ fn keep(requests: &mut Requests, task: Task, came: Option<Block>)
 {
     match task {
         Task::Request { name, .. } => requests.push(Request::of(name, came)),
+        Task::Guarded { name, .. } => requests.push(Request::of(name, came)),
         Task::Remake { name, .. } => requests.push(Request::of(name, came)),
         _ => {}
     }

@@ -1,2 +1,3 @@
 pub mod Parts
 pub mod Awake
+pub mod Keepers

@@ -1,13 +1,13 @@
 //! The phases of a plan in order, and the close.
 ghost use Rattle.std.specs.Prelude.{◌≡◌, ◌+◌, ◌<◌, ◌≤◌, ◌^◌, map, length, [], ◌∷◌};
 ghost use Rattle.pas_trace.specs.Plans.{ops_of};
-ghost use Rattle.pas_trace.specs.Acts.{Wakes, ReadsEpoch, Ends, numbers_from, idle_stops, acts_of_op, acts_of_ops, acts_of};
+ghost use Rattle.pas_trace.specs.Acts.{Wakes, ReadsEpoch, Ends, Lowers, numbers_from, idle_stops, acts_of_op, acts_of_ops, acts_of};
 ghost use Rattle.pas_replay.specs.Sessions.{Replay, SoFar, AreEmpty, MayGoOn, GoesOn, Replays, hand_of, session};
 ghost use Rattle.pas_plans.specs.Awake.{awake_in, idle_in};
 ghost use Rattle.pas_report.specs.Rooms.{Records as TheRecords};
 ghost use Rattle.pas_answers.specs.declared.names.Names.{Names as TheNames};
 
-use crate::seats::{Actors, end, operate, pass, read_epoch, rise, sit, stop_if_idle, tick, wake};
+use crate::seats::{Actors, end, guard, lower, operate, pass, read_epoch, rise, sit, stop_if_idle, tick, wake};
 use pas_acts::at_desk::SCAVENGER;
 use pas_answers::Remake;
 use pas_answers::names::Names;
@@ -15,7 +15,7 @@ use pas_bits::Mask4;
 use pas_plain::{PlainDesk, PlainRegion};
 use pas_plans::active;
 use pas_report::{Record, Records};
-use pas_trace::{Chore, Op, Phase, Work};
+use pas_trace::{Chore, Op, Phase, Task, Work};
 
 /// The number of the phase that begins without a mark.
 const UNMARKED: u32 = 1;
@@ -76,7 +76,12 @@ fn perform<M: Remake>(
     ensures so_far { GoesOn (λ n. acts_of_op (idle_in awake n) op) (session desk.old actors.old names.old out.old) (session desk.new actors.new names.new out.new) }
 {
     match op.work() {
-        Work::Own(task) => operate(desk, actors, names, remaker, op.actor, task, out),
+        Work::Own(task) => match task {
+            Task::Guarded { keeper, .. } => {
+                guard(desk, actors, names, remaker, op.actor, keeper, task, out)
+            }
+            _ => operate(desk, actors, names, remaker, op.actor, task, out),
+        },
         Work::Chore(Chore::Tick(epoch)) => tick(desk, actors, epoch, out),
         Work::Chore(Chore::Pass) => pass(desk, actors, out),
         Work::Chore(Chore::Idle(epochs)) => stop_idle(desk, actors, awake, epochs, out),
@@ -116,7 +121,22 @@ fn stop_all(desk: &mut PlainDesk, actors: &mut Actors, out: &mut Records)
     }
 }
 
-/// Performs the phases in order, with a mark before each from the second on, and closes: a mark, and the stop of each thread. The region stays
+/// Each keeper, in order, lowers all its guards: those of the threads, which are the actors behind them. There are none in a plan that isn't guarded.
+fn lower_all(desk: &mut PlainDesk, actors: &mut Actors, out: &mut Records)
+    requires few { length actors.old.caches.items ≤ 16 }
+    requires books { length actors.old.books.items ≤ length actors.old.caches.items }
+    requires so_far { (table : TheNames) × MayGoOn (λ n. map Lowers (numbers_from (n + 1) (length actors.old.books.items))) (session desk.old actors.old table out.old) }
+    ensures threads { length actors.new.caches.items ≡ length actors.old.caches.items }
+    ensures so_far { (table : TheNames) → GoesOn (λ n. map Lowers (numbers_from (n + 1) (length actors.old.books.items))) (session desk.old actors.old table out.old) (session desk.new actors.new table out.new) }
+{
+    let threads = actors.caches.len() as u8;
+    for index in 0..actors.books.len() {
+        let actor = index as u8 + 1;
+        lower(desk, actors, actor, threads + actor, out);
+    }
+}
+
+/// Performs the phases in order, with a mark before each from the second on, and closes: a mark, the stop of each thread, and the last sweep of each keeper. The region stays
 /// at one desk, at which the actors take turns.
 pub(crate) fn replay<M: Remake>(
     region: PlainRegion,
@@ -128,7 +148,7 @@ pub(crate) fn replay<M: Remake>(
 ) -> PlainRegion
     requires phases { length phases.now < 2 ^ 32 }
     requires few { length actors.old.caches.items < 32 }
-    requires so_far { (r : Replay) × (r.acts ≡ acts_of r.threads (map ops_of phases.now)) × SoFar r r.acts (hand_of region actors.old names.old out.old) }
+    requires so_far { (r : Replay) × (r.acts ≡ acts_of r.threads (length actors.old.books.items) (map ops_of phases.now)) × SoFar r r.acts (hand_of region actors.old names.old out.old) }
     ensures so_far { Replays (map ops_of phases.now) (hand_of region actors.old names.old out.old) (hand_of result actors.new names.new out.new) }
     ensures empty { AreEmpty actors.new.caches.items }
 {
@@ -153,5 +173,6 @@ pub(crate) fn replay<M: Remake>(
     }
     out.push(Record::Close);
     stop_all(&mut desk, actors, out);
+    lower_all(&mut desk, actors, out);
     rise(desk, actors)
 }

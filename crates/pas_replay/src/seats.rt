@@ -1,13 +1,13 @@
 //! The actors' places at the region. One sits at the desk at a time.
-ghost use Rattle.std.specs.Prelude.{◌≡◌, ◌≢◌, ◌<◌, ◌-◌, ◌≤◌, ◌++◌, ℕ, List, [], ◌∷◌, length, option_and_then, slice_set};
+ghost use Rattle.std.specs.Prelude.{◌≡◌, ◌≢◌, ◌<◌, ◌-◌, ◌≤◌, ◌++◌, ℕ, List, Some, [], ◌∷◌, length, option_and_then, slice_set};
 ghost use Rattle.pas_profile.specs.declared.profile.Profile.{Profile as TheProfile};
 ghost use Rattle.pas_plain.specs.Plain.{actor_of};
 ghost use Rattle.pas_plain.specs.Seats.{pass_of, standing_of};
 ghost use Rattle.pas_cache.specs.Caches.{cached};
 ghost use Rattle.pas_cache.specs.declared.cache.ThreadCache.{ThreadCache as TheCache};
 ghost use Rattle.pas_report.specs.Rooms.{Records as TheRecords};
-ghost use Rattle.pas_trace.specs.Asked.{request_of, freed_of};
-ghost use Rattle.pas_trace.specs.Acts.{Act, Operates, Settles, Ticks, MakesPass, ReadsEpoch, StopsIdle, Wakes, Ends};
+ghost use Rattle.pas_trace.specs.Asked.{request_of, freed_of, keeper_in};
+ghost use Rattle.pas_trace.specs.Acts.{Act, Operates, Guards, Settles, Ticks, MakesPass, ReadsEpoch, StopsIdle, Wakes, Ends, Lowers};
 ghost use Rattle.pas_answers.specs.Answers.{Named, Progress};
 ghost use Rattle.pas_acts.specs.Works.{Later};
 ghost use Rattle.pas_acts.specs.AtDesks.{here, MayOperate};
@@ -20,10 +20,11 @@ ghost use Rattle.pas_answers.specs.declared.names.Names.{Names as TheNames};
 ghost use Rattle.pas_replay.specs.Sessions.{Replay, pass_in, hand_of, hand_at, session, IsTaken, MaySit, MayTakeSeat, TakesSeat, SoFarAt, MayGoOn, GoesOn, HasRead, MayGoOnAt, GoesOnAt};
 
 use pas_acts::at_desk::SCAVENGER;
-use pas_acts::{at_desk, turns};
+use pas_acts::{at_desk, keepers, turns};
 use pas_answers::Remake;
 use pas_answers::names::Names;
 use pas_cache::ThreadCache;
+use pas_guard::GuardBook;
 use pas_large::PlainDoor;
 use pas_large_index::LargeIndex;
 use pas_plain::{PlainDesk, PlainPass, PlainRegion};
@@ -42,6 +43,8 @@ pub(crate) struct Actors {
     pub(crate) caches: Vec<ThreadCache>,
     /// The scavenger's list for what a pass comes to.
     pub(crate) outcomes: Outcomes,
+    /// By thread, from thread 1 on: what its keeper has up. None in a plan that isn't guarded.
+    pub(crate) books: Vec<GuardBook>,
     /// By heap: the pages where large blocks ended, which a large request is given first.
     pub(crate) indexes: Vec<LargeIndex>,
 }
@@ -120,6 +123,7 @@ fn keep(names: &mut Names, task: Task, came: Option<Block>)
 {
     match task {
         Task::Request { name, .. } => names.set(name, came),
+        Task::Guarded { name, .. } => names.set(name, came),
         Task::Remake { name, .. } => names.set(name, came),
         _ => {}
     }
@@ -181,6 +185,73 @@ pub(crate) fn operate<M: Remake>(
     let meant = freed(names, task);
     let came = operate_by(desk, &mut actors.indexes, cache, remaker, task, meant, out);
     keep(names, task, came);
+}
+
+/// A guarded request of the thread, by its keeper: the block that this gave, if any.
+fn try_by(
+    desk: &mut PlainDesk,
+    actors: &mut Actors,
+    actor: u8,
+    keeper: u8,
+    task: Task,
+    out: &mut Records,
+) -> Option<Block> {
+    let Task::Guarded {
+        name,
+        heap,
+        size,
+        align,
+        ..
+    } = task
+    else {
+        unreachable!();
+    };
+    take_seat(desk, &mut actors.passes, keeper);
+    let book = &mut actors.books[actor as usize - 1];
+    keepers::try_guarded(desk, book, name, heap, size, align, out)
+}
+
+/// The thread of this number makes the guarded request: its keeper tries it first, and where that gave no block it is served or refused as any other. In both ways the
+/// indexes take the runs of large blocks that the thread's cache noted.
+pub(crate) fn guard<M: Remake>(
+    desk: &mut PlainDesk,
+    actors: &mut Actors,
+    names: &mut Names,
+    remaker: &M,
+    actor: u8,
+    keeper: u8,
+    task: Task,
+    out: &mut Records,
+)
+    requires some { 1 ≤ actor }
+    requires thread { actor ≤ length actors.old.caches.items }
+    requires so_far { (op : TheOp) × (op.actor ≡ actor) × (op.what ≡ what_of task) × (keeper_in op.what ≡ Some keeper) × MayGoOn (λ n. Guards keeper op ∷ (Settles op.actor ∷ [])) (session desk.old actors.old names.old out.old) }
+    ensures threads { length actors.new.caches.items ≡ length actors.old.caches.items }
+    ensures so_far { (op : TheOp) → op.actor ≡ actor → op.what ≡ what_of task → keeper_in op.what ≡ Some keeper
+        → GoesOn (λ n. Guards keeper op ∷ (Settles op.actor ∷ [])) (session desk.old actors.old names.old out.old) (session desk.new actors.new names.new out.new) }
+{
+    match try_by(desk, actors, actor, keeper, task, out) {
+        Some(block) => {
+            keep(names, task, Some(block));
+            let cache = &mut actors.caches[actor as usize - 1];
+            let mut door = PlainDoor::new(&mut actors.indexes);
+            at_desk::settle(&mut door, cache);
+        }
+        None => operate(desk, actors, names, remaker, actor, task, out),
+    }
+}
+
+/// The keeper of this thread lowers all its guards, as the replay closes.
+pub(crate) fn lower(desk: &mut PlainDesk, actors: &mut Actors, actor: u8, keeper: u8, out: &mut Records)
+    requires some { 1 ≤ actor }
+    requires thread { actor ≤ length actors.old.books.items }
+    requires so_far { (table : TheNames) × MayGoOn (λ n. Lowers keeper ∷ []) (session desk.old actors.old table out.old) }
+    ensures threads { length actors.new.caches.items ≡ length actors.old.caches.items }
+    ensures so_far { (table : TheNames) → GoesOn (λ n. Lowers keeper ∷ []) (session desk.old actors.old table out.old) (session desk.new actors.new table out.new) }
+{
+    take_seat(desk, &mut actors.passes, keeper);
+    let book = &mut actors.books[actor as usize - 1];
+    keepers::lower_all(desk, book, out);
 }
 
 /// The thread of this number is stopped, as the replay closes. Its cache is empty then.
