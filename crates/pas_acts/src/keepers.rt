@@ -41,3 +41,33 @@ pub fn lower_all<D: Desk>(desk: &mut D, book: &mut GuardBook, out: &mut Records)
 {
     pas_answers::lower_all(desk, book, out);
 }
+
+/// Who tries the guarded requests of a thread: its keeper, at a desk of its own, which the thread doesn't hold. A thread of a plan that isn't guarded has none and
+/// asks nobody.
+pub trait Tries {
+    ghost use Rattle.std.specs.Prelude.{◌<◌, ℕ};
+    ghost use Rattle.pas_profile.specs.Profiles.{IsAdmitted};
+    ghost use Rattle.pas_steps.specs.Desks.{Standing, CanCall};
+    ghost use Rattle.pas_guard.specs.declared.book.GuardBook.{GuardBook as TheBook};
+    ghost use Rattle.pas_report.specs.Rooms.{Records as TheRecords};
+    ghost use Rattle.pas_answers.specs.Keeping.{MayTry, TriesRequest};
+
+    /// What the keeper's desk means while it is closed.
+    ghost standing: { Self → Standing };
+
+    /// For how many more events there is room there.
+    ghost spare_of: { Self → ℕ };
+
+    /// Its book.
+    ghost book_of: { Self → TheBook };
+
+    /// Its records.
+    ghost out_of: { Self → TheRecords };
+
+    /// The keeper tries the request. The block that it gave, if any.
+    fn try_guarded(&mut self, name: u32, heap: u8, size: u32, align: u32) -> Option<Block>
+        requires admitted { IsAdmitted (standing self.old).seat.profile size align heap }
+        requires large { 2048 < size }
+        requires can { CanCall (standing self.old) (MayTry (standing self.old).seat.profile (book_of self.old) size (spare_of self.old) (out_of self.old)) }
+        ensures tries { TriesRequest (record { name = name; heap = heap; size = size; align = align }) (book_of self.old) (book_of self.new) (out_of self.old) (out_of self.new) (standing self.old) (standing self.new) result };
+}

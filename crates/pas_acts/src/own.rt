@@ -11,6 +11,7 @@ ghost use Rattle.pas_acts.specs.Works.{keeps, Later, ThreadAt, Works};
 
 use crate::at_desk;
 use crate::gate::Gate;
+use crate::keepers::Tries;
 use crate::names::{NameBook, Request, Requests};
 use pas_answers::Remake;
 use pas_cache::ThreadCache;
@@ -48,13 +49,29 @@ fn keep(requests: &mut Requests, task: Task, came: Option<Block>)
     }
 }
 
-/// Performs an operation of the desk's thread, of which none is a chore. Its name is looked up and kept in book and requests.
-fn operate<D: Desk, O: Door, M: Remake>(
+/// The block that the keeper gave, where the task is a guarded request and it gave one.
+#[inline(always)]
+fn tried<K: Tries>(keeper: &mut K, task: Task) -> Option<Block> {
+    match task {
+        Task::Guarded {
+            name,
+            heap,
+            size,
+            align,
+            ..
+        } => keeper.try_guarded(name, heap, size, align),
+        _ => None,
+    }
+}
+
+/// Performs an operation of the desk's thread, of which none is a chore. A guarded request is tried by the thread's keeper first. Its name is looked up and kept in book and requests.
+fn operate<D: Desk, O: Door, M: Remake, K: Tries>(
     desk: &mut D,
     door: &mut O,
     book: &NameBook,
     cache: &mut ThreadCache,
     remaker: &M,
+    keeper: &mut K,
     requests: &mut Requests,
     op: Op,
     out: &mut Records,
@@ -65,19 +82,28 @@ fn operate<D: Desk, O: Door, M: Remake>(
     ensures home { D.home desk.new ≡ D.home desk.old }
 {
     if let Work::Own(task) = op.work() {
-        let meant = freed(book, requests, task);
-        let came = at_desk::operate(desk, door, cache, remaker, task, meant, out);
+        let came = match tried(keeper, task) {
+            Some(block) => {
+                at_desk::settle(door, cache);
+                Some(block)
+            }
+            None => {
+                let meant = freed(book, requests, task);
+                at_desk::operate(desk, door, cache, remaker, task, meant, out)
+            }
+        };
         keep(requests, task, came);
     }
 }
 
 /// Performs the operations of the desk's thread among those of a phase, in order, with the gate called round each.
-pub fn work<D: Desk, O: Door, G: Gate, M: Remake>(
+pub fn work<D: Desk, O: Door, G: Gate, M: Remake, K: Tries>(
     desk: &mut D,
     door: &mut O,
     book: &NameBook,
     cache: &mut ThreadCache,
     remaker: &M,
+    keeper: &mut K,
     requests: &mut Requests,
     ops: &[Op],
     gate: &G,
@@ -97,7 +123,7 @@ pub fn work<D: Desk, O: Door, G: Gate, M: Remake>(
         if op.actor == actor {
             number += 1;
             gate.before(actor, number);
-            operate(desk, door, book, cache, remaker, requests, *op, out);
+            operate(desk, door, book, cache, remaker, keeper, requests, *op, out);
             gate.after(actor, number);
         }
     }

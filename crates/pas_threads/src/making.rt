@@ -15,13 +15,15 @@ ghost use Rattle.pas_acts.specs.NameBooks.{requests_in, room_for};
 ghost use Rattle.pas_threads.specs.Kits.{AreEquipped, IsSupplied, IsTeamOf};
 
 use crate::ahead::Spare;
+use crate::keeper::Keeper;
 use crate::phases::Team;
 use crate::scavenger::Scavenger;
 use crate::workers::Worker;
 use pas_acts::names::{NameBook, Requests};
 use pas_cache::ThreadCache;
+use pas_guard::GuardBook;
 use pas_large_index::LargeIndex;
-use pas_plans::{active, caches_for, outcomes_from};
+use pas_plans::{active, books_for, caches_for, outcomes_from};
 use pas_profile::{EventRoom, NoMemory};
 use pas_report::{Records, room_for_replay};
 use pas_shared::SharedPass;
@@ -120,6 +122,53 @@ fn requests_for(
     Ok(requests)
 }
 
+/// The keepers of a guarded plan, which have these passes and books in order. None for another plan. The bounds are those of the keepers.
+fn keepers_for(
+    alloc: Global,
+    passes: Vec<SharedPass>,
+    mut books: Vec<GuardBook>,
+    guarded: &[u32],
+) -> Result<Vec<Keeper>, NoMemory> {
+    let Ok(mut keepers) = Vec::with_capacity(alloc, passes.len()) else {
+        return Err(NoMemory);
+    };
+    books.reverse();
+    for pass in passes {
+        let Some(book) = books.pop() else {
+            unreachable!();
+        };
+        let bound = guarded[keepers.len()];
+        let out = Records::try_new(alloc, bound)?;
+        keepers.push_reserved(Keeper {
+            pass: Some(pass),
+            book,
+            out,
+        });
+    }
+    Ok(keepers)
+}
+
+/// How many records each of so many keepers may make: as many as events, by its bound, and two for each guarded request of its thread.
+fn records_of_keepers(alloc: Global, plan: &Plan, keepers: usize) -> Result<Vec<u32>, NoMemory> {
+    let bounds = plan.bounds.as_slice();
+    let threads = plan.profile.threads as usize;
+    let Ok(mut room) = Vec::with_capacity(alloc, keepers) else {
+        return Err(NoMemory);
+    };
+    for thread in 1..keepers + 1 {
+        room.push_reserved(bounds[threads + thread].saturating_mul(2));
+    }
+    Ok(room)
+}
+
+/// Gives each worker its keeper, in order, where there are keepers.
+fn give_keepers(workers: &mut [Worker], mut keepers: Vec<Keeper>) {
+    keepers.reverse();
+    for index in 0..workers.len() {
+        workers[index].keeper = keepers.pop();
+    }
+}
+
 /// The workers of the threads, from thread 1 on, which have these passes and caches in order. The bounds are those of all actors.
 fn workers_for(
     alloc: Global,
@@ -151,6 +200,7 @@ fn workers_for(
             cache,
             requests,
             out,
+            keeper: None,
         });
     }
     Ok(workers)
@@ -236,7 +286,13 @@ pub(crate) fn team_for(
         records: Some(records),
         requests: Some(requests),
     };
-    let threads = workers_for(alloc, others, caches, bounds, whole)?;
+    let mut others = others;
+    let kept = others.split_off(count as usize);
+    let books = books_for(alloc, plan)?;
+    let room = records_of_keepers(alloc, plan, books.len())?;
+    let keepers = keepers_for(alloc, kept, books, room.as_slice())?;
+    let mut threads = workers_for(alloc, others, caches, bounds, whole)?;
+    give_keepers(&mut threads, keepers);
     let outcomes = outcomes_from(utility);
     let scavenger = scavenger_with(alloc, first, outcomes, bounds[0], count)?;
     let book = book_of(alloc, plan.names_limit, book)?;

@@ -14,7 +14,7 @@ ghost use Rattle.pas_threads.specs.Sessions.{Session, AreMarked, CloseDone, Phas
 use crate::dealing::{deal, take_back};
 use crate::hands::{Hand, act_with};
 use crate::scavenger::Scavenger;
-use crate::turns::{gather, stop_all, wake_all};
+use crate::turns::{gather, lower_all, stop_all, wake_all};
 use crate::workers::{Worker, take_all};
 use pas_acts::at_desk::SCAVENGER;
 use pas_acts::gate::Gate;
@@ -106,7 +106,7 @@ fn perform_phase<R: Threads + Wait + Sync, G: Gate + Sync, M: Remake + Sync>(
     team
 }
 
-/// The close: each thread is stopped, and what the stops said is gathered.
+/// The close: each thread is stopped, and then each keeper lowers its guards; what they said is gathered.
 fn finish(region: &SharedRegion, team: Team, out: &mut Records) -> Team
     requires may { (s : Session) × (p : Progress) × TeamAt region.now s [] team p × AreMarked s p.records (records_in out.old) × HasRoom s [] 0 out.old p }
     ensures done { (s : Session) (p : Progress) → TeamAt region.now s [] team p → AreMarked s p.records (records_in out.old) → HasRoom s [] 0 out.old p
@@ -114,11 +114,12 @@ fn finish(region: &SharedRegion, team: Team, out: &mut Records) -> Team
 {
     let mut team = team;
     stop_all(region, &mut team.threads);
+    lower_all(region, &mut team.threads);
     gather(&mut team.threads, out);
     team
 }
 
-/// Performs the phases in order, with a mark before each from the second on, and closes: a mark, and the stop of each thread. The operations of a phase are
+/// Performs the phases in order, with a mark before each from the second on, and closes: a mark, the stop of each thread, and the last sweep of each keeper. The operations of a phase are
 /// performed by as many threads as have one, all at once; the records of each phase come actor by actor. Takes no memory.
 pub(crate) fn replay<R: Threads + Wait + Sync, G: Gate + Sync, M: Remake + Sync>(
     rt: &R,

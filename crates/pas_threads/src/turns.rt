@@ -11,6 +11,7 @@ ghost use Rattle.pas_threads.specs.Sessions.{WorkerHas, AreResting};
 ghost use Rattle.pas_threads.specs.Turns.{Turn, WokeAll, StoppedAll, said_by_all, IsGathered};
 ghost use Rattle.pas_threads.specs.declared.workers.Worker.{Worker as TheWorker};
 
+use crate::keeper::lower;
 use crate::workers::Worker;
 use pas_acts::turns::{begin, end};
 use pas_bits::Mask4;
@@ -70,6 +71,22 @@ pub(crate) fn stop_all(region: &SharedRegion, threads: &mut [Worker])
     }
 }
 
+/// The keeper of each thread, in order, lowers all its guards. There are none in a replay that isn't guarded.
+pub(crate) fn lower_all(region: &SharedRegion, threads: &mut [Worker]) {
+    for index in 0..threads.len() {
+        if let Some(keeper) = &mut threads[index].keeper {
+            lower(region, keeper);
+        }
+    }
+}
+
+/// What the keeper of the worker said comes to the end of `out`.
+fn gather_kept(worker: &mut Worker, out: &mut Records) {
+    if let Some(keeper) = &mut worker.keeper {
+        out.append(&mut keeper.out);
+    }
+}
+
 /// What the worker said comes to the end of `out`.
 fn gather_one(worker: &mut Worker, out: &mut Records)
     requires room { length (records_in out.old) + length (records_in worker.old.out) ≤ room_of out.old }
@@ -80,7 +97,7 @@ fn gather_one(worker: &mut Worker, out: &mut Records)
     out.append(&mut worker.out);
 }
 
-/// What the workers said comes to the end of `out`, one worker after the other.
+/// What the workers said comes to the end of `out`, one worker after the other, and then what their keepers said.
 pub(crate) fn gather(threads: &mut [Worker], out: &mut Records)
     requires room { length (records_in out.old) + length (said_by_all threads.old) ≤ room_of out.old }
     ensures added { records_in out.new ≡ records_in out.old ++ said_by_all threads.old }
@@ -90,5 +107,8 @@ pub(crate) fn gather(threads: &mut [Worker], out: &mut Records)
 {
     for place in 0..threads.len() {
         gather_one(&mut threads[place], out);
+    }
+    for place in 0..threads.len() {
+        gather_kept(&mut threads[place], out);
     }
 }
