@@ -1,18 +1,19 @@
 -- The acts of a plan fit where its operations do, and cost no more than they, and one record for each phase and one for the close.
-use Rattle.std.proofs.Common.{◌≡◌, ℕ, zero, suc, ◌+◌, ◌*◌, ◌<◌, ◌≤◌, ◌==◌, Bool, true, false, if◌then◌else◌, cond, List, [], ◌∷◌, ◌++◌, length, refl, ap, sym, subst, arith, append_assoc}
+use Rattle.std.proofs.Common.{◌≡◌, ℕ, zero, suc, ◌≢◌, ◌+◌, ◌*◌, ◌<◌, ◌≤◌, ◌==◌, Bool, true, false, if◌then◌else◌, cond, List, [], ◌∷◌, ◌++◌, length, Option, None, Some, inl, inr, refl, ap, sym, ◌∙◌, subst, arith, append_assoc}
 use Rattle.std.specs.Prelude.{map, not, MatchOption}
 use Rattle.std.specs.List.{AllByRecursion, filter}
-use Rattle.std.proofs.lemmas.Bool.{eq-eqb}
+use Rattle.std.proofs.lemmas.Bool.{eq-eqb, ne_eqb, cases_eq}
 use Rattle.std.proofs.Math.Nat.{suc-mul}
 use Rattle.pas_profile.specs.declared.profile.Profile.{Profile}
-use Rattle.pas_trace.specs.EveryPlan.{all_ops, asked_with, asked_after, IsActorBy, IsActorOf, IsSoundWork, AreSound, IsKept, AreKept, kept_of_work, kept_records, records_of_chore, records_of_work, records_of_what, records_of_ops, own_records}
-use Rattle.pas_trace.specs.Asked.{work_of, of_task, request_of, keeper_of, keeper_in, cost_of_task}
+use Rattle.pas_trace.specs.EveryPlan.{all_ops, asked_with, asked_after, IsThread, IsActorBy, IsActorOf, IsSoundWork, AreSound, IsKept, AreKept, kept_of_work, kept_records, records_of_chore, records_of_work, records_of_what, records_of_ops, own_records}
+use Rattle.pas_trace.specs.Asked.{work_of, of_task, request_of, request_in, keeper_of, keeper_in, cost_of_task}
+use Rattle.pas_trace.specs.Reasons.{cost_of_size}
 use Rattle.pas_trace.specs.declared.plan.Task.{Task}
 use Rattle.pas_trace.specs.declared.plan.Chore.{Chore}
 use Rattle.pas_trace.specs.declared.plan.Work.{Work}
 use Rattle.pas_trace.specs.declared.plan.Op.{Op}
 use Rattle.pas_trace.specs.Acts.{Act, Operates, Guards, Settles, Ticks, StopsIdle, MarksPhase, MarksClose, Wakes, Ends, Lowers, act_kept, is_active, numbers_from, active_threads, idle_threads, idle_stops, acts_of_chore, acts_of_work, acts_of_op, acts_of_ops, phase_acts, close_acts, acts_from, acts_of}
-use Rattle.pas_answers.specs.Fit.{IsFitWork, AreFit, AreOfThreads, cost_of_work, cost_of_what, cost_of_act, costs_of, own_cost_of_act, own_costs_of, kept_cost_of_act, kept_costs_of, unbacks_of_act, unbacks_of, sum_over, AreBelow}
+use Rattle.pas_answers.specs.Fit.{IsFitWork, IsFitWhat, AreFit, AreOfThreads, cost_of_work, cost_of_what, cost_of_act, costs_of, own_cost_of_act, own_costs_of, kept_cost_of, kept_costs_of, unbacks_of_act, unbacks_of, sum_over, AreBelow}
 
 -- ---- so many threads
 numbers_count : (k n : ℕ) → length (numbers_from k n) ≡ n
@@ -219,9 +220,13 @@ kept_sum k [] = refl
 kept_sum k (op ∷ ops) = ap (λ n. (if op.actor == k then kept_of_work (work_of op.what) else 0) + n) (kept_sum k ops)
 
 -- ---- what acts fit to
+-- A guard is kept by an actor of the region behind the thread: which is so of each operation of a plan in the region that has a place for its keepers.
+abbrev pub KeepsAbove : Profile → Op → Type 0
+KeepsAbove f op = MatchOption (keeper_in op.what) (Unit {0}) (λ keeper. IsThread f keeper × (op.actor < keeper))
+
 -- what is said after operations and before the acts of those that follow
 abbrev pub Continues : Profile → ℕ → List Op → List Act → Type 0
-Continues f limit ops acts = (asked : List ℕ) → AreSound f asked ops → AreFit f limit asked acts
+Continues f limit ops acts = (asked : List ℕ) → AreSound f asked ops → AllByRecursion (KeepsAbove f) ops → AreFit f limit asked acts
 
 skip_stops : (f : Profile) (limit : ℕ) (asked : List ℕ) (n : ℕ) (idle : List ℕ) (more : List Act) → AreFit f limit asked more → AreFit f limit asked (idle_stops n idle ++ more)
 skip_stops f limit asked n [] more fit = fit
@@ -232,48 +237,58 @@ fits_chore f limit asked (Chore.Tick e) idle more sound fit = (sound, fit)
 fits_chore f limit asked Chore.Pass idle more sound fit = fit
 fits_chore f limit asked (Chore.Idle n) idle more sound fit = skip_stops f limit asked n idle more fit
 
-fits : (f : Profile) (limit : ℕ) (asked : List ℕ) (op : Op) (work : Work) (idle : List ℕ) (more : List Act) → work_of op.what ≡ work → MatchOption (of_task request_of work) (Unit {0}) (λ r. r.name < limit) → IsActorBy f work op.actor → IsSoundWork f asked work
+kept_fits : (f : Profile) (limit : ℕ) (asked : List ℕ) (keeper : Option ℕ) (op : Op) (more : List Act) → MatchOption keeper (Unit {0}) (λ k. IsThread f k × (op.actor < k)) → IsThread f op.actor → IsFitWhat f limit asked op.what
+    → AreFit f limit (asked_after op.what asked) more → AreFit f limit asked (act_kept keeper op ∷ (Settles op.actor ∷ more))
+kept_fits f limit asked None op more above of sound fit = (of, sound, fit)
+kept_fits f limit asked (Some keeper) op more above of sound fit = (above.0, above.1, of, sound, fit)
+
+fits : (f : Profile) (limit : ℕ) (asked : List ℕ) (op : Op) (work : Work) (idle : List ℕ) (more : List Act) → KeepsAbove f op → work_of op.what ≡ work → MatchOption (of_task request_of work) (Unit {0}) (λ r. r.name < limit) → IsActorBy f work op.actor → IsSoundWork f asked work
     → AreFit f limit (asked_with (of_task request_of work) asked) more → AreFit f limit asked (acts_of_work idle op work ++ more)
-fits f limit asked op (Work.Own task) idle more is below of sound fit =
-    kept_fits f limit asked (keeper_of task) op more kept of (subst (IsFitWork f limit asked) (sym is) (below, sound)) (subst (λ (w : Work). AreFit f limit (asked_with (of_task request_of w) asked) more) (sym is) fit)
-fits f limit asked op (Work.Chore chore) idle more is below of sound fit = fits_chore f limit asked chore idle more sound fit
+fits f limit asked op (Work.Own task) idle more above is below of sound fit =
+    kept_fits f limit asked (keeper_of task) op more (subst (λ (w : Work). MatchOption (of_task keeper_of w) (Unit {0}) (λ k. IsThread f k × (op.actor < k))) is above) of (subst (IsFitWork f limit asked) (sym is) (below, sound)) (subst (λ (w : Work). AreFit f limit (asked_with (of_task request_of w) asked) more) (sym is) fit)
+fits f limit asked op (Work.Chore chore) idle more above is below of sound fit = fits_chore f limit asked chore idle more sound fit
 
 pub ops_fit : (f : Profile) (limit : ℕ) (idle : List ℕ) (ops rest : List Op) (more : List Act) → AreBelow limit (ops ++ rest) → Continues f limit rest more → Continues f limit (ops ++ rest) (acts_of_ops idle ops ++ more)
-ops_fit f limit idle [] rest more below go asked sound = go asked sound
-ops_fit f limit idle (op ∷ ops) rest more below go asked sound =
+ops_fit f limit idle [] rest more below go asked sound above = go asked sound above
+ops_fit f limit idle (op ∷ ops) rest more below go asked sound above =
     subst (AreFit f limit asked) (sym (append_assoc (acts_of_op idle op) (acts_of_ops idle ops) more))
-    (fits f limit asked op (work_of op.what) idle (acts_of_ops idle ops ++ more) refl below.0 sound.0 sound.1 (ops_fit f limit idle ops rest more below.1 go (asked_after op.what asked) sound.2))
+    (fits f limit asked op (work_of op.what) idle (acts_of_ops idle ops ++ more) above.0 refl below.0 sound.0 sound.1 (ops_fit f limit idle ops rest more below.1 go (asked_after op.what asked) sound.2 above.1))
 
 wakes_fit : (f : Profile) (limit : ℕ) (asked : List ℕ) (ks : List ℕ) (more : List Act) → AreFit f limit asked more → AreFit f limit asked (map Wakes ks ++ more)
 wakes_fit f limit asked [] more fit = fit
 wakes_fit f limit asked (k ∷ ks) more fit = wakes_fit f limit asked ks more fit
 
-ends_fit : (f : Profile) (limit : ℕ) (asked : List ℕ) (ks : List ℕ) → AreFit f limit asked (map Ends ks)
-ends_fit f limit asked [] = tt
-ends_fit f limit asked (k ∷ ks) = ends_fit f limit asked ks
+lowers_fit : (f : Profile) (limit : ℕ) (asked : List ℕ) (ks : List ℕ) → AreFit f limit asked (map Lowers ks)
+lowers_fit f limit asked [] = tt
+lowers_fit f limit asked (k ∷ ks) = lowers_fit f limit asked ks
+
+ends_fit : (f : Profile) (limit : ℕ) (asked : List ℕ) (ks js : List ℕ) → AreFit f limit asked (map Ends ks ++ map Lowers js)
+ends_fit f limit asked [] js = lowers_fit f limit asked js
+ends_fit f limit asked (k ∷ ks) js = ends_fit f limit asked ks js
 
 phase_fit : (f : Profile) (limit threads : ℕ) (ops rest : List Op) (more : List Act) → AreBelow limit (ops ++ rest) → Continues f limit rest more → Continues f limit (ops ++ rest) (phase_acts threads ops ++ more)
-phase_fit f limit threads ops rest more below go asked sound =
+phase_fit f limit threads ops rest more below go asked sound above =
     let idle = idle_threads threads ops in
     subst (AreFit f limit asked) (sym (append_assoc (map Wakes (active_threads threads ops)) (acts_of_ops idle ops) more))
-    (wakes_fit f limit asked (active_threads threads ops) (acts_of_ops idle ops ++ more) (ops_fit f limit idle ops rest more below go asked sound))
+    (wakes_fit f limit asked (active_threads threads ops) (acts_of_ops idle ops ++ more) (ops_fit f limit idle ops rest more below go asked sound above))
 
 pub back_below : (limit : ℕ) (xs ys : List Op) → AreBelow limit (xs ++ ys) → AreBelow limit ys
 back_below limit [] ys all = all
 back_below limit (x ∷ xs) ys all = back_below limit xs ys all.1
 
-later_fit : (f : Profile) (limit threads n : ℕ) (phases : List (List Op)) → AreBelow limit (all_ops phases) → Continues f limit (all_ops phases) (acts_from threads n phases)
-later_fit f limit threads n [] below asked sound = ends_fit f limit asked (numbers_from 1 threads)
-later_fit f limit threads n (p ∷ ps) below asked sound =
-    phase_fit f limit threads p (all_ops ps) (acts_from threads (n + 1) ps) below (later_fit f limit threads (n + 1) ps (back_below limit p (all_ops ps) below)) asked sound
+later_fit : (f : Profile) (limit threads keepers n : ℕ) (phases : List (List Op)) → AreBelow limit (all_ops phases) → Continues f limit (all_ops phases) (acts_from threads keepers n phases)
+later_fit f limit threads keepers n [] below asked sound above = ends_fit f limit asked (numbers_from 1 threads) (numbers_from (threads + 1) keepers)
+later_fit f limit threads keepers n (p ∷ ps) below asked sound above =
+    phase_fit f limit threads p (all_ops ps) (acts_from threads keepers (n + 1) ps) below (later_fit f limit threads keepers (n + 1) ps (back_below limit p (all_ops ps) below)) asked sound above
 
-pub acts_fit : (f : Profile) (limit threads : ℕ) (phases : List (List Op)) → AreBelow limit (all_ops phases) → AreSound f [] (all_ops phases) → AreFit f limit [] (acts_of threads phases)
-acts_fit f limit threads [] below sound = later_fit f limit threads 1 [] below [] sound
-acts_fit f limit threads (p ∷ ps) below sound = later_fit f limit threads 1 (p ∷ ps) below [] sound
+pub acts_fit : (f : Profile) (limit threads keepers : ℕ) (phases : List (List Op)) → AreBelow limit (all_ops phases) → AreSound f [] (all_ops phases) → AllByRecursion (KeepsAbove f) (all_ops phases) → AreFit f limit [] (acts_of threads keepers phases)
+acts_fit f limit threads keepers [] below sound above = later_fit f limit threads keepers 1 [] below [] sound above
+acts_fit f limit threads keepers (p ∷ ps) below sound above = later_fit f limit threads keepers 1 (p ∷ ps) below [] sound above
 
 -- ---- acts that fit are those of the profile's threads
 pub of_threads : (f : Profile) (limit : ℕ) (asked : List ℕ) (acts : List Act) → AreFit f limit asked acts → AreOfThreads f.threads acts
 of_threads f limit asked [] fit = tt
 of_threads f limit asked (Operates op ∷ acts) fit = (fit.0.1, of_threads f limit (asked_after op.what asked) acts fit.2)
+of_threads f limit asked (Guards keeper op ∷ acts) fit = (fit.2.1, of_threads f limit (asked_after op.what asked) acts fit.4)
 of_threads f limit asked (Ticks epoch ∷ acts) fit = (tt, of_threads f limit asked acts fit.1)
 of_threads f limit asked (act ∷ acts) fit = (tt, of_threads f limit asked acts fit)
