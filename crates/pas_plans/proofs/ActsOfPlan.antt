@@ -12,7 +12,7 @@ use Rattle.pas_trace.specs.declared.plan.Task.{Task}
 use Rattle.pas_trace.specs.declared.plan.Chore.{Chore}
 use Rattle.pas_trace.specs.declared.plan.Work.{Work}
 use Rattle.pas_trace.specs.declared.plan.Op.{Op}
-use Rattle.pas_trace.specs.Acts.{Act, Operates, Guards, Settles, Ticks, StopsIdle, MarksPhase, MarksClose, Wakes, Ends, Lowers, act_kept, is_active, numbers_from, active_threads, idle_threads, idle_stops, acts_of_chore, acts_of_work, acts_of_op, acts_of_ops, phase_acts, close_acts, acts_from, acts_of}
+use Rattle.pas_trace.specs.Acts.{Act, Operates, Guards, Settles, Ticks, StopsIdle, MarksPhase, MarksClose, Wakes, Ends, Lowers, operation_in, act_kept, is_active, numbers_from, active_threads, idle_threads, idle_stops, acts_of_chore, acts_of_work, acts_of_op, acts_of_ops, phase_acts, close_acts, acts_from, acts_of}
 use Rattle.pas_answers.specs.Fit.{IsFitWork, IsFitWhat, AreFit, AreOfThreads, cost_of_work, cost_of_what, cost_of_act, costs_of, own_cost_of_act, own_costs_of, kept_cost_of, kept_costs_of, unbacks_of_act, unbacks_of, sum_over, AreBelow}
 
 -- ---- so many threads
@@ -285,10 +285,43 @@ pub acts_fit : (f : Profile) (limit threads keepers : ℕ) (phases : List (List 
 acts_fit f limit threads keepers [] below sound above = later_fit f limit threads keepers 1 [] below [] sound above
 acts_fit f limit threads keepers (p ∷ ps) below sound above = later_fit f limit threads keepers 1 (p ∷ ps) below [] sound above
 
--- ---- acts that fit are those of the profile's threads
-pub of_threads : (f : Profile) (limit : ℕ) (asked : List ℕ) (acts : List Act) → AreFit f limit asked acts → AreOfThreads f.threads acts
-of_threads f limit asked [] fit = tt
-of_threads f limit asked (Operates op ∷ acts) fit = (fit.0.1, of_threads f limit (asked_after op.what asked) acts fit.2)
-of_threads f limit asked (Guards keeper op ∷ acts) fit = (fit.2.1, of_threads f limit (asked_after op.what asked) acts fit.4)
-of_threads f limit asked (Ticks epoch ∷ acts) fit = (tt, of_threads f limit asked acts fit.1)
-of_threads f limit asked (act ∷ acts) fit = (tt, of_threads f limit asked acts fit)
+-- ---- the operations of a plan's acts are its threads'
+of_both : (threads : ℕ) (xs ys : List Act) → AreOfThreads threads xs → AreOfThreads threads ys → AreOfThreads threads (xs ++ ys)
+of_both threads [] ys a b = b
+of_both threads (x ∷ xs) ys a b = (a.0, of_both threads xs ys a.1 b)
+
+of_map : (threads : ℕ) (to : ℕ → Act) → ((k : ℕ) → operation_in (to k) ≡ None) → (ks : List ℕ) → AreOfThreads threads (map to ks)
+of_map threads to none [] = tt
+of_map threads to none (k ∷ ks) = (subst (λ (o : Option Op). MatchOption o (Unit {0}) (λ op. op.actor ≤ threads)) (sym (none k)) tt, of_map threads to none ks)
+
+of_kept : (threads : ℕ) (keeper : Option ℕ) (op : Op) → op.actor ≤ threads → AreOfThreads threads (act_kept keeper op ∷ (Settles op.actor ∷ []))
+of_kept threads None op most = (most, tt, tt)
+of_kept threads (Some keeper) op most = (most, tt, tt)
+
+of_chore : (threads : ℕ) (idle : List ℕ) (chore : Chore) → AreOfThreads threads (acts_of_chore idle chore)
+of_chore threads idle (Chore.Tick e) = (tt, tt)
+of_chore threads idle Chore.Pass = (tt, tt)
+of_chore threads idle (Chore.Idle n) = (tt, of_map threads (λ k. StopsIdle k n) (λ k. refl) idle)
+
+of_work : (f : Profile) (idle : List ℕ) (op : Op) (work : Work) → IsActorBy f work op.actor → AreOfThreads f.threads (acts_of_work idle op work)
+of_work f idle op (Work.Own task) of = of_kept f.threads (keeper_of task) op of.1
+of_work f idle op (Work.Chore chore) of = of_chore f.threads idle chore
+
+of_all : (f : Profile) (idle : List ℕ) (ops : List Op) → ArePlanned f ops → AreOfThreads f.threads (acts_of_ops idle ops)
+of_all f idle [] all = tt
+of_all f idle (op ∷ ops) all = of_both f.threads (acts_of_op idle op) (acts_of_ops idle ops) (of_work f idle op (work_of op.what) all.0) (of_all f idle ops all.1)
+
+of_later_acts : (f : Profile) (keepers n : ℕ) (phases : List (List Op)) → ArePlanned f (all_ops phases) → AreOfThreads f.threads (acts_from f.threads keepers n phases)
+of_later_acts f keepers n [] all =
+    (tt, of_both f.threads (map Ends (numbers_from 1 f.threads)) (map Lowers (numbers_from (f.threads + 1) keepers)) (of_map f.threads Ends (λ k. refl) (numbers_from 1 f.threads)) (of_map f.threads Lowers (λ k. refl) (numbers_from (f.threads + 1) keepers)))
+of_later_acts f keepers n (p ∷ ps) all =
+    let idle = idle_threads f.threads p in
+    let woken = map Wakes (active_threads f.threads p) in
+    let own = all_front (λ (op : Op). IsActorOf f op.what op.actor) p (all_ops ps) all in
+    (tt, of_both f.threads (phase_acts f.threads p) (acts_from f.threads keepers (n + 1) ps)
+    (of_both f.threads woken (acts_of_ops idle p) (of_map f.threads Wakes (λ k. refl) (active_threads f.threads p)) (of_all f idle p own))
+    (of_later_acts f keepers (n + 1) ps (all_back (λ (op : Op). IsActorOf f op.what op.actor) p (all_ops ps) all)))
+
+pub of_threads : (f : Profile) (keepers : ℕ) (phases : List (List Op)) → ArePlanned f (all_ops phases) → AreOfThreads f.threads (acts_of f.threads keepers phases)
+of_threads f keepers [] all = of_later_acts f keepers 1 [] all
+of_threads f keepers (p ∷ ps) all = (of_later_acts f keepers 1 (p ∷ ps) all).1

@@ -16,9 +16,9 @@ use Rattle.pas_trace.specs.Plans.{IsPlanOf, bounds_of, ops_of}
 use Rattle.pas_trace.specs.declared.plan.Plan.{Plan}
 use Rattle.pas_trace.proofs.EveryPlan.{every_plan, threads_among, keepers_among}
 use Rattle.pas_trace.specs.Acts.{Act, Operates, MakesPass}
-use Rattle.pas_answers.specs.Fit.{AreFit, cost_of_act, costs_of, own_costs_of, unbacks_of_act, unbacks_of, AllBelow}
+use Rattle.pas_answers.specs.Fit.{AreFit, AreOfThreads, cost_of_act, costs_of, own_costs_of, unbacks_of_act, unbacks_of, AllBelow}
 use Rattle.pas_answers.specs.Replays.{phases_of, region_of, threads_of, keepers_of, acts_of_plan}
-use Rattle.pas_plans.proofs.ActsOfPlan.{ArePlanned, KeepsAbove, are_planned, plan_costs, plan_owns, plan_unbacks, acts_fit}
+use Rattle.pas_plans.proofs.ActsOfPlan.{ArePlanned, KeepsAbove, are_planned, plan_costs, plan_owns, plan_unbacks, acts_fit, of_threads}
 use Rattle.pas_plans.proofs.NameLimits.{below_all, below_each}
 
 -- ---- the region, which has a place for each keeper
@@ -136,6 +136,10 @@ plan_fit {text} {plan} is limit below =
     acts_fit (region_of plan) limit (threads_of plan) (keepers_of plan) (phases_of plan) (below_all limit (phases_of plan) below)
     (wider_sound plan.profile (actors_by plan.guard plan.profile.threads) (plan_threads plan) [] (all_ops (phases_of plan)) sound.operations)
     (all_above plan.profile plan.guard [] (all_ops (phases_of plan)) sound.operations sound.keepers)
+
+-- its operations are those of its threads
+pub plan_operate : {text : List ℕ} {plan : Plan} → IsPlanOf text plan → AreOfThreads (threads_of plan) (acts_of_plan plan)
+plan_operate {text} {plan} is = of_threads plan.profile (keepers_of plan) (phases_of plan) (plan_planned is)
 
 -- the bound of a thread suffices for its operations, and for a deed of each page
 pub plan_own : {text : List ℕ} {plan : Plan} → IsPlanOf text plan → (k : ℕ) → 1 ≤ k → k ≤ threads_of plan
