@@ -9,7 +9,7 @@ use Rattle.pas_trace.specs.Asked.{work_of, of_task, request_of, freed_of, reques
 use Rattle.pas_trace.specs.EveryPlan.{is_asked, asked_with, asked_after, asked_by, AreSound, IsSoundTask, IsSoundWork, IsActorBy, IsThread}
 use Rattle.pas_trace.specs.EveryPhase.{FreesItsOwn}
 use Rattle.pas_trace.specs.declared.plan.What.{What}
-use Rattle.pas_trace.specs.declared.plan.What.TheVariants.{Alloc, Remake}
+use Rattle.pas_trace.specs.declared.plan.What.TheVariants.{Alloc, Guarded, Remake}
 use Rattle.pas_trace.specs.declared.item.Request.{Request}
 use Rattle.pas_trace.specs.declared.plan.Task.{Task}
 use Rattle.pas_trace.specs.declared.plan.Work.{Work}
@@ -86,6 +86,7 @@ own_fit f limit k few many (op ∷ ops) some small sound below frees =
 -- ---- there is room for its requests
 few_asked : (what : What) → length (name_asked what) ≤ cost_of_what what
 few_asked (Alloc name heap size align) = let one = some_cost size in omega (arith, one)
+few_asked (Guarded keeper name heap size align) = let one = some_cost size in omega (arith, one)
 few_asked (Remake name old heap size align) = omega arith
 few_asked what = omega arith
 

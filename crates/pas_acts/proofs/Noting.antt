@@ -6,7 +6,7 @@ use Rattle.pas_profile.specs.declared.profile.Profile.{Profile}
 use Rattle.pas_trace.specs.Asked.{request_in}
 use Rattle.pas_trace.specs.EveryPlan.{is_asked, asked_with, asked_after, asked_by, AreSound, IsSoundWhat}
 use Rattle.pas_trace.specs.declared.plan.What.{What}
-use Rattle.pas_trace.specs.declared.plan.What.TheVariants.{Alloc, Remake}
+use Rattle.pas_trace.specs.declared.plan.What.TheVariants.{Alloc, Guarded, Remake}
 use Rattle.pas_trace.specs.declared.item.Request.{Request}
 use Rattle.pas_trace.specs.declared.plan.Op.{Op}
 use Rattle.pas_trace.specs.Acts.{Act, Operates, Settles, own_acts}
@@ -67,6 +67,7 @@ count_small k ops i lt =
 -- not asked for afterwards: neither before nor by the operation
 pub not_before : (what : What) (asked : List ℕ) (n : ℕ) → is_asked (asked_after what asked) n ≡ false → (is_asked (name_asked what) n ≡ false) × (is_asked asked n ≡ false)
 not_before (Alloc name heap size align) asked n none = let both = or_parts (name == n) (is_asked asked n) none in (ap (λ (t : Bool). t || false) both.0, both.1)
+not_before (Guarded keeper name heap size align) asked n none = let both = or_parts (name == n) (is_asked asked n) none in (ap (λ (t : Bool). t || false) both.0, both.1)
 not_before (Remake name old heap size align) asked n none = let both = or_parts (name == n) (is_asked asked n) none in (ap (λ (t : Bool). t || false) both.0, both.1)
 not_before what asked n none = (refl, none)
 
@@ -98,12 +99,14 @@ below_at limit (op ∷ ops) (suc i) d below lt = below_at limit ops i d below.1 
 -- a name that an operation asks for wasn't asked for before
 asks_new : (f : Profile) (asked : List ℕ) (what : What) (name : ℕ) → IsSoundWhat f asked what → name_asked what ≡ name ∷ [] → is_asked asked name ≡ false
 asks_new f asked (Alloc n heap size align) name sound is = subst (λ (m : ℕ). is_asked asked m ≡ false) (cc) sound.1
+asks_new f asked (Guarded keeper n heap size align) name sound is = subst (λ (m : ℕ). is_asked asked m ≡ false) (cc) sound.1
 asks_new f asked (Remake n old heap size align) name sound is = subst (λ (m : ℕ). is_asked asked m ≡ false) (cc) sound.1
 asks_new f asked what name sound is = absurd (let bad : [] ≡ name ∷ [] = is in cc)
 
 -- .. and is below the limit
 pub asks_below : (limit : ℕ) (what : What) (name : ℕ) → IsBelow limit what → name_asked what ≡ name ∷ [] → name < limit
 asks_below limit (Alloc n heap size align) name below is = subst (λ (m : ℕ). m < limit) (cc) below
+asks_below limit (Guarded keeper n heap size align) name below is = subst (λ (m : ℕ). m < limit) (cc) below
 asks_below limit (Remake n old heap size align) name below is = subst (λ (m : ℕ). m < limit) (cc) below
 asks_below limit what name below is = absurd (let bad : [] ≡ name ∷ [] = is in cc)
 

@@ -50,3 +50,7 @@ known_more (Alloc name heap size align) came asked names known = λ n is. one_mo
 known_more (Guarded keeper name heap size align) came asked names known = λ n is. one_more (name == n) came (standing_for names n) (is_asked asked n) (known n) is
 known_more (Remake name old heap size align) came asked names known = λ n is. one_more (name == n) came (standing_for names n) (is_asked asked n) (known n) is
 known_more what came asked names known = known
+
+-- a name that comes to stand for something is known, and so are those before it
+pub known_named : (name : ℕ) (came : Option Block) (asked : List ℕ) (names : List Named) → AreKnown asked names → AreKnown (name ∷ asked) (named name came ∷ names)
+known_named name came asked names known = λ n is. one_more (name == n) came (standing_for names n) (is_asked asked n) (known n) is

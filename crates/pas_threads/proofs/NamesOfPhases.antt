@@ -15,7 +15,7 @@ use Rattle.pas_profile.specs.declared.profile.Profile.{Profile}
 use Rattle.pas_steps.specs.Desks.{Standing}
 use Rattle.pas_trace.specs.Asked.{work_of, of_task, request_of, request_in}
 use Rattle.pas_trace.specs.declared.plan.What.{What}
-use Rattle.pas_trace.specs.declared.plan.What.TheVariants.{Alloc, Remake}
+use Rattle.pas_trace.specs.declared.plan.What.TheVariants.{Alloc, Guarded, Remake}
 use Rattle.pas_trace.specs.declared.item.Request.{Request}
 use Rattle.pas_trace.specs.declared.plan.Chore.{Chore}
 use Rattle.pas_trace.specs.declared.plan.Work.{Work}
@@ -165,6 +165,7 @@ none_work n idle op (Work.Chore chore) none = none_chore n idle chore
 -- who asks for a name is a thread, and has it among its own
 asks_own : (f : Profile) (n k : ℕ) (what : What) → IsActorOf f what k → IsRequestOf n what → (1 ≤ k) × (is_asked (name_asked what) n ≡ true)
 asks_own f n k (Alloc name heap size align) actor is = (actor.0, ap (λ (t : Bool). t || false) (eq-eqb name n is))
+asks_own f n k (Guarded keeper name heap size align) actor is = (actor.0, ap (λ (t : Bool). t || false) (eq-eqb name n is))
 asks_own f n k (Remake name old heap size align) actor is = (actor.0, ap (λ (t : Bool). t || false) (eq-eqb name n is))
 asks_own f n k what actor is = absurd is
 
@@ -225,6 +226,7 @@ hands_nothing {f} {phase} {book} {k} worker names none idle = record {
 -- the names of its requests are below the limit
 within_if : (t : Bool) (limit : ℕ) (what : What) (ns : List ℕ) → IsBelow limit what → AreWithin limit ns → AreWithin limit ((if t then name_asked what else []) ++ ns)
 within_if true limit (Alloc name heap size align) ns below within = (below, within)
+within_if true limit (Guarded keeper name heap size align) ns below within = (below, within)
 within_if true limit (Remake name old heap size align) ns below within = (below, within)
 within_if true limit what ns below within = within
 within_if false limit what ns below within = within
