@@ -27,7 +27,10 @@ pub unguarded_cost : (guard size : ℕ) → guard ≡ 0 → cost_of_size size �
 unguarded_cost guard size none = ap (λ g. cost_of_request g size) (sym none)
 
 pub guarded_cost : (guard size : ℕ) → 2048 < size → guard ≢ 0 → cost_of_size size + 2 ≡ cost_of_request guard size
-guarded_cost guard size beyond some = let large = large_cost size beyond in let request = large_request guard size false beyond (ne_eqb guard 0 some) in omega (arith, large, request)
+guarded_cost guard size beyond some =
+    let large = large_cost size beyond in
+    let request : 3 + pages_for size ≡ cost_of_request guard size = large_request guard size false beyond (ne_eqb guard 0 some) in
+    omega (arith, large, request)
 
 two_least : (none : Bool) (n : ℕ) → 1 + n ≤ (if none then 1 + n else 3 + n)
 two_least true n = omega arith

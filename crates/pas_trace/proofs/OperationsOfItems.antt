@@ -207,7 +207,7 @@ wish_records : (f : Profile) (shared : ℕ) (heaps : ℕ → ℕ) (earlier : Lis
     → records_of_what (sharing f shared) (what_wished f heaps (keeper_for f earlier (Operates t w)) w) ≤ cost_of_wish (guard_in earlier) w
 wish_records f shared heaps earlier t (Asks n h s a) =
     large_records (guard_in earlier) s (is_guarded earlier (Operates t (Asks n h s a))) n h a t (sharing f shared) (λ is. (guard_there earlier t n h s a is).0) (λ is. (guard_there earlier t n h s a is).1)
-wish_records f shared heaps earlier t (Remakes n o s a) = omega (arith, least_cost (guard_in earlier) s)
+wish_records f shared heaps earlier t (Remakes n o s a) = let least = least_cost (guard_in earlier) s in omega (arith, least)
 wish_records f shared heaps earlier t w = omega arith
 
 chore_records : (f : Profile) (shared : ℕ) (c : Chore) → records_of_what (sharing f shared) (what_of_chore c) ≡ records_of_chore f c
@@ -224,8 +224,10 @@ if_le true m n le = omega (arith, le)
 if_le false m n le = omega arith
 
 item_own : (f : Profile) (shared k : ℕ) (i : Item) (earlier : List Item) → own_records (sharing f shared) k (new_ops f i earlier) ≤ (if actor_of i == k then cost_of f (guard_in earlier) i else 0)
-item_own f shared k (Operates t w) earlier = if_le (t == k) _ _ (wish_records f shared (heap_of earlier) earlier t w)
-item_own f shared k (Scavenges c) earlier = if_le (0 == k) _ _ (omega (arith, chore_records f shared c))
+item_own f shared k (Operates t w) earlier =
+    if_le (t == k) (records_of_what (sharing f shared) (what_wished f (heap_of earlier) (keeper_for f earlier (Operates t w)) w)) (cost_of_wish (guard_in earlier) w) (wish_records f shared (heap_of earlier) earlier t w)
+item_own f shared k (Scavenges c) earlier =
+    let same = chore_records f shared c in if_le (0 == k) (records_of_what (sharing f shared) (what_of_chore c)) (records_of_chore f c) (omega (arith, same))
 item_own f shared k i earlier = omega arith
 
 -- .. those of the scavenger are exact

@@ -1,12 +1,12 @@
 -- Which requests are guarded, by what the reader keeps.
-use Rattle.std.proofs.Common.{◌≡◌, ◌≢◌, ℕ, ◌+◌, ◌<◌, ◌≤◌, ◌==◌, Bool, true, false, ◌&&◌, Some, None, if◌then◌else◌, List, [], ◌∷◌, length, get_or, set, refl, sym, ap, ◌∙◌, arith, inl, inr}
+use Rattle.std.proofs.Common.{◌≡◌, ◌≢◌, ℕ, ◌+◌, ◌<◌, ◌≤◌, ◌==◌, Bool, true, false, not, ◌&&◌, Some, None, if◌then◌else◌, List, [], ◌∷◌, length, get_or, set, refl, sym, ap, ◌∙◌, arith, inl, inr}
 use Rattle.std.proofs.Math.ListN.{length-set}
-use Rattle.std.proofs.lemmas.Bool.{eq-eqb, ne_eqb, cases_eq}
+use Rattle.std.proofs.lemmas.Bool.{eq-eqb, ne_eqb, cases_eq, le-leb, lt-leb}
 use Rattle.pas_profile.specs.declared.profile.Profile.{Profile}
-use Rattle.pas_trace.specs.Wishes.{asks_pages}
-use Rattle.pas_trace.specs.Reasons.{actor_of, is_operation, operations_in, guard_after, guard_in, is_large_request, large_requests, is_sampled, is_guarded, cost_of, costs_of, cost_of_wish}
+use Rattle.pas_trace.specs.Wishes.{is_large, asks_pages}
+use Rattle.pas_trace.specs.Reasons.{actor_of, is_operation, operations_in, guard_after, guard_in, is_large_request, large_requests, is_sampled, is_guarded, cost_of, costs_of, cost_of_size, cost_of_request, cost_of_wish}
 use Rattle.pas_trace.specs.Plans.{kept_costs, keeper_for}
-use Rattle.pas_trace.specs.Told.{Tells, TellsSamples, IsSampled, samples_next, keeper_told}
+use Rattle.pas_trace.specs.Told.{Tells, TellsSamples, IsSampled, samples_next, larges_after, kept_after, keeper_told}
 use Rattle.pas_trace.specs.declared.item.Item.{Item}
 use Rattle.pas_trace.specs.declared.item.Item.TheVariants.{Operates}
 use Rattle.pas_trace.specs.declared.item.Wish.{Wish}
@@ -71,6 +71,31 @@ unsampled f s i items none same told = record {
       ∙ sym (ap (λ b. if (b && is_sampled (guard_in items) (large_requests (actor_of i) items + 1)) && (actor_of i == k) then kept_costs f k items + cost_of f 0 i else kept_costs f k items) none);
 }
 
+-- ---- one request is counted
+pub sampled_small : (s : Samples) (t size : ℕ) → size ≤ 2048 → (false ≡ (is_large size && samples_next s t)) × IsSampled s s t (is_large size) (cost_of_size size)
+sampled_small s t size within =
+    let small : is_large size ≡ false = ap not (le-leb size 2048 within) in (
+      sym (ap (λ large. large && samples_next s t) small),
+      record {
+        guard = refl;
+        larges = sym (ap (λ large. larges_after s t large) small);
+        kept = sym (ap (λ large. kept_after s t (large && samples_next s t) (cost_of_size size)) small);
+      },
+    )
+
+pub sampled_large : (s new : Samples) (t size : ℕ) (next : Bool) → 2048 < size → samples_next s t ≡ next → new.guard ≡ s.guard → new.larges ≡ larges_after s t true → new.kept ≡ kept_after s t next (cost_of_size size)
+    → (next ≡ (is_large size && samples_next s t)) × IsSampled s new t (is_large size) (cost_of_size size)
+sampled_large s new t size next beyond is guard larges kept =
+    let large : is_large size ≡ true = ap not (lt-leb size 2048 beyond) in
+    let same : (is_large size && samples_next s t) ≡ next = ap (λ l. l && samples_next s t) large ∙ is in (
+      sym same,
+      record {
+        guard = guard;
+        larges = larges ∙ sym (ap (λ l. larges_after s t l) large);
+        kept = kept ∙ sym (ap (λ on. kept_after s t on (cost_of_size size)) same);
+      },
+    )
+
 -- ---- the counts are small
 large_is : (i : Item) → is_large_request i ≡ true → is_operation i ≡ true
 large_is (Operates t w) is = refl
@@ -90,7 +115,7 @@ few_larges t (i ∷ items) = one_more (is_large_request i) (actor_of i == t) (is
 
 cheaper : (guard : ℕ) (w : Wish) → cost_of_wish 0 w ≤ cost_of_wish guard w
 cheaper guard (Asks n h s a) = least_cost guard s
-cheaper guard (Remakes n o s a) = omega (arith, least_cost guard s)
+cheaper guard (Remakes n o s a) = let least : cost_of_request 0 s ≤ cost_of_request guard s = least_cost guard s in omega (arith, least)
 cheaper guard w = omega arith
 
 cheaper_item : (f : Profile) (guard : ℕ) (i : Item) → cost_of f 0 i ≤ cost_of f guard i

@@ -33,9 +33,12 @@ pub(crate) fn cost_of_request(guard: u32, size: u32) -> u32
     ensures value { result ≡ cost_of_request guard size }
     ensures few { result ≤ 16387 }
 {
-    if size <= MOST_BITFIT || guard == 0 {
-        cost_of_allocation(size)
-    } else {
-        cost_of_allocation(size) + 2
+    let plain = cost_of_allocation(size);
+    if size <= MOST_BITFIT {
+        return plain;
     }
+    if guard == 0 {
+        return plain;
+    }
+    plain + 2
 }

@@ -1,6 +1,6 @@
 //! Which requests are guarded.
 ghost use Rattle.std.specs.Prelude.{◌≡◌, ◌<◌, ◌≤◌, ◌^◌, ◌&&◌, ℕ, length, slice_index};
-ghost use Rattle.pas_trace.specs.Reasons.{cost_of_size};
+ghost use Rattle.pas_trace.specs.Reasons.{cost_of_size, is_sampled};
 ghost use Rattle.pas_trace.specs.Wishes.{is_large};
 ghost use Rattle.pas_trace.specs.Told.{CanSample, IsSampled, samples_next};
 
@@ -14,6 +14,14 @@ pub struct Samples {
     pub guard: u32,
     pub larges: [u32; 17],
     pub kept: [u32; 17],
+}
+
+/// Whether the request of this number, from 1, among those of its thread for whole pages is guarded, where every so many are, or none where that is 0.
+#[inline(always)]
+fn is_sampled(guard: u32, number: u32) -> bool
+    ensures { result ≡ is_sampled guard number }
+{
+    guard != 0 && number % guard == 0
 }
 
 impl Samples {
@@ -43,7 +51,7 @@ impl Samples {
         }
         let place = thread as usize;
         self.larges[place] += 1;
-        if self.guard == 0 || self.larges[place] % self.guard != 0 {
+        if !is_sampled(self.guard, self.larges[place]) {
             return false;
         }
         self.kept[place] += cost_of_allocation(size);
