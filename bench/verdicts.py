@@ -33,9 +33,8 @@ def million_lines():
 
 def trace_at(path):
     """The lines of a trace."""
-    opened = lzma.open(path, "rt", encoding="ascii") if path.endswith(".xz") else open(path, encoding="ascii")
-    with opened as file:
-        return file.read().splitlines()
+    with lzma.open(path, "rt", encoding="ascii") if path.endswith(".xz") else open(path, encoding="ascii") as file:
+        yield from (line.rstrip("\n") for line in file)
 
 
 def run(program, word, path, output):
@@ -52,7 +51,21 @@ def run(program, word, path, output):
 
 
 def prepare(program, folder, lines):
-    """Writes the trace, as much of it as may be checked, and the input of the check. How many lines the transcript has, and the input's bytes."""
+    """Writes the trace, as much of it as may be checked, and the input of the check. How many lines the transcript has, and the input's bytes.
+    A child does it: what this process has in memory at most would be counted with the program's."""
+    told = os.path.join(folder, "told")
+    if not (child := os.fork()):
+        with open(told, "w", encoding="ascii") as file:
+            print(*written(program, folder, list(lines)), file=file)
+        os._exit(0)
+    if os.waitpid(child, 0)[1]:
+        sys.exit("the trace wasn't written")
+    with open(told, encoding="ascii") as file:
+        return map(int, file.read().split())
+
+
+def written(program, folder, lines):
+    """The same, by this process."""
     trace, transcript, both = (os.path.join(folder, name) for name in ("trace", "transcript", "both"))
     while True:
         with open(trace, "w", encoding="ascii") as file:
@@ -76,7 +89,7 @@ def main():
     program, *paths = words
     print(f"{'trace':36} {'lines':>9} {'bytes':>10} {'order':>7} {'MB':>6} {'check':>7} {'MB':>6} {'time':>5} {'mem':>5}")
     with tempfile.TemporaryDirectory() as folder:
-        for name, lines in [("a million lines", list(million_lines()))] + [(os.path.basename(path), trace_at(path)) for path in paths]:
+        for name, lines in [("a million lines", million_lines())] + [(os.path.basename(path), trace_at(path)) for path in paths]:
             count, size = prepare(program, folder, lines)
             best = {"order": (9e9, 0.0), "check": (9e9, 0.0)}
             for _ in range(repeat):

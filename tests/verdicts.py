@@ -1,5 +1,5 @@
 #!/usr/bin/env python3
-"""tests/verdicts.py PROGRAM [--edits N] [--seed S] [--jobs J] [TRACE..]
+"""tests/verdicts.py PROGRAM [--edits N] [--seed S] [--jobs J] [--no-examples] [TRACE..]
 
 Has the program `pas` check transcripts: that of each trace of examples/ and of each TRACE (also packed, as NAME.xz), which
 it has to accept, and N edits of one line of each, drawn by the seed: a line left out, doubled or exchanged with the next
@@ -202,12 +202,13 @@ def main():
     parser.add_argument("--edits", type=int, default=25)
     parser.add_argument("--seed", type=int, default=1)
     parser.add_argument("--jobs", type=int, default=1)
+    parser.add_argument("--no-examples", action="store_true")
     wanted = parser.parse_args()
     examples = [path for path in sorted(EXAMPLES.glob("*.trace")) if not path.with_suffix(".transcript").read_bytes().startswith(b"line ")]
     faults, total = [], Counter()
     with ProcessPoolExecutor(wanted.jobs) as pool:
         tries = {path: [pool.submit(try_edits, wanted.program, path, wanted.edits, wanted.seed, part, wanted.jobs) for part in range(wanted.jobs)]
-                 for path in examples + wanted.traces}
+                 for path in examples * (not wanted.no_examples) + wanted.traces}
         for path, parts in tries.items():
             results = [part.result() for part in parts]
             counts = sum((counts for counts, _ in results), Counter())
