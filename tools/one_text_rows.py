@@ -54,6 +54,7 @@ LINES = [
     (r"(\d+) no-space name (\d+)", "no_space_of"),
     (r"(\d+) held (\d+) name (\d+)", "held_of"),
     (r"(\d+) skipped name (\d+)", "skipped_of"),
+    (r"(\d+) kept (0x\w+) turn (\d+) name (\d+)", "kept_of"),
     (r"0 tick (\d+)", "tick_of"),
     (r"0 pass (\d+)", "pass_of"),
     (r"0 bare page (\d+)", "bare_of"),

@@ -1,5 +1,5 @@
 -- A task is begun without a line: what may come then is what might before.
-use Rattle.std.proofs.Common.{◌≡◌, ℕ, ◌+◌, ◌/◌, nat_le, Bool, true, false, List, [], ◌∷◌, ◌++◌, length, Option, None, Some, inl, inr, refl, ap, sym, subst, ◌∙◌}
+use Rattle.std.proofs.Common.{◌≡◌, ℕ, ◌+◌, ◌/◌, nat_le, Bool, true, false, List, [], ◌∷◌, ◌++◌, Option, None, Some, inl, inr, refl, ap, sym, subst, ◌∙◌}
 use Rattle.pas_profile.specs.Blocks.{address_of}
 use Rattle.pas_profile.specs.declared.name.Block.{Block}
 use Rattle.pas_profile.specs.declared.profile.Profile.{Profile}

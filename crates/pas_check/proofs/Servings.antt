@@ -1,6 +1,6 @@
 -- Gives and refusals of a request, taken or not.
 use Rattle.std.specs.Prelude.{MatchBool}
-use Rattle.std.proofs.Common.{◌≡◌, ◌≢◌, ℕ, ◌+◌, ◌*◌, ◌-◌, ◌/◌, ◌^◌, ◌<◌, ◌≤◌, nat_le, nat_lt, Bool, true, false, List, Option, Some, None, inl, inr, refl, ap, sym, subst, ◌∙◌, arith}
+use Rattle.std.proofs.Common.{◌≡◌, ◌≢◌, ℕ, ◌+◌, ◌*◌, ◌-◌, ◌/◌, ◌^◌, ◌<◌, ◌≤◌, nat_le, nat_lt, Bool, true, false, List, Option, Some, None, inl, inr, refl, ap, subst, ◌∙◌, arith}
 use Rattle.std.proofs.lemmas.Bool.{leb-true, ltb-true, le-leb, lt-ltb, and_from, and_parts, cases_lt}
 use Rattle.std.proofs.lemmas.Option.{none-some}
 use Rattle.pas_profile.specs.Classes.{IsClass}
@@ -24,7 +24,7 @@ use Rattle.pas_report.specs.declared.record.Record.{Record}
 use Rattle.pas_trace.specs.declared.item.Request.{Request}
 use Rattle.pas_check.specs.Calls.{GiveTaken, IsGiven, IsWanted, LiesOn, RefusalSeen, RefusesBy}
 use Rattle.pas_check.specs.Ranges.{Fits, FitsEvent}
-use Rattle.pas_check.specs.States.{Stand, with_due, with_name, with_one}
+use Rattle.pas_check.specs.States.{Stand}
 use Rattle.pas_check.specs.declared.serving.Wanted.{Wanted}
 use Rattle.pas_profile.proofs.ClassFacts.{class_known, route_is}
 use Rattle.pas_check.proofs.OneNext.{deed_page, gives_fits, refusal_fits}

@@ -5,17 +5,13 @@ use Rattle.std.proofs.lemmas.Bool.{le-leb, lt-ltb, and_from, cases_lt}
 use Rattle.pas_trace.specs.Reasons.{first_failed, is_thread, is_alignment, is_named, is_named_now, thread_of, operations_in, cost_of_size, cost_of, costs_of, record_bound, few_enough, checks_of, reason_of}
 use Rattle.pas_trace.specs.declared.fault.Reason.{Reason}
 use Rattle.pas_trace.proofs.Costs.{small_cost, large_cost}
+use Rattle.pas_trace.proofs.PassedChecks.{AreHeld}
 use Rattle.pas_trace.specs.declared.item.Item.{Item}
 use Rattle.pas_trace.specs.declared.item.Item.TheVariants.{Operates, Scavenges}
 use Rattle.pas_trace.specs.declared.item.Wish.TheVariants.{Asks, Frees}
 use Rattle.pas_trace.specs.declared.plan.Chore.{Chore}
 use Rattle.pas_generate.specs.Traces.{IsJob}
 use Rattle.pas_generated.specs.Meant.{region}
-
--- all of these checks hold
-abbrev pub AreHeld : List (Bool × Reason) → Type 0
-AreHeld [] = Unit {0}
-AreHeld (c ∷ cs) = (c.0 ≡ true) × AreHeld cs
 
 none-failed : (cs : List (Bool × Reason)) → AreHeld cs → first_failed cs ≡ None
 none-failed [] h = refl

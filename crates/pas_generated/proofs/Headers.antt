@@ -7,7 +7,8 @@ use Rattle.pas_trace.specs.Reasons.{within, header_with, header_of_words}
 use Rattle.pas_generate.specs.Lines.{header}
 use Rattle.pas_generated.specs.Meant.{heading}
 use Rattle.pas_generated.proofs.Digits.{number-back}
-use Rattle.pas_generated.proofs.Splits.{IsLine, decimal-word, word-by, last-word, word-before}
+use Rattle.pas_trace.proofs.WordLines.{IsLine}
+use Rattle.pas_generated.proofs.Splits.{decimal-word, word-by, last-word, word-before}
 
 abbrev pub header_words : ℕ → ℕ → List (List ℕ)
 header_words pages threads =

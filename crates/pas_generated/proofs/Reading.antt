@@ -6,7 +6,7 @@ use Rattle.pas_trace.specs.Texts.{lines_of}
 use Rattle.pas_trace.specs.Reasons.{started, header_of_words, reason_of, checked, kept, line_says}
 use Rattle.pas_trace.specs.Plans.{after_item, items_from, with_items, with_header, parsed_lines, parsed}
 use Rattle.pas_trace.specs.declared.item.Item.{Item}
-use Rattle.pas_generated.proofs.Splits.{Lacks, IsLine, lines-until}
+use Rattle.pas_trace.proofs.WordLines.{Lacks, IsLine, lines-until}
 use Rattle.pas_generated.proofs.Says.{Says}
 
 -- wherever the text stands after these items, its lines are read, and leave those

@@ -10,7 +10,8 @@ use Rattle.pas_trace.specs.declared.item.Wish.TheVariants.{Asks, Frees}
 use Rattle.pas_trace.specs.declared.plan.Chore.{Chore}
 use Rattle.pas_generate.specs.Lines.{free_line, tick_line}
 use Rattle.pas_generated.proofs.Digits.{number-back}
-use Rattle.pas_generated.proofs.Splits.{Lacks, IsWord, IsLine, decimal-word, word-by, last-word, word-before}
+use Rattle.pas_trace.proofs.WordLines.{Lacks, IsLine}
+use Rattle.pas_generated.proofs.Splits.{IsWord, decimal-word, word-by, last-word, word-before}
 
 -- ---- numbers in their places
 name-fits : (n : ℕ) → 1 ≤ n → n ≤ 1000000 → trace_name (decimal n) ≡ Some n

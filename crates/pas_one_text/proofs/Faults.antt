@@ -293,6 +293,18 @@ fault_pages_of_version_3 : seen (codes "pas 3 pages 16385 threads 1 heaps 1 age 
 unfolding seen grains_that
 fault_pages_of_version_3 = refl
 
-fault_version_4 : seen (codes "pas 4 pages 2 threads 1 heaps 1 age 2\na 1 1 0 513 16\n") ≡ faulty 1 Reason.BadHeader
+fault_reallocation_name_taken : seen (codes "pas 4 pages 2 threads 1 heaps 1 age 2\na 1 1 0 24 16\nm 1 2 1 32 16\nm 1 2 9 16 16\n") ≡ faulty 4 Reason.NameTaken
 unfolding seen grains_that
-fault_version_4 = refl
+fault_reallocation_name_taken = refl
+
+fault_reallocation_name_unknown : seen (codes "pas 4 pages 2 threads 1 heaps 1 age 2\na 1 1 0 24 16\nm 1 2 1 32 16\nm 1 3 9 16 16\n") ≡ faulty 4 Reason.NameUnknown
+unfolding seen grains_that
+fault_reallocation_name_unknown = refl
+
+fault_reallocation_of_version_3 : seen (codes "pas 3 pages 2 threads 1 heaps 1 age 2\na 1 1 0 24 16\nm 1 2 1 32 16\nm 1 3 2 33 16\nm 1 4 3 64 16\nm 1 5 4 16 16\nf 1 3\n") ≡ faulty 3 Reason.BadWord
+unfolding seen grains_that
+fault_reallocation_of_version_3 = refl
+
+fault_version_5 : seen (codes "pas 5 pages 2 threads 1 heaps 1 age 2\na 1 1 0 513 16\n") ≡ faulty 1 Reason.BadHeader
+unfolding seen grains_that
+fault_version_5 = refl

@@ -5,7 +5,7 @@ use Rattle.pas_profile.specs.declared.directory.Kind.TheVariants as Kind
 use Rattle.pas_report.specs.Reports.{grains_that}
 use Rattle.pas_one_text.specs.Pages.{each_of}
 use Rattle.pas_one_text.specs.Passes.{free_bits}
-use Rattle.pas_one_text.proofs.Seen.{seen, shown, row_of, marked, totalled, deed_of, back_of, unback_of, give_of, freed_of, ended_of, no_block_of, size_differs_of, outside_of, unaligned_of, no_space_of, held_of, skipped_of, tick_of, pass_of, young_of, stopped_of, phase_of, closed}
+use Rattle.pas_one_text.proofs.Seen.{seen, shown, row_of, marked, totalled, deed_of, back_of, unback_of, give_of, freed_of, ended_of, no_block_of, size_differs_of, outside_of, unaligned_of, no_space_of, held_of, skipped_of, kept_of, tick_of, pass_of, young_of, stopped_of, phase_of, closed}
 
 row_another_thread : seen (codes "pas 1 pages 1 threads 2 heaps 1 age 2\na 1 1 0 16 16\na 2 2 0 16 16\nf 2 2\n") ≡ shown (deed_of 1 1 0 (Kind.Class 0) ∷ back_of 1 1 ∷ give_of 1 4096 0 16 0 ∷ held_of 2 1 2 ∷ skipped_of 2 2 ∷ closed ∷ []) (row_of 1 0 (Kind.Class 0) 1 255 0 (marked true true false false) ∷ []) (totalled 1 1 1 1 0)
 unfolding seen grains_that each_of free_bits
@@ -110,3 +110,7 @@ row_two_frees = refl
 row_young_then_unbacked : seen (codes "pas 1 pages 1 threads 1 heaps 1 age 2\na 1 1 0 16 16\ntick 3\nf 1 1\nstop 1\ntick 4\npass\ntick 5\npass\na 1 2 0 16 16\n") ≡ shown (deed_of 1 1 0 (Kind.Class 0) ∷ back_of 1 1 ∷ give_of 1 4096 0 16 0 ∷ tick_of 3 ∷ freed_of 1 4096 0 3 ∷ tick_of 4 ∷ pass_of 4 ∷ young_of 1 3 ∷ tick_of 5 ∷ pass_of 5 ∷ unback_of 0 1 5 ∷ back_of 1 1 ∷ give_of 1 4096 1 16 0 ∷ closed ∷ []) (row_of 1 0 (Kind.Class 0) 1 255 3 (marked true true false false) ∷ []) (totalled 1 1 1 2 1)
 unfolding seen grains_that each_of free_bits
 row_young_then_unbacked = refl
+
+row_reallocations : seen (codes "pas 4 pages 2 threads 1 heaps 1 age 2\na 1 1 0 24 16\nm 1 2 1 32 16\nm 1 3 2 33 16\nm 1 4 3 64 16\nm 1 5 4 16 16\nf 1 3\n") ≡ shown (deed_of 1 1 0 (Kind.Class 1) ∷ back_of 1 1 ∷ give_of 1 4096 0 32 0 ∷ kept_of 1 4096 0 2 ∷ deed_of 1 2 0 (Kind.Class 2) ∷ back_of 1 2 ∷ give_of 1 8192 0 48 0 ∷ no_space_of 1 4 ∷ skipped_of 1 5 ∷ closed ∷ freed_of 1 4096 0 0 ∷ freed_of 1 8192 0 0 ∷ []) (row_of 1 0 (Kind.Class 1) 0 256 0 (marked true true false true) ∷ row_of 2 0 (Kind.Class 2) 0 256 0 (marked true true false true) ∷ []) (totalled 2 2 0 2 2)
+unfolding seen grains_that each_of free_bits
+row_reallocations = refl

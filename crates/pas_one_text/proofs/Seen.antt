@@ -162,6 +162,9 @@ held_of k page asked = Record.Said k (Said.Held page asked)
 abbrev pub skipped_of : ℕ → ℕ → TheRecord
 skipped_of k freed = Record.Said k (Said.Skipped freed)
 
+abbrev pub kept_of : ℕ → ℕ → ℕ → ℕ → TheRecord
+kept_of k address turn new = Record.Said k (Said.Kept (name address turn) new)
+
 abbrev pub tick_of : ℕ → TheRecord
 tick_of epoch = Record.Said 0 (Said.Tick epoch)
 

@@ -59,11 +59,11 @@ abbrev pub flushes : Profile → ℕ → World → World
 flushes f k w = each (ends f k) (log_of w k) (set_log k [] w)
 
 -- ---- a stop: a flush, and then all local allocators go
+abbrev pub gives_up_all : ℕ → World → World
+gives_up_all k w = each (gives_up k) (locals_of w k) w
+
 abbrev pub stops : Profile → ℕ → World → World
-stops f k w = gives_up_all (flushes f k w)
-  where
-    gives_up_all : World → World
-    gives_up_all v = each (gives_up k) (locals_of v k) v
+stops f k w = gives_up_all k (flushes f k w)
 
 -- ---- a free
 -- the entry is the last one of the log

@@ -1,5 +1,5 @@
 -- THE WHOLE: what `pas order` prints for the bytes of a trace.
-use Rattle.std.specs.Prelude.{ℕ, ◌/◌, Bool, true, false, List, [], map, Option, None, Some, Result, Ok, Err}
+use Rattle.std.specs.Prelude.{ℕ, ◌/◌, if◌then◌else◌, List, [], map, Option, None, Some, Result, Ok, Err}
 use Rattle.pas_profile.specs.declared.name.Block.{Block}
 use Rattle.pas_profile.specs.Requests.{route_in, room_in}
 use Rattle.pas_profile.specs.declared.directory.Route.{Route}
@@ -11,13 +11,13 @@ use Rattle.pas_trace.specs.declared.plan.What.{What}
 use Rattle.pas_trace.specs.Plans.{Parsed, parsed, phases_in, shared_in}
 use Rattle.pas_report.specs.declared.record.Record.{Record}
 use Rattle.pas_report.specs.declared.record.Said.{Said}
-use Rattle.pas_trace.specs.Acts.{Act, numbers_from, acts_of}
 use Rattle.pas_answers.specs.Answers.{standing_for, suits}
+use Rattle.pas_trace.specs.Acts.{Act, numbers_from, acts_of}
 use Rattle.pas_one_text.specs.State.{World, each, no_cache, cache_of, set_cache, says, names_it}
 use Rattle.pas_one_text.specs.Indexes.{settles}
 use Rattle.pas_one_text.specs.Classes.{serves_class}
 use Rattle.pas_one_text.specs.Runs.{serves_bitfit, serves_pages}
-use Rattle.pas_one_text.specs.Frees.{flushes, stops, frees, frees_named}
+use Rattle.pas_one_text.specs.Frees.{flushes, stops, logs, frees, frees_named}
 use Rattle.pas_one_text.specs.Passes.{ticks, passes, reads_epoch, stops_idle}
 use Rattle.pas_one_text.specs.Reports.{text_of}
 
@@ -28,24 +28,30 @@ serves f k name heap (Route.Class class) room align w = serves_class f k name he
 serves f k name heap Route.Bitfit room align w = serves_bitfit f k name heap room align w
 serves f k name heap Route.Large room align w = serves_pages f k name heap (room / 4096) w
 
--- a reallocation gave another block for the name, and the old one is freed; or it was refused
-abbrev pub frees_old : Profile → ℕ → Block → Option (Option Block) → World → World
-frees_old f k old (Some (Some block)) w = frees f k (entry_of old.name) w
-frees_old f k old refused w = w
+-- ---- another size for a block
+-- it suits as it is: it is kept, and the new name stands for it as the old one does
+abbrev pub keeps_block : ℕ → ℕ → Block → World → World
+keeps_block k name old w = names_it name (Some old) (says (Record.Said k (Said.Kept old.name name)) w)
 
-abbrev pub replaces : Profile → ℕ → ℕ → Block → World → World
-replaces f k name old w = frees_old f k old (standing_for w.names name) w
+-- the old name is logged, without a room, where the new one stands for a block
+abbrev pub logs_replaced : Profile → ℕ → Block → Option (Option Block) → World → World
+logs_replaced f k old (Some (Some block)) w = logs f k (entry_of old.name) w
+logs_replaced f k old (Some None) w = w
+logs_replaced f k old None w = w
 
--- the block is kept, or another one of its heap is asked for
-abbrev pub remakes_block : Bool → Profile → ℕ → ℕ → Block → ℕ → ℕ → World → World
-remakes_block true f k name old size align w = names_it name (Some old) (says (Record.Said k (Said.Kept old.name name)) w)
-remakes_block false f k name old size align w = replaces f k name old (serves f k name old.heap (route_in f size align) (room_in f size align) align w)
+abbrev pub logs_if_served : Profile → ℕ → ℕ → Block → World → World
+logs_if_served f k name old w = logs_replaced f k old (standing_for w.names name) w
 
--- A REALLOCATION of what a name stands for, under a new name. Where its request was refused, the new name counts as refused too
-abbrev pub remakes : Profile → ℕ → ℕ → Option (Option Block) → ℕ → ℕ → World → World
-remakes f k name (Some (Some old)) size align w = remakes_block (suits old size align) f k name old size align w
-remakes f k name (Some None) size align w = names_it name None (says (Record.Said k (Said.Skipped name)) w)
-remakes f k name None size align w = w
+-- it doesn't: another block of its heap is asked for, and where there is one the old name is logged
+abbrev pub replaces : Profile → ℕ → ℕ → Block → ℕ → ℕ → World → World
+replaces f k name old size align w = logs_if_served f k name old (serves f k name old.heap (route_in f size align) (room_in f size align) align w)
+
+-- A REALLOCATION of what a name of the trace stands for: of a block, or of nothing where its request was refused, as the new name counts as refused then. A trace
+-- has no name that was never asked for
+abbrev pub remakes : Profile → ℕ → ℕ → ℕ → ℕ → Option (Option Block) → World → World
+remakes f k name size align (Some (Some old)) w = if suits old size align then keeps_block k name old w else replaces f k name old size align w
+remakes f k name size align (Some None) w = names_it name None (says (Record.Said k (Said.Skipped name)) w)
+remakes f k name size align None w = w
 
 -- AN OPERATION
 abbrev pub operates : Profile → ℕ → What → World → World
@@ -54,7 +60,7 @@ operates f k (What.Free name) w = frees_named f k name 0 w
 operates f k (What.FreeSized name room) w = frees_named f k name room w
 operates f k (What.Raw block) w = frees f k (entry_of block) w
 operates f k (What.RawSized room block) w = frees f k (sized_entry block room) w
-operates f k (What.Remake name old heap size align) w = remakes f k name (standing_for w.names old) size align w
+operates f k (What.Remake name old heap size align) w = remakes f k name size align (standing_for w.names old) w
 operates f k What.Flush w = flushes f k w
 operates f k What.Stop w = stops f k w
 operates f k (What.Tick e) w = w

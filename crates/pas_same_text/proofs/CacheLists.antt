@@ -61,10 +61,10 @@ locals_with [] k new is = refl
 locals_with (c ∷ cs) k new is = locals_at c cs k new (k == 1) refl is (locals_with cs (k - 1) new)
 
 -- ---- the caches of a replay, of which one becomes another too
-same_own : (caches : Caches) (k : ℕ) (c : Cached) → with_cached caches k c k ≡ c
+pub same_own : (caches : Caches) (k : ℕ) (c : Cached) → with_cached caches k c k ≡ c
 same_own caches k c = ap (λ (b : Bool). if b then c else caches k) (eq-eqb k k refl)
 
-same_other : (caches : Caches) (j k : ℕ) (c : Cached) → j ≢ k → with_cached caches k c j ≡ caches j
+pub same_other : (caches : Caches) (j k : ℕ) (c : Cached) → j ≢ k → with_cached caches k c j ≡ caches j
 same_other caches j k c ne = ap (λ (b : Bool). if b then c else caches j) (ne_eqb j k ne)
 
 each_with : (f : Profile) (caches : Caches) (own : List Cache) (j k : ℕ) (c : Cached) (new : Cache) → IsThread f j → IsThread f k → AreSameCaches f caches own → IsSameCache c new → (t : Bool) → (j == k) ≡ t
@@ -95,3 +95,24 @@ same_kept f caches own k same = record {
   many = same.many;
   each = λ j is. subst (λ (c : Cached). IsSameCache c (cache_in own j)) (kept_at caches j k (j == k) refl) (same.each j is);
 }
+
+-- one that became another twice
+again_at : (caches : Caches) (j k : ℕ) (c d : Cached) (t : Bool) → (if t then d else (if t then c else caches j)) ≡ (if t then d else caches j)
+again_at caches j k c d true = refl
+again_at caches j k c d false = refl
+
+pub same_again : (f : Profile) (caches : Caches) (own : List Cache) (k : ℕ) (c d : Cached) → AreSameCaches f (with_cached (with_cached caches k c) k d) own → AreSameCaches f (with_cached caches k d) own
+same_again f caches own k c d same = record {
+  many = same.many;
+  each = λ j is. subst (λ (x : Cached). IsSameCache x (cache_in own j)) (again_at caches j k c d (j == k)) (same.each j is);
+}
+
+-- what is there is put there again
+with_at : (c : Cache) (cs : List Cache) (k : ℕ) (t : Bool) → (k == 1) ≡ t → (t ≡ false → with_cache cs (k - 1) (cache_in cs (k - 1)) ≡ cs)
+    → with_cache (c ∷ cs) k (if t then c else cache_in cs (k - 1)) ≡ c ∷ cs
+with_at c cs k true e more = ap (λ (u : Bool). if u then c ∷ cs else c ∷ with_cache cs (k - 1) c) e
+with_at c cs k false e more = ap (λ (u : Bool). if u then cache_in cs (k - 1) ∷ cs else c ∷ with_cache cs (k - 1) (cache_in cs (k - 1))) e ∙ ap (λ (xs : List Cache). c ∷ xs) (more refl)
+
+pub with_own : (cs : List Cache) (k : ℕ) → with_cache cs k (cache_in cs k) ≡ cs
+with_own [] k = refl
+with_own (c ∷ cs) k = with_at c cs k (k == 1) refl (λ e. with_own cs (k - 1))

@@ -1,5 +1,5 @@
 -- A request of a class for which the thread's cache has a slot.
-use Rattle.std.proofs.Common.{◌≡◌, ℕ, zero, suc, ◌+◌, ◌*◌, ◌<◌, ◌==◌, Bool, true, false, not, ◌&&◌, if◌then◌else◌, List, [], ◌∷◌, ◌++◌, Option, None, Some, Result, Ok, Err, inl, inr, refl, ap, sym, ◌∙◌, subst, arith}
+use Rattle.std.proofs.Common.{◌≡◌, ℕ, ◌+◌, ◌*◌, ◌<◌, ◌==◌, Bool, true, false, not, ◌&&◌, if◌then◌else◌, List, [], ◌∷◌, ◌++◌, Option, None, Some, Result, Ok, Err, inl, inr, refl, ap, sym, ◌∙◌, subst, arith}
 use Rattle.std.proofs.lemmas.Bool.{eqb-true, false≢true}
 use Rattle.std.specs.List.{find}
 use Rattle.pas_bits.specs.Masks.{is_set, HasMember, IsLowestSet}
@@ -35,16 +35,18 @@ use Rattle.pas_report.specs.declared.record.Said.{Said as TheSaid}
 use Rattle.pas_trace.specs.EveryPlan.{IsThread}
 use Rattle.pas_trace.specs.Acts.{Act}
 use Rattle.pas_trace.specs.declared.plan.What.TheVariants.{Alloc}
-use Rattle.pas_answers.specs.Answers.{Progress, Named, named, Answer, having, IsServed, after_answer, said_of_request, name_of}
+use Rattle.pas_answers.specs.Answers.{Progress, Named, named, Answer, having, IsServed, after_answer, said_of_request}
+use Rattle.pas_answers.specs.Answers.{block_of as block_answered}
 use Rattle.pas_one_text.specs.State.{Local, World, cache_of, locals_of}
 use Rattle.pas_one_text.specs.Classes.{is_for, others, gives_first, gives_up, fetches, serves_class, serves_class_by}
-use Rattle.pas_one_text.specs.Pages.{each_of, is_free, is_kept, is_of, has_room, is_offered}
+use Rattle.pas_one_text.specs.Pages.{is_free, is_kept, is_of, has_room, is_offered}
 use Rattle.pas_one_text.specs.Searches.{some_of, address_on}
 use Rattle.pas_same_text.specs.Same.{IsSame, HasSame, IsSameCache, IsSameLocal, AreSameLocals, IsRising, has_number}
 use Rattle.pas_one_text.specs.Order.{serves}
 use Rattle.pas_same_text.specs.Acts.{IsBetween, StaysSameWhere, HasCachedSlot}
 use Rattle.pas_same_text.proofs.CacheLists.{same_with}
 use Rattle.pas_same_text.proofs.FreeGrains.{free_same}
+use Rattle.pas_same_text.proofs.GivenBack.{each_same}
 use Rattle.pas_same_text.proofs.LoggedFrees.{after_with}
 use Rattle.pas_same_text.proofs.RestingPages.{bit_offered, offered_bit}
 use Rattle.pas_same_text.proofs.SameLocals.{Finds, found_same, others_same, last_same, head_lowest, rest_same}
@@ -52,19 +54,11 @@ use Rattle.pas_same_text.proofs.SmallActs.{records_next}
 use Rattle.pas_same_text.proofs.Tests.{and_first, and_second}
 use Rattle.pas_steps.proofs.Sets.{same_truth}
 
--- ---- tests of numbers that agree
-each_same : (n from : ℕ) (test other : ℕ → Bool) → ((b : ℕ) → b < from + n → test b ≡ other b) → each_of from n test ≡ each_of from n other
-unfolding each_of
-each_same zero from test other agree = refl
-each_same (suc n) from test other agree =
-    ap (λ (t : Bool). t && each_of (from + 1) n test) (agree from (omega arith))
-    ∙ ap (λ (t : Bool). other from && t) (each_same n (from + 1) test other (λ b small. agree b (omega (arith, small))))
-
 -- a page has room where it had, if its grains are free where they were
 pub room_same : (w w' : World) (d : Directory) (page : ℕ) → ((b : ℕ) → b < 256 → is_free w' page b ≡ is_free w page b) → has_room w' d page ≡ has_room w d page
 room_same w w' d page free =
     ap (λ (t : Bool). not t) (each_same 256 0 (λ b. not (usable_by_kind d.kind b && is_free w' page b)) (λ b. not (usable_by_kind d.kind b && is_free w page b))
-    (λ b small. ap (λ (t : Bool). not (usable_by_kind d.kind b && t)) (free b small)))
+    (λ b low small. ap (λ (t : Bool). not (usable_by_kind d.kind b && t)) (free b small)))
 
 -- ---- blocks by their parts
 abbrev block_of : ℕ → ℕ → ℕ → ℕ → Block
@@ -83,7 +77,7 @@ give_steps block answer page start word = made (Give block) answer ∷ made (Loo
 
 -- the replay after them
 abbrev given_to : Progress → ℕ → ℕ → Block → ℕ → ℕ → ℕ → ℕ → Cached → Progress
-given_to p k name block answer page start word c = after_with p k (give_steps block answer page start word) None (named name (Some block.name) ∷ p.names) c
+given_to p k name block answer page start word c = after_with p k (give_steps block answer page start word) None (named name (Some block) ∷ p.names) c
 
 -- ---- what is given of a local allocator of the text, whose lowest slot is n: the block and what is cached then
 abbrev text_block : World → Local → ℕ → Block
@@ -191,7 +185,7 @@ module _ (f : Profile) (k name : ℕ) (p : Progress) (w : World) (s s' : Slots) 
   given_same = record {
     pages = record { events = has_same.events; live = has_same.live; hinted = g.same.pages.hinted; offered = offered_kept };
     caches = has_same.caches;
-    names = ap (λ (b : Block). named name (Some b.name) ∷ w.names) (sym block_is) ∙ ap (λ (ns : List Named). named name (Some block.name) ∷ ns) g.same.names;
+    names = ap (λ (b : Block). named name (Some b) ∷ w.names) (sym block_is) ∙ ap (λ (ns : List Named). named name (Some block) ∷ ns) g.same.names;
     records = ap (λ (b : Block). p.records ++ Record.Event (Event.Give k b) ∷ []) block_is ∙ records_next p.records w.records (Record.Event (Event.Give k (text_block w l n))) g.same.records;
     epoch = g.same.epoch;
     read = g.same.read;
@@ -244,7 +238,7 @@ pub record Served (f : Profile) (k name heap class : ℕ) (p p' : Progress) (w :
   gives : GivesSlot s rest block steps
   cache : Cached
   cache_is : cache ≡ record (p.caches k) { locals = others_than heap class (p.caches k).locals ++ rest ∷ [] }
-  after : p' ≡ after_with p k steps None (named name (Some block.name) ∷ p.names) cache
+  after : p' ≡ after_with p k steps None (named name (Some block) ∷ p.names) cache
 
 to_given : (f : Profile) (k name heap class : ℕ) (p p' : Progress) (w : World) (s : Slots) → IsValid f → IsThread f k → IsBetween f p → IsBetween f p' → IsSame f p w → local_for heap class (p.caches k).locals ≡ Some s → HasMember s.starts
     → Served f k name heap class p p' w s → IsSame f p' (serves_class f k name heap class w)
@@ -258,7 +252,7 @@ to_given f k name heap class p p' w s valid is between after same there member o
     let g = o.gives in
     let steps_are : o.steps ≡ give_steps o.block g.answer s.page g.start g.word = g.steps_are in
     let reached : p' ≡ given_to p k name o.block g.answer s.page g.start g.word o.cache =
-    o.after ∙ ap (λ (ms : List Made). after_with p k ms None (named name (Some o.block.name) ∷ p.names) o.cache) steps_are in
+    o.after ∙ ap (λ (ms : List Made). after_with p k ms None (named name (Some o.block) ∷ p.names) o.cache) steps_are in
     let kept : o.cache ≡ record (p.caches k) { locals = others_than s.heap s.class (p.caches k).locals ++ o.rest ∷ [] } =
     o.cache_is ∙ (ap (λ (x : ℕ). record (p.caches k) { locals = others_than x class (p.caches k).locals ++ o.rest ∷ [] }) (sym of_heap)
     ∙ ap (λ (x : ℕ). record (p.caches k) { locals = others_than s.heap x (p.caches k).locals ++ o.rest ∷ [] }) (sym of_class)) in
@@ -324,7 +318,7 @@ module _ (f : Profile) (k name heap size align class : ℕ) (p p' : Progress) (w
       let e : Ends sv.locals.fewer a.cache.locals sv.locals.given t.0 served.answer = ends_of sv.locals.fewer a.cache.locals sv.locals.given sv.locals.found served.answer t.0 t.1 sv.locals.ends in
       let steps : a.steps ≡ sv.locals.given = sv.locals.steps_are ∙ (ap (λ (ms : List Made). sv.locals.given ++ ms) t.2.no_steps ∙ no_more sv.locals.given) in
       let said : a.said ≡ None = served.said_is ∙ ap (said_of_request name) e.is in
-      let names : a.names ≡ named name (Some e.block.name) ∷ p.names = served.names_are ∙ ap (λ (r : Result Block NoRoom). named name (name_of r) ∷ p.names) e.is in
+      let names : a.names ≡ named name (Some e.block) ∷ p.names = served.names_are ∙ ap (λ (r : Result Block NoRoom). named name (block_answered r) ∷ p.names) e.is in
       record {
         block = e.block;
         rest = e.rest;

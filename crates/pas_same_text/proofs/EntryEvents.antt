@@ -63,11 +63,11 @@ found_is (Event.Reject k name why ∷ es) a = found_is es a
 
 -- ---- what is shown besides nothing
 shown_now : (e : Event) (w : World) → IsShown e w (shows e w)
-shown_now e w = record { events = refl; live = refl; records = refl; names = refl; epoch = refl }
+shown_now e w = record { events = refl; live = refl; records = refl; names = refl; epoch = refl; read = refl; indexes = refl }
 
 hinted_too : (e : Event) (w v : World) (page : ℕ) (t : Bool) → IsShown e w v → IsShown e w (if t then v else record v { hinted = page ∷ v.hinted })
 hinted_too e w v page true is = is
-hinted_too e w v page false is = record { events = is.events; live = is.live; records = is.records; names = is.names; epoch = is.epoch }
+hinted_too e w v page false is = record { events = is.events; live = is.live; records = is.records; names = is.names; epoch = is.epoch; read = is.read; indexes = is.indexes }
 
 minded_if : (e : Event) (w v x : World) (t : Bool) → IsShown e w v → IsShown e w x → IsShown e w (if t then x else v)
 minded_if e w v x true is more = more
@@ -81,7 +81,7 @@ all_minded e w v [] is = is
 all_minded e w v (page ∷ pages) is = all_minded e w (minds page v) pages (minded e w v page is)
 
 noted_too : (e : Event) (w v : World) (k : ℕ) (b : Block) → IsShown e w v → IsShown e w (notes k b v)
-noted_too e w v k b is = record { events = is.events; live = is.live; records = is.records; names = is.names; epoch = is.epoch }
+noted_too e w v k b is = record { events = is.events; live = is.live; records = is.records; names = is.names; epoch = is.epoch; read = is.read; indexes = is.indexes }
 
 -- ---- by the block at the address
 block_here : (w : World) (a : ℕ) (o : Option Live) → w.live ≡ lives_in w.events → live_in w.events a ≡ o → block_at w a ≡ block_of_live o
@@ -116,32 +116,33 @@ as_shown : (e : Event) (w v x : World) → v ≡ x → IsShown e w x → IsShown
 as_shown e w v x is shown = subst (IsShown e w) (sym is) shown
 
 module _ (f : Profile) (k : ℕ) (entry : Entry) (w : World) (live : w.live ≡ lives_in w.events) where
-  reject_shown : (why : Why) → Run f w.events → IsReason w.events entry.name why → IsEntryReason entry why → IsShown (Event.Reject k entry.name why) w (ends f k entry w)
-  reject_shown Why.Ended run past is =
-      as_shown (Event.Reject k entry.name Why.Ended) w (ends f k entry w) (rejects k entry.name Why.Ended w)
-      (rejected f k entry w (live_in w.events (address_of entry.name)) live refl (λ b at.
+  pub reject_text : (why : Why) → Run f w.events → IsReason w.events entry.name why → IsEntryReason entry why → ends f k entry w ≡ rejects k entry.name why w
+  reject_text Why.Ended run past is =
+      rejected f k entry w (live_in w.events (address_of entry.name)) live refl (λ b at.
       ne_eqb b.block.name.turn entry.name.turn (λ same. let turn : b.block.name.turn ≡ ends_in w.events (address_of entry.name) = turn_of_live f w.events (address_of entry.name) b run at in absurd (omega (arith, past, same, turn))))
-      ∙ ap (λ (x : Why). rejects k entry.name x w) (reason_ended w entry.name past))
-      (shown_now (Event.Reject k entry.name Why.Ended) w)
-  reject_shown Why.NoBlock run none is =
-      as_shown (Event.Reject k entry.name Why.NoBlock) w (ends f k entry w) (rejects k entry.name Why.NoBlock w)
-      (rejected f k entry w (live_in w.events (address_of entry.name)) live refl (λ b at.
+      ∙ ap (λ (x : Why). rejects k entry.name x w) (reason_ended w entry.name past)
+  reject_text Why.NoBlock run none is =
+      rejected f k entry w (live_in w.events (address_of entry.name)) live refl (λ b at.
       ne_eqb b.block.name.turn entry.name.turn (λ same. none.1 (b, at, same)))
-      ∙ ap (λ (x : Why). rejects k entry.name x w) (reason_none w entry.name none.0))
-      (shown_now (Event.Reject k entry.name Why.NoBlock) w)
-  reject_shown (Why.SizeDiffers room) run other is =
+      ∙ ap (λ (x : Why). rejects k entry.name x w) (reason_none w entry.name none.0)
+  reject_text (Why.SizeDiffers room) run other is =
       let o : HasOtherRoom w.events entry.name room = other.1 in
       let differs : not (o.block.block.room == entry.room) ≡ true = ap not (ne_eqb o.block.block.room entry.room (λ same. o.differs (same ∙ sym is.1))) in
-      let text : ends f k entry w ≡ rejects k entry.name (Why.SizeDiffers room) w =
       lives_text f k entry w o.block true live o.lives o.turn_is (and_from (is_sized entry) (not (o.block.block.room == entry.room)) is.0 differs)
-      ∙ ap (λ (r : ℕ). rejects k entry.name (Why.SizeDiffers r) w) (sym is.1) in
-      as_shown (Event.Reject k entry.name (Why.SizeDiffers room)) w (ends f k entry w) (rejects k entry.name (Why.SizeDiffers room) w) text (shown_now (Event.Reject k entry.name (Why.SizeDiffers room)) w)
+      ∙ ap (λ (r : ℕ). rejects k entry.name (Why.SizeDiffers r) w) (sym is.1)
 
-  end_shown : IsLive w.events entry.name → ((b : Live) → live_in w.events (address_of entry.name) ≡ Some b → is_other_room entry b.block ≡ false) → IsShown (Event.End k entry.name w.epoch) w (ends f k entry w)
+  pub end_text : (b : Live) → live_in w.events (address_of entry.name) ≡ Some b → b.block.name.turn ≡ entry.name.turn → is_other_room entry b.block ≡ false → ends f k entry w ≡ ends_block f k entry.name b.block w
+  end_text b lives turn room = lives_text f k entry w b false live lives turn room
+
+  pub reject_shown : (why : Why) → Run f w.events → IsReason w.events entry.name why → IsEntryReason entry why → IsShown (Event.Reject k entry.name why) w (ends f k entry w)
+  reject_shown why run reason is =
+      as_shown (Event.Reject k entry.name why) w (ends f k entry w) (rejects k entry.name why w) (reject_text why run reason is) (shown_now (Event.Reject k entry.name why) w)
+
+  pub end_shown : (lives : IsLive w.events entry.name) → ((b : Live) → live_in w.events (address_of entry.name) ≡ Some b → is_other_room entry b.block ≡ false) → IsShown (Event.End k entry.name w.epoch) w (ends f k entry w)
   end_shown lives room =
       let e : Event = Event.End k entry.name w.epoch in
       let b : Live = lives.0 in
-      as_shown e w (ends f k entry w) (ends_block f k entry.name b.block w) (lives_text f k entry w b false live lives.1 lives.2 (room b lives.1))
+      as_shown e w (ends f k entry w) (ends_block f k entry.name b.block w) (end_text b lives.1 lives.2 (room b lives.1))
       (all_minded e w (notes k b.block (shows e w)) (pages_of f b.block) (noted_too e w (shows e w) k b.block (shown_now e w)))
 
   pub entry_shown : (e : Event) → Run f (e ∷ w.events) → IsEntryEvent k entry w e → IsShown e w (ends f k entry w)

@@ -5,12 +5,13 @@ use Rattle.std.proofs.lemmas.Bool.Decides.{nat_tests}
 use Rattle.pas_profile.specs.Blocks.{address_of}
 use Rattle.pas_profile.specs.declared.event.FreeFault.{FreeFault}
 use Rattle.pas_profile.specs.declared.event.FreeFault.TheVariants.{Outside, Unaligned}
+use Rattle.pas_profile.specs.declared.name.Block.{Block}
 use Rattle.pas_profile.specs.declared.name.Name.{Name}
 use Rattle.pas_profile.specs.declared.profile.Profile.{Profile}
 use Rattle.pas_steps.specs.Events.{events_by}
 use Rattle.pas_steps.specs.Lists.{part}
 use Rattle.pas_steps.specs.declared.step.Made.{Made}
-use Rattle.pas_free_log.specs.Logs.{entry_of}
+use Rattle.pas_free_log.specs.Logs.{entry_of, sized_entry}
 use Rattle.pas_free_log.specs.declared.log.Entry.{Entry}
 use Rattle.pas_free_log.specs.declared.noting.EndedRun.{EndedRun}
 use Rattle.pas_cache.specs.Calls.{TakesEntry, RefusesName}
@@ -21,8 +22,8 @@ use Rattle.pas_report.specs.declared.record.Said.{Said as TheSaid}
 use Rattle.pas_report.specs.declared.record.Said.TheVariants as Said
 use Rattle.pas_trace.specs.Acts.{Act}
 use Rattle.pas_trace.specs.EveryPlan.{IsThread}
-use Rattle.pas_trace.specs.declared.plan.What.TheVariants.{Free, Raw}
-use Rattle.pas_answers.specs.Answers.{Progress, Named, Answer, IsFreed, IsFreedBy, standing_for, with_records, with_steps, records_of, said_by, said_of_fault}
+use Rattle.pas_trace.specs.declared.plan.What.TheVariants.{Free, FreeSized, Raw, RawSized}
+use Rattle.pas_answers.specs.Answers.{Progress, Named, Answer, after_answer, IsFreed, IsFreedBy, standing_for, with_records, with_steps, records_of, said_by, said_of_fault, room_noted}
 use Rattle.pas_one_text.specs.State.{World, Cache, cache_of, set_cache, log_of, says}
 use Rattle.pas_one_text.specs.Frees.{adds, logs, frees, frees_what, frees_named, refuses_free, flushes}
 use Rattle.pas_same_text.specs.Same.{IsSame, IsSameCache}
@@ -50,7 +51,7 @@ said_same f k said p w same = record {
 abbrev with_entry : Cached → Entry → Cached
 with_entry c entry = record c { log = c.log ++ entry ∷ []; noted = c.noted }
 
-nothing_more : (xs : List Record) → xs ++ [] ≡ xs
+pub nothing_more : (xs : List Record) → xs ++ [] ≡ xs
 nothing_more [] = refl
 nothing_more (x ∷ xs) = ap (λ (ys : List Record). x ∷ ys) (nothing_more xs)
 
@@ -70,7 +71,7 @@ added_same f k entry p w is same =
     }
 
 -- ---- where the address is
-page_inside : (pages a : ℕ) → 1 ≤ a / 4096 → a / 4096 ≤ pages → (nat_le 4096 a && nat_lt a (4096 * (pages + 1))) ≡ true
+pub page_inside : (pages a : ℕ) → 1 ≤ a / 4096 → a / 4096 ≤ pages → (nat_le 4096 a && nat_lt a (4096 * (pages + 1))) ≡ true
 page_inside pages a some few =
     let low : 4096 ≤ a = omega (arith, some) in
     let high : a < 4096 * (pages + 1) = omega (arith, few) in
@@ -89,7 +90,7 @@ page_outside pages a none = false_from_ne_true (nat_le 4096 a && nat_lt a (4096 
 abbrev freed_by : Profile → ℕ → Entry → World → Bool → Bool → World
 freed_by f k entry w inside aligned = if inside then (if aligned then logs f k entry w else refuses_free k entry.name FreeFault.Unaligned w) else refuses_free k entry.name FreeFault.Outside w
 
-freed_is : (f : Profile) (k : ℕ) (entry : Entry) (w : World) (inside aligned : Bool) → (nat_le 4096 (address_of entry.name) && nat_lt (address_of entry.name) (4096 * (f.pages + 1))) ≡ inside → (address_of entry.name % 16 == 0) ≡ aligned
+pub freed_is : (f : Profile) (k : ℕ) (entry : Entry) (w : World) (inside aligned : Bool) → (nat_le 4096 (address_of entry.name) && nat_lt (address_of entry.name) (4096 * (f.pages + 1))) ≡ inside → (address_of entry.name % 16 == 0) ≡ aligned
     → frees f k entry w ≡ freed_by f k entry w inside aligned
 freed_is f k entry w inside aligned e h =
     ap (λ (t : Bool). freed_by f k entry w t (address_of entry.name % 16 == 0)) e ∙ ap (λ (u : Bool). freed_by f k entry w inside u) h
@@ -108,62 +109,77 @@ room_is f k entry p w is same room =
     ap (λ (t : Bool). adds k entry (if t then flushes f k w else w)) test
 
 -- ---- the free
-logged_same : (f : Profile) (k : ℕ) (name : Name) (p : Progress) (w : World) (c' : Cached) (steps : List Made) → IsThread f k → IsSame f p w → nat_le 64 (length (p.caches k).log) ≡ false
-    → TakesEntry f k (p.caches k) c' (entry_of name) steps → IsSame f (after_with p k steps None p.names c') (frees f k (entry_of name) w)
-logged_same f k name p w c' steps is same room takes =
-    let to = logged_cache f k (p.caches k) c' (entry_of name) steps room takes in
-    let inside = page_inside f.pages (address_of name) takes.region.page.0 takes.region.page.1 in
-    let text : frees f k (entry_of name) w ≡ adds k (entry_of name) w =
-    freed_is f k (entry_of name) w true true inside (eq-eqb (address_of name % 16) 0 takes.region.aligned) ∙ room_is f k (entry_of name) p w is same room in
+logged_same : (f : Profile) (k : ℕ) (entry : Entry) (p : Progress) (w : World) (c' : Cached) (steps : List Made) → IsThread f k → IsSame f p w → nat_le 64 (length (p.caches k).log) ≡ false
+    → TakesEntry f k (p.caches k) c' entry steps → IsSame f (after_with p k steps None p.names c') (frees f k entry w)
+logged_same f k entry p w c' steps is same room takes =
+    let to = logged_cache f k (p.caches k) c' entry steps room takes in
+    let inside = page_inside f.pages (address_of entry.name) takes.region.page.0 takes.region.page.1 in
+    let text : frees f k entry w ≡ adds k entry w =
+    freed_is f k entry w true true inside (eq-eqb (address_of entry.name % 16) 0 takes.region.aligned) ∙ room_is f k entry p w is same room in
     subst (λ (x : World). IsSame f (after_with p k steps None p.names c') x) (sym text)
-    (subst (λ (ms : List Made). IsSame f (after_with p k ms None p.names c') (adds k (entry_of name) w)) (sym to.0)
-    (subst (λ (c : Cached). IsSame f (after_with p k [] None p.names c) (adds k (entry_of name) w)) (sym to.1) (added_same f k (entry_of name) p w is same)))
+    (subst (λ (ms : List Made). IsSame f (after_with p k ms None p.names c') (adds k entry w)) (sym to.0)
+    (subst (λ (c : Cached). IsSame f (after_with p k [] None p.names c) (adds k entry w)) (sym to.1) (added_same f k entry p w is same)))
 
-refused_text : (f : Profile) (k : ℕ) (name : Name) (w : World) (c c' : Cached) (steps : List Made) (fault : FreeFault) → RefusesName f c c' name steps fault → frees f k (entry_of name) w ≡ refuses_free k name fault w
-refused_text f k name w c c' steps Outside refuses = freed_is f k (entry_of name) w false (address_of name % 16 == 0) (page_outside f.pages (address_of name) refuses.fault_is) refl
-refused_text f k name w c c' steps Unaligned refuses =
-    freed_is f k (entry_of name) w true false (page_inside f.pages (address_of name) refuses.fault_is.0.0 refuses.fault_is.0.1) (ne_eqb (address_of name % 16) 0 refuses.fault_is.1)
+pub refused_text : (f : Profile) (k : ℕ) (entry : Entry) (w : World) (c c' : Cached) (steps : List Made) (fault : FreeFault) → RefusesName f c c' entry.name steps fault → frees f k entry w ≡ refuses_free k entry.name fault w
+refused_text f k entry w c c' steps Outside refuses = freed_is f k entry w false (address_of entry.name % 16 == 0) (page_outside f.pages (address_of entry.name) refuses.fault_is) refl
+refused_text f k entry w c c' steps Unaligned refuses =
+    freed_is f k entry w true false (page_inside f.pages (address_of entry.name) refuses.fault_is.0.0 refuses.fault_is.0.1) (ne_eqb (address_of entry.name % 16) 0 refuses.fault_is.1)
 
-refused_same : (f : Profile) (k : ℕ) (name : Name) (p : Progress) (w : World) (c' : Cached) (steps : List Made) (fault : FreeFault) → IsSame f p w
-    → RefusesName f (p.caches k) c' name steps fault → IsSame f (after_with p k steps (Some (said_of_fault name fault)) p.names c') (frees f k (entry_of name) w)
-refused_same f k name p w c' steps fault same refuses =
-    subst (λ (x : World). IsSame f (after_with p k steps (Some (said_of_fault name fault)) p.names c') x) (sym (refused_text f k name w (p.caches k) c' steps fault refuses))
+pub refused_same : (f : Profile) (k : ℕ) (entry : Entry) (p : Progress) (w : World) (c' : Cached) (steps : List Made) (fault : FreeFault) → IsSame f p w
+    → RefusesName f (p.caches k) c' entry.name steps fault → IsSame f (after_with p k steps (Some (said_of_fault entry.name fault)) p.names c') (frees f k entry w)
+refused_same f k entry p w c' steps fault same refuses =
+    let name : Name = entry.name in
+    subst (λ (x : World). IsSame f (after_with p k steps (Some (said_of_fault name fault)) p.names c') x) (sym (refused_text f k entry w (p.caches k) c' steps fault refuses))
     (subst (λ (ms : List Made). IsSame f (after_with p k ms (Some (said_of_fault name fault)) p.names c') (refuses_free k name fault w)) (sym refuses.no_steps)
     (subst (λ (c : Cached). IsSame f (after_with p k [] (Some (said_of_fault name fault)) p.names c) (refuses_free k name fault w)) (sym refuses.cache) (said_same f k (said_of_fault name fault) p w same)))
 
-freed_same : (f : Profile) (k : ℕ) (name : Name) (p : Progress) (w : World) (c' : Cached) (steps : List Made) (said : Option TheSaid) → IsThread f k → IsSame f p w → nat_le 64 (length (p.caches k).log) ≡ false
-    → IsFreed f k (p.caches k) c' name steps said → IsSame f (after_with p k steps said p.names c') (frees f k (entry_of name) w)
-freed_same f k name p w c' steps said is same room (inl t) =
-    subst (λ (s : Option TheSaid). IsSame f (after_with p k steps s p.names c') (frees f k (entry_of name) w)) (sym t.1) (logged_same f k name p w c' steps is same room t.0)
-freed_same f k name p w c' steps said is same room (inr t) =
-    subst (λ (s : Option TheSaid). IsSame f (after_with p k steps s p.names c') (frees f k (entry_of name) w)) (sym t.2) (refused_same f k name p w c' steps t.0 same t.1)
+pub freed_same : (f : Profile) (k : ℕ) (entry : Entry) (p : Progress) (w : World) (c' : Cached) (steps : List Made) (said : Option TheSaid) → IsThread f k → IsSame f p w → nat_le 64 (length (p.caches k).log) ≡ false
+    → IsFreed f k (p.caches k) c' entry steps said → IsSame f (after_with p k steps said p.names c') (frees f k entry w)
+freed_same f k entry p w c' steps said is same room (inl t) =
+    subst (λ (s : Option TheSaid). IsSame f (after_with p k steps s p.names c') (frees f k entry w)) (sym t.1) (logged_same f k entry p w c' steps is same room t.0)
+freed_same f k entry p w c' steps said is same room (inr t) =
+    subst (λ (s : Option TheSaid). IsSame f (after_with p k steps s p.names c') (frees f k entry w)) (sym t.2) (refused_same f k entry p w c' steps t.0 same t.1)
 
 -- ---- the act
-pub raw_same : (f : Profile) (line k : ℕ) (block : Name) → IsThread f k → StaysSameWhere (HasLogRoom k) f (Act.Operates (record { line = line; actor = k; what = Raw block }))
-raw_same f line k block is p p' w room taken =
-    let a : Answer = taken.advances.0 in
-    let names : a.names ≡ p.names = taken.advances.1.1 in
+entry_same : (f : Profile) (k : ℕ) (entry : Entry) (p p' : Progress) (w : World) (a : Answer) → IsThread f k → IsSame f p w → HasLogRoom k p → IsFreed f k (p.caches k) a.cache entry a.steps a.said → a.names ≡ p.names → p' ≡ after_answer p k a
+    → IsSame f p' (frees f k entry w)
+entry_same f k entry p p' w a is same room freed names reached =
     let test : nat_le 64 (length (p.caches k).log) ≡ false = grind (arith, nat_tests, room) in
-    subst (λ (q : Progress). IsSame f q (frees f k (entry_of block) w)) (sym taken.advances.2)
-    (subst (λ (ns : List Named). IsSame f (after_with p k a.steps a.said ns a.cache) (frees f k (entry_of block) w)) (sym names)
-    (freed_same f k block p w a.cache a.steps a.said is taken.same test taken.advances.1.0))
+    subst (λ (q : Progress). IsSame f q (frees f k entry w)) (sym reached)
+    (subst (λ (ns : List Named). IsSame f (after_with p k a.steps a.said ns a.cache) (frees f k entry w)) (sym names)
+    (freed_same f k entry p w a.cache a.steps a.said is same test freed))
+
+pub raw_same : (f : Profile) (line k : ℕ) (block : Name) → IsThread f k → StaysSameWhere (HasLogRoom k) f (Act.Operates (record { line = line; actor = k; what = Raw block }))
+raw_same f line k block is p p' w room taken = entry_same f k (entry_of block) p p' w taken.advances.0 is taken.same room taken.advances.1.0 taken.advances.1.1 taken.advances.2
+
+pub raw_sized_same : (f : Profile) (line k room : ℕ) (block : Name) → IsThread f k → StaysSameWhere (HasLogRoom k) f (Act.Operates (record { line = line; actor = k; what = RawSized room block }))
+raw_sized_same f line k size block is p p' w room taken = entry_same f k (sized_entry block size) p p' w taken.advances.0 is taken.same room taken.advances.1.0 taken.advances.1.1 taken.advances.2
 
 -- ---- a free by a name of the trace
-freed_named : (f : Profile) (k name : ℕ) (p : Progress) (w : World) (c' : Cached) (steps : List Made) (said : Option TheSaid) → IsThread f k → IsSame f p w → nat_le 64 (length (p.caches k).log) ≡ false
-    → (meant : Option (Option Name)) → IsFreedBy f k (p.caches k) c' name meant steps said → IsSame f (after_with p k steps said p.names c') (frees_what f k name meant w)
-freed_named f k name p w c' steps said is same room None freed = absurd freed
-freed_named f k name p w c' steps said is same room (Some None) freed =
-    subst (λ (s : Option TheSaid). IsSame f (after_with p k steps s p.names c') (says (Record.Said k (Said.Skipped name)) w)) (sym freed.2)
-    (subst (λ (ms : List Made). IsSame f (after_with p k ms (Some (Said.Skipped name)) p.names c') (says (Record.Said k (Said.Skipped name)) w)) (sym freed.0)
-    (subst (λ (c : Cached). IsSame f (after_with p k [] (Some (Said.Skipped name)) p.names c) (says (Record.Said k (Said.Skipped name)) w)) (sym freed.1) (said_same f k (Said.Skipped name) p w same)))
-freed_named f k name p w c' steps said is same room (Some (Some block)) freed = freed_same f k block p w c' steps said is same room freed
+pub skipped_same : (f : Profile) (k name : ℕ) (p : Progress) (w : World) (c' : Cached) (steps : List Made) (said : Option TheSaid) → IsSame f p w → steps ≡ [] → c' ≡ p.caches k → said ≡ Some (Said.Skipped name)
+    → IsSame f (after_with p k steps said p.names c') (says (Record.Said k (Said.Skipped name)) w)
+skipped_same f k name p w c' steps said same no_steps cache is =
+    subst (λ (s : Option TheSaid). IsSame f (after_with p k steps s p.names c') (says (Record.Said k (Said.Skipped name)) w)) (sym is)
+    (subst (λ (ms : List Made). IsSame f (after_with p k ms (Some (Said.Skipped name)) p.names c') (says (Record.Said k (Said.Skipped name)) w)) (sym no_steps)
+    (subst (λ (c : Cached). IsSame f (after_with p k [] (Some (Said.Skipped name)) p.names c) (says (Record.Said k (Said.Skipped name)) w)) (sym cache) (said_same f k (Said.Skipped name) p w same)))
+
+freed_named : (f : Profile) (k name : ℕ) (size : Option ℕ) (p : Progress) (w : World) (c' : Cached) (steps : List Made) (said : Option TheSaid) → IsThread f k → IsSame f p w → nat_le 64 (length (p.caches k).log) ≡ false
+    → (meant : Option (Option Block)) → IsFreedBy f k (p.caches k) c' name size meant steps said → IsSame f (after_with p k steps said p.names c') (frees_what f k name (room_noted size) meant w)
+freed_named f k name size p w c' steps said is same room None freed = absurd freed
+freed_named f k name size p w c' steps said is same room (Some None) freed = skipped_same f k name p w c' steps said same freed.0 freed.1 freed.2
+freed_named f k name size p w c' steps said is same room (Some (Some block)) freed = freed_same f k (sized_entry block.name (room_noted size)) p w c' steps said is same room freed
+
+by_name_same : (f : Profile) (k name : ℕ) (size : Option ℕ) (p p' : Progress) (w : World) (a : Answer) → IsThread f k → IsSame f p w → HasLogRoom k p → IsFreedBy f k (p.caches k) a.cache name size (standing_for p.names name) a.steps a.said → a.names ≡ p.names
+    → p' ≡ after_answer p k a → IsSame f p' (frees_named f k name (room_noted size) w)
+by_name_same f k name size p p' w a is same room freed names reached =
+    let test : nat_le 64 (length (p.caches k).log) ≡ false = grind (arith, nat_tests, room) in
+    subst (λ (q : Progress). IsSame f q (frees_named f k name (room_noted size) w)) (sym reached)
+    (subst (λ (ns : List Named). IsSame f (after_with p k a.steps a.said ns a.cache) (frees_named f k name (room_noted size) w)) (sym names)
+    (subst (λ (ns : List Named). IsSame f (after_with p k a.steps a.said p.names a.cache) (frees_what f k name (room_noted size) (standing_for ns name) w)) (sym same.names)
+    (freed_named f k name size p w a.cache a.steps a.said is same test (standing_for p.names name) freed)))
 
 pub named_same : (f : Profile) (line k name : ℕ) → IsThread f k → StaysSameWhere (HasLogRoom k) f (Act.Operates (record { line = line; actor = k; what = Free name }))
-named_same f line k name is p p' w room taken =
-    let a : Answer = taken.advances.0 in
-    let names : a.names ≡ p.names = taken.advances.1.1 in
-    let test : nat_le 64 (length (p.caches k).log) ≡ false = grind (arith, nat_tests, room) in
-    subst (λ (q : Progress). IsSame f q (frees_named f k name w)) (sym taken.advances.2)
-    (subst (λ (ns : List Named). IsSame f (after_with p k a.steps a.said ns a.cache) (frees_named f k name w)) (sym names)
-    (subst (λ (ns : List Named). IsSame f (after_with p k a.steps a.said p.names a.cache) (frees_what f k name (standing_for ns name) w)) (sym taken.same.names)
-    (freed_named f k name p w a.cache a.steps a.said is taken.same test (standing_for p.names name) taken.advances.1.0)))
+named_same f line k name is p p' w room taken = by_name_same f k name None p p' w taken.advances.0 is taken.same room taken.advances.1.0 taken.advances.1.1 taken.advances.2
+
+pub named_sized_same : (f : Profile) (line k name room : ℕ) → IsThread f k → StaysSameWhere (HasLogRoom k) f (Act.Operates (record { line = line; actor = k; what = FreeSized name room }))
+named_sized_same f line k name size is p p' w room taken = by_name_same f k name (Some size) p p' w taken.advances.0 is taken.same room taken.advances.1.0 taken.advances.1.1 taken.advances.2

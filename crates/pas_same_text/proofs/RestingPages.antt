@@ -70,11 +70,11 @@ not-no true h = refl
 not-no false h = absurd (true≢false h)
 
 module _ (f : Profile) (p : Progress) (w : World) (valid : IsValid f) (between : IsBetween f p) (same : HasSame f p w) where
-  clear_of : (k : ℕ) → k ≤ f.threads → IsClear (part k p.list)
+  pub clear_of : (k : ℕ) → k ≤ f.threads → IsClear (part k p.list)
   clear_of zero le = between.scavenger.clear
   clear_of (suc i) le = let some : 1 ≤ suc i = omega arith in (between.threads (suc i) (some, le)).locals.clear
 
-  deed_now : (page : ℕ) (d : Directory) → IsDirectoryOf f d → is_of w d page ≡ true → deed_in (visible p.list) page ≡ Some d
+  pub deed_now : (page : ℕ) (d : Directory) → IsDirectoryOf f d → is_of w d page ≡ true → deed_in (visible p.list) page ≡ Some d
   deed_now page d of h =
       let o : IsDeedOf (deed_in w.events page) d = deed_told d (deed_in w.events page) h in
       let there : deed_in (visible p.list) page ≡ Some o.deed = ap (λ (es : List Event). deed_in es page) (sym same.events) ∙ o.is in
@@ -84,7 +84,7 @@ module _ (f : Profile) (p : Progress) (w : World) (valid : IsValid f) (between :
   word_now : (page : ℕ) (d : Directory) → deed_in (visible p.list) page ≡ Some d → word_after p.list (Word.Deed page) ≡ deed_word_of d
   word_now page d is = deed_of f p.list between.legal page ∙ ap word_of_deed is
 
-  free_at : (page b : ℕ) → b < 256 → is_free w page b ≡ has_bit (word_after p.list (Word.Free page (b / 64))) (b % 64)
+  pub free_at : (page b : ℕ) → b < 256 → is_free w page b ≡ has_bit (word_after p.list (Word.Free page (b / 64))) (b % 64)
   free_at page b small =
       let at_page : (256 * page + b) / 256 ≡ page = omega (arith, small) in
       let at_word : (256 * page + b) / 64 % 4 ≡ b / 64 = omega (arith, small) in

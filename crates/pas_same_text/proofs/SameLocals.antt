@@ -12,7 +12,7 @@ use Rattle.pas_one_text.specs.Classes.{is_for, others}
 use Rattle.pas_same_text.specs.Same.{IsSameLocal, AreSameLocals, has_number, IsRising}
 
 -- ---- looked up
-for_same : (heap class : ℕ) (s : Slots) (l : Local) → IsSameLocal s l → is_for heap class l ≡ is_for_slots heap class s
+pub for_same : (heap class : ℕ) (s : Slots) (l : Local) → IsSameLocal s l → is_for heap class l ≡ is_for_slots heap class s
 for_same heap class s l same = ap (λ (h : ℕ). (h == heap) && (l.class == class)) same.heap ∙ ap (λ (c : ℕ). (s.heap == heap) && (c == class)) same.class
 
 -- the one that is found in a list of the same

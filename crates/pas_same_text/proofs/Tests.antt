@@ -1,5 +1,5 @@
 -- Tests on lists.
-use Rattle.std.proofs.Common.{◌≡◌, ℕ, ◌==◌, Bool, true, false, ◌&&◌, ◌||◌, if◌then◌else◌, List, [], ◌∷◌, ◌⊎◌, inl, inr, refl, ap, ◌∙◌}
+use Rattle.std.proofs.Common.{◌≡◌, ℕ, ◌==◌, Bool, true, false, not, ◌&&◌, ◌||◌, if◌then◌else◌, List, [], ◌∷◌, ◌⊎◌, inl, inr, refl, ap, sym, ◌∙◌}
 use Rattle.std.proofs.lemmas.Bool.{eq-eqb, eqb-true, false≢true, or_cases, or_left, or_right}
 use Rattle.std.specs.List.{list_any, filter}
 use Rattle.pas_same_text.specs.Same.{has_number}
@@ -61,3 +61,35 @@ passed p (n ∷ more) m h so = elim (or_cases (n == m) (has_number more m) h) [
   | inl same ↦ passes_at p n m (list_any p more) same so
   | inr rest ↦ or_right (p n) (list_any p more) (passed p more m rest so)
 ]
+
+-- ---- tests that follow from others
+weaker_at : (x y r s : Bool) → (x ≡ true → y ≡ true) → (r ≡ true → s ≡ true) → (x || r) ≡ true → (y || s) ≡ true
+weaker_at true true r s here rest h = refl
+weaker_at true false r s here rest h = absurd (false≢true (here refl))
+weaker_at false true r s here rest h = refl
+weaker_at false false r s here rest h = rest h
+
+pub any_weaker : {X : Type 0} (p q : X → Bool) (xs : List X) → ((x : X) → p x ≡ true → q x ≡ true) → list_any p xs ≡ true → list_any q xs ≡ true
+any_weaker p q [] more h = h
+any_weaker p q (x ∷ xs) more h = weaker_at (p x) (q x) (list_any p xs) (list_any q xs) (more x) (any_weaker p q xs more) h
+
+split_at : (a x r s t : Bool) → (r ≡ true → (s ≡ true) ⊎ (t ≡ true)) → (x || r) ≡ true → (((a && x) || s) ≡ true) ⊎ (((not a && x) || t) ≡ true)
+split_at true true r s t rest h = inl refl
+split_at false true r s t rest h = inr refl
+split_at true false r s t rest h = rest h
+split_at false false r s t rest h = rest h
+
+-- one of which the first test is so, or one of which it isn't
+pub any_split : {X : Type 0} (a p : X → Bool) (xs : List X) → list_any p xs ≡ true → (list_any (λ x. a x && p x) xs ≡ true) ⊎ (list_any (λ x. not (a x) && p x) xs ≡ true)
+any_split a p [] h = absurd (false≢true h)
+any_split a p (x ∷ xs) h = split_at (a x) (p x) (list_any p xs) (list_any (λ y. a y && p y) xs) (list_any (λ y. not (a y) && p y) xs) (any_split a p xs) h
+
+-- ---- numbers that are left of a list
+pub filtered_has : (q : ℕ → Bool) (xs : List ℕ) (n : ℕ) → has_number (filter q xs) n ≡ true → (q n ≡ true) × (has_number xs n ≡ true)
+filtered_has q xs n h =
+    let o : IsFound xs (λ m. q m && (m == n)) = found (λ m. q m && (m == n)) xs (any_filtered (λ m. m == n) q xs h) in
+    let is : o.number ≡ n = eqb-true o.number n (and_second (q o.number) (o.number == n) o.so) in
+    (ap q (sym is) ∙ and_first (q o.number) (o.number == n) o.so, ap (has_number xs) (sym is) ∙ o.there)
+
+pub has_filtered : (q : ℕ → Bool) (xs : List ℕ) (n : ℕ) → q n ≡ true → has_number xs n ≡ true → has_number (filter q xs) n ≡ true
+has_filtered q xs n so there = filtered_any (λ m. m == n) q xs (passed (λ m. q m && (m == n)) xs n there (ap (λ (t : Bool). t && (n == n)) so ∙ eq-eqb n n refl))

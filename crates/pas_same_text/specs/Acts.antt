@@ -1,10 +1,15 @@
 -- WHAT AN ACT OWES: from a state that is the replay's it leads to one that is.
-use Rattle.std.specs.Prelude.{ℕ, ◌<◌, ◌≡◌, length, Some}
+use Rattle.std.specs.Prelude.{ℕ, ◌/◌, ◌%◌, ◌<◌, ◌≡◌, true, List, length, Some}
 use Rattle.pas_bits.specs.Masks.{HasMember}
 use Rattle.pas_profile.specs.Profiles.{IsValid}
+use Rattle.pas_profile.specs.declared.directory.Directory.{Directory}
+use Rattle.pas_profile.specs.declared.event.Event.{Event}
 use Rattle.pas_profile.specs.declared.profile.Profile.{Profile}
+use Rattle.pas_machine.specs.State.{Live, live_in, deed_in}
+use Rattle.pas_core.specs.Good.{IsPartOf}
+use Rattle.pas_steps.specs.Views.{usable_by_kind}
 use Rattle.pas_steps.specs.Clear.{HasNothing}
-use Rattle.pas_steps.specs.Lists.{part, Legal}
+use Rattle.pas_steps.specs.Lists.{part, visible, Legal}
 use Rattle.pas_segregated.specs.declared.slots.Slots.{Slots}
 use Rattle.pas_cache.specs.Caches.{AtRest}
 use Rattle.pas_cache.specs.Locals.{local_for}
@@ -43,6 +48,17 @@ StaysSame f act = (p p' : Progress) (w : World) → IsTaken f act p p' w → IsS
 -- .. where this is so of the replay before the act
 abbrev pub StaysSameWhere : (Progress → Type 0) → Profile → Act → Type 0
 StaysSameWhere Q f act = (p p' : Progress) (w : World) → Q p → IsTaken f act p p' w → IsSame f p' (acts_on f act w)
+
+-- each grain of a live block is one that blocks of its page's directory may cover
+pub record AreBlocksUsable (es : List Event) : Type 0 where
+  pub usable : (address : ℕ) (b : Live) → live_in es address ≡ Some b → (g : ℕ) → IsPartOf g address b → (d : Directory) → deed_in es (g / 256) ≡ Some d → usable_by_kind d.kind (g % 256) ≡ true
+
+abbrev pub HasUsableBlocks : Progress → Type 0
+HasUsableBlocks p = AreBlocksUsable (visible p.list)
+
+-- THE ACT KEEPS IT SO
+abbrev pub KeepsUsable : Profile → Act → Type 0
+KeepsUsable f act = (p p' : Progress) → IsValid f → IsBetween f p → IsBetween f p' → Advances f act p p' → HasUsableBlocks p → HasUsableBlocks p'
 
 -- thread k's log has room for one more
 abbrev pub HasLogRoom : ℕ → Progress → Type 0

@@ -28,6 +28,8 @@ pub record IsShown (e : Event) (w w' : World) : Type 0 where
   pub records : w'.records ≡ Record.Event e ∷ w.records
   pub names : w'.names ≡ w.names
   pub epoch : w'.epoch ≡ w.epoch
+  pub read : w'.read ≡ w.read
+  pub indexes : w'.indexes ≡ w.indexes
 
 -- another room is a reason where the free named one, and it is that
 abbrev pub IsEntryReason : Entry → Why → Type 0

@@ -1,33 +1,48 @@
 //! What each act owes: from a state of the text that is the replay's it leads to one that is. Each law is the contract of an empty function.
-ghost use Rattle.std.specs.Prelude.{ℕ, ◌+◌, ◌*◌, ◌<◌, ◌≡◌, List, ◌∷◌, ◌++◌, true};
+ghost use Rattle.std.specs.Prelude.{ℕ, ◌+◌, ◌*◌, ◌<◌, ◌≡◌, List, ◌∷◌, ◌++◌, true, Ok};
 ghost use Rattle.pas_profile.specs.declared.name.Name.{Name};
 ghost use Rattle.pas_profile.specs.declared.profile.Profile.{Profile};
-ghost use Rattle.pas_trace.specs.Acts.{Act};
+ghost use Rattle.pas_trace.specs.Acts.{Act, acts_of};
 ghost use Rattle.pas_trace.specs.EveryPlan.{IsThread};
-ghost use Rattle.pas_trace.specs.declared.plan.What.TheVariants.{Alloc, Free, Raw};
+ghost use Rattle.pas_trace.specs.declared.plan.What.TheVariants.{Alloc, Flush, Free, FreeSized, Raw, RawSized, Stop};
 ghost use Rattle.pas_profile.specs.Requests.{route_in};
 ghost use Rattle.pas_profile.specs.declared.directory.Route.{Route};
 ghost use Rattle.pas_profile.specs.Directories.{number_of};
-ghost use Rattle.pas_profile.specs.Profiles.{IsDirectoryOf};
+ghost use Rattle.pas_profile.specs.Profiles.{IsValid, IsPage, IsDirectoryOf};
 ghost use Rattle.pas_profile.specs.declared.directory.Directory.{Directory};
 ghost use Rattle.pas_profile.specs.declared.event.Event.{Event};
 ghost use Rattle.pas_machine.specs.Machine.{Run};
 ghost use Rattle.pas_free_log.specs.declared.ending.Outcome.{Outcome};
 ghost use Rattle.pas_free_log.specs.declared.log.Entry.{Entry};
 ghost use Rattle.pas_one_text.specs.Frees.{ends, flushes};
-ghost use Rattle.pas_same_text.specs.Same.{lives_in};
+ghost use Rattle.pas_same_text.specs.Same.{IsSame, lives_in};
+ghost use Rattle.pas_same_text.specs.Plans.{AllBetween, AllProved};
+ghost use Rattle.pas_same_text.specs.Searched.{IsSearch};
+ghost use Rattle.pas_search.specs.Searches.{FromOffered, ByDeed};
+ghost use Rattle.pas_one_text.specs.Searches.{searched};
+ghost use Rattle.pas_answers.specs.Reaching.{Reaches};
+ghost use Rattle.pas_answers.specs.Replays.{at_start};
+ghost use Rattle.pas_one_text.specs.Order.{acts_on, opened, replayed};
+ghost use Rattle.pas_one_text.specs.Reports.{text_of};
+ghost use Rattle.pas_report.specs.Lines.{lines_of};
+ghost use Rattle.pas_report.specs.Marks.{marks_after};
+ghost use Rattle.pas_report.specs.Reports.{report_text};
+ghost use Rattle.pas_report.specs.Rests.{AreTrueMarks};
+ghost use Rattle.pas_trace.specs.declared.plan.Op.{Op};
 ghost use Rattle.pas_same_text.specs.Entries.{IsShown, IsEntryEvent, HaveOutcomes, events_of_flush, are_unsized, onto, HasShown, IsFlushOf};
-ghost use Rattle.pas_steps.specs.Lists.{Whole, part, visible};
+ghost use Rattle.pas_steps.specs.Lists.{Whole, part, visible, Legal};
 ghost use Rattle.pas_steps.specs.Desks.{triples};
 ghost use Rattle.pas_steps.specs.declared.step.Made.{Made};
 ghost use Rattle.pas_free_log.specs.declared.noting.EndedRun.{EndedRun};
 ghost use Rattle.pas_steps.specs.Views.{has_right};
-ghost use Rattle.pas_core.specs.Rights.{eligible_bit};
+ghost use Rattle.pas_core.specs.Rights.{eligible_bit, free_of_page};
 ghost use Rattle.pas_answers.specs.Answers.{Progress};
 ghost use Rattle.pas_one_text.specs.State.{World, each};
 ghost use Rattle.pas_one_text.specs.Pages.{is_free, is_kept, is_offered, has_room};
-ghost use Rattle.pas_same_text.specs.Acts.{IsAtRest, StaysSame, StaysSameWhere, HasLogRoom, HasCachedSlot};
+ghost use Rattle.pas_same_text.specs.Acts.{IsAtRest, StaysSame, StaysSameWhere, HasUsableBlocks, KeepsUsable, HasLogRoom, HasCachedSlot};
 ghost use Rattle.pas_same_text.specs.Words.{free_bit};
+
+use pas_core::laws::Fitting;
 
 /// A mark is a line.
 #[tactic(auto, using(crate::proofs::SmallActs::phase_same, crate::proofs::SmallActs::close_same))]
@@ -54,7 +69,9 @@ pub fn settling_stays_the_same()
 /// request of its name was refused.
 pub fn frees_stay_the_same()
     ensures raw { (f : Profile) (line k : ℕ) (block : Name) → IsThread f k → StaysSameWhere (HasLogRoom k) f (Act.Operates (record { line = line; actor = k; what = Raw block })) }
+    ensures raw_sized { (f : Profile) (line k room : ℕ) (block : Name) → IsThread f k → StaysSameWhere (HasLogRoom k) f (Act.Operates (record { line = line; actor = k; what = RawSized room block })) }
     ensures named { (f : Profile) (line k name : ℕ) → IsThread f k → StaysSameWhere (HasLogRoom k) f (Act.Operates (record { line = line; actor = k; what = Free name })) }
+    ensures named_sized { (f : Profile) (line k name room : ℕ) → IsThread f k → StaysSameWhere (HasLogRoom k) f (Act.Operates (record { line = line; actor = k; what = FreeSized name room })) }
 {}
 
 /// Whenever all actors are at rest and the events, the live blocks and the caches are the same: a grain is free in the text exactly where its bit is set, and a
@@ -86,4 +103,49 @@ pub fn flushes_show_the_same()
     ensures events { (f : Profile) (k : ℕ) (logged : List Entry) (noted noted' : List EndedRun) (steps : List Made) (l : Whole) (w : World) → IsFlushOf f k logged noted noted' steps l w → (flushes f k w).events ≡ visible (triples k steps ++ l) }
     ensures live { (f : Profile) (k : ℕ) (logged : List Entry) (noted noted' : List EndedRun) (steps : List Made) (l : Whole) (w : World) → IsFlushOf f k logged noted noted' steps l w → (flushes f k w).live ≡ lives_in (flushes f k w).events }
     ensures epoch { (f : Profile) (k : ℕ) (logged : List Entry) (noted noted' : List EndedRun) (steps : List Made) (l : Whole) (w : World) → IsFlushOf f k logged noted noted' steps l w → (flushes f k w).epoch ≡ w.epoch }
+{}
+
+/// Where each live block lies on grains that blocks of its page's directory may cover: a flush lets each logged free take effect, and leaves the caches, the hints and
+/// the offers of the text. So does a free into a full log, which is flushed first, and a free into any log is logged at its end, or answered at once.
+pub fn flushes_stay_the_same()
+    ensures flush { (f : Profile) (line k : ℕ) → IsThread f k → StaysSameWhere HasUsableBlocks f (Act.Operates (record { line = line; actor = k; what = Flush })) }
+    ensures raw { (f : Profile) (line k : ℕ) (block : Name) → IsThread f k → StaysSameWhere HasUsableBlocks f (Act.Operates (record { line = line; actor = k; what = Raw block })) }
+    ensures raw_sized { (f : Profile) (line k room : ℕ) (block : Name) → IsThread f k → StaysSameWhere HasUsableBlocks f (Act.Operates (record { line = line; actor = k; what = RawSized room block })) }
+    ensures named { (f : Profile) (line k name : ℕ) → IsThread f k → StaysSameWhere HasUsableBlocks f (Act.Operates (record { line = line; actor = k; what = Free name })) }
+    ensures named_sized { (f : Profile) (line k name room : ℕ) → IsThread f k → StaysSameWhere HasUsableBlocks f (Act.Operates (record { line = line; actor = k; what = FreeSized name room })) }
+{}
+
+/// A stop is a flush after which all local allocators of the thread's cache go, in whatever order: by an operation of the thread, by the scavenger where the thread was idle
+/// for so many epochs, which is said, and at the close.
+pub fn stops_stay_the_same()
+    ensures stop { (f : Profile) (line k : ℕ) → IsThread f k → StaysSameWhere HasUsableBlocks f (Act.Operates (record { line = line; actor = k; what = Stop })) }
+    ensures idle { (f : Profile) (k n : ℕ) → IsThread f k → StaysSameWhere HasUsableBlocks f (Act.StopsIdle k n) }
+    ensures ends { (f : Profile) (k : ℕ) → IsThread f k → StaysSameWhere HasUsableBlocks f (Act.Ends k) }
+{}
+
+/// Whatever act a replay goes on by, each live block lies on grains that blocks of its page's directory may cover after it, where that was so before.
+pub fn blocks_stay_usable()
+    ensures { (f : Profile) (act : Act) → KeepsUsable f act }
+{}
+
+/// Acts one after the other keep the text, where all actors are at rest between them: all acts but a pass, and of requests those of a class for which a slot is
+/// cached. Before the first act the text's state is the replay's.
+pub fn acts_stay_the_same()
+    ensures start { (f : Profile) → IsSame f at_start (opened f) }
+    ensures acts { (f : Profile) (acts : List Act) (p p' : Progress) (is : Reaches f acts p p') (w : World) → IsValid f → AllBetween f acts p p' is → AllProved f acts p p' is → HasUsableBlocks p → IsSame f p w → IsSame f p' (each (acts_on f) acts w) }
+{}
+
+/// The text of a state that is the replay's is what is written of that replay: the lines of its records, and then the report of the machine that its events reach, with
+/// the marks after its list. So it is of a replay of such acts from the start, in their order.
+pub fn texts_are_told()
+    ensures state { (f : Profile) (p : Progress) (w : World) → IsValid f → Legal f p.list → AreTrueMarks f p.list → IsSame f p w → text_of f w ≡ lines_of p.records ++ report_text f (visible p.list) (marks_after p.list) }
+    ensures replay { (f : Profile) (phases : List (List Op)) (p : Progress) (is : Reaches f (acts_of f.threads phases) at_start p) → IsValid f → AllBetween f (acts_of f.threads phases) at_start p is → AllProved f (acts_of f.threads phases) at_start p is
+        → AreTrueMarks f p.list → text_of f (replayed f phases) ≡ lines_of p.records ++ report_text f (visible p.list) (marks_after p.list) }
+{}
+
+/// A search that found a page found the one that the text finds: the lowest offered page on which something fits, or where there is none, the lowest that nobody has.
+pub fn searches_choose_the_same<W: Fitting>(wanted: &W)
+    ensures offered { (f : Profile) (d : Directory) (k : ℕ) (p : Progress) (w : World) (fits : ℕ → List ℕ) (steps : List Made) (page : ℕ) → IsSearch (W.no_fit wanted.now) f d k p steps w fits → IsPage f page → FromOffered (W.no_fit wanted.now) d page steps
+        → (W.no_fit wanted.now (free_of_page p.list page) → ⊥) → searched f w d fits ≡ Ok page }
+    ensures deed { (f : Profile) (d : Directory) (k : ℕ) (p : Progress) (w : World) (fits : ℕ → List ℕ) (steps : List Made) (page : ℕ) → IsSearch (W.no_fit wanted.now) f d k p steps w fits → IsPage f page → ByDeed (W.no_fit wanted.now) f d page steps → searched f w d fits ≡ Ok page }
 {}

@@ -1,9 +1,9 @@
 -- Values of digits, digit by digit.
-use Rattle.std.proofs.Common.{◌≡◌, ℕ, ◌+◌, ◌-◌, ◌*◌, ◌^◌, ◌<◌, ◌≤◌, nat_lt, nat_le, Bool, true, false, ◌&&◌, if◌then◌else◌, List, [], ◌∷◌, Option, None, Some, refl, arith}
+use Rattle.std.proofs.Common.{◌≡◌, ℕ, ◌+◌, ◌-◌, ◌*◌, ◌^◌, ◌<◌, ◌≤◌, nat_lt, nat_le, Bool, true, false, ◌&&◌, if◌then◌else◌, List, [], ◌∷◌, ◌++◌, Option, None, Some, refl, arith}
 use Rattle.std.proofs.Math.Nat.{pow-le-pow_right}
 use Rattle.std.proofs.lemmas.Grind.{pow_more}
 use Rattle.std.proofs.lemmas.Bool.Decides.{nat_tests}
-use Rattle.std.proofs.lemmas.Bool.{le-leb, le-ltb, and_from}
+use Rattle.std.proofs.lemmas.Bool.{le-leb, le-ltb, and_from, and_parts}
 use Rattle.pas_trace.specs.Numbers.{is_digit, all_digits, value_from, is_hex, hex_value, all_hex, hex_from}
 
 -- the value of digits that follow a value, if they are digits and it is below 2^64
@@ -31,6 +31,15 @@ value-large v b bs ge =
 
 pub value-end : (v : ℕ) → v < 18446744073709551616 → value_after v [] ≡ Some v
 value-end v lt = grind arith
+
+-- one digit more at the end
+pub digits-add : (ds : List ℕ) (d : ℕ) → all_digits ds ≡ true → is_digit d ≡ true → all_digits (ds ++ d ∷ []) ≡ true
+digits-add [] d e digit = and_from (is_digit d) true digit refl
+digits-add (b ∷ ds) d e digit = let p = and_parts (is_digit b) (all_digits ds) e in and_from (is_digit b) (all_digits (ds ++ d ∷ [])) p.0 (digits-add ds d p.1 digit)
+
+pub value-add : (n : ℕ) (ds : List ℕ) (d : ℕ) → value_from n (ds ++ d ∷ []) ≡ 10 * value_from n ds + (d - 48)
+value-add n [] d = refl
+value-add n (b ∷ ds) d = value-add (10 * n + (b - 48)) ds d
 
 -- ---- hexadecimal
 abbrev pub hex_after : ℕ → List ℕ → Option ℕ

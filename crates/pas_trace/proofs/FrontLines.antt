@@ -4,24 +4,16 @@ use Rattle.std.proofs.Math.Nat.{pow-le-pow_right}
 use Rattle.std.proofs.lemmas.Grind.{pow_more}
 use Rattle.std.proofs.lemmas.List.{take_rest, take_more, drop_more, take-append-drop, length-take-le, get_or-take}
 use Rattle.std.proofs.lemmas.Bool.{le-leb, lt-ltb, leb-true, and_from, and_parts, ne_eqb}
-use Rattle.pas_trace.specs.Texts.{put_first, pieces, without_empty_end, without_empty, lines_of, words_of}
+use Rattle.pas_trace.specs.Texts.{pieces, without_empty, lines_of}
 use Rattle.pas_trace.specs.Numbers.{is_digit, all_digits, value_from, is_decimal, number_of}
 use Rattle.pas_trace.specs.Items.{below, from_one, trace_name, item2, item5, item_of_words}
 use Rattle.pas_trace.specs.FirstLines.{BeginsWith, FirstSays}
 use Rattle.pas_trace.specs.declared.item.Item.{Item}
 use Rattle.pas_trace.specs.declared.item.Item.TheVariants.{Operates}
 use Rattle.pas_trace.specs.declared.item.Wish.TheVariants.{Asks, Frees}
-use Rattle.pas_trace.proofs.Digits.{digit-is}
-use Rattle.pas_trace.proofs.Splits.{pieces-at, pieces-off, end-after, keeps}
-
--- ---- digits, one by one
-digits-add : (ds : List ℕ) (d : ℕ) → all_digits ds ≡ true → is_digit d ≡ true → all_digits (ds ++ d ∷ []) ≡ true
-digits-add [] d e digit = and_from (is_digit d) true digit refl
-digits-add (b ∷ ds) d e digit = let p = and_parts (is_digit b) (all_digits ds) e in and_from (is_digit b) (all_digits (ds ++ d ∷ [])) p.0 (digits-add ds d p.1 digit)
-
-value-add : (n : ℕ) (ds : List ℕ) (d : ℕ) → value_from n (ds ++ d ∷ []) ≡ 10 * value_from n ds + (d - 48)
-value-add n [] d = refl
-value-add n (b ∷ ds) d = value-add (10 * n + (b - 48)) ds d
+use Rattle.pas_trace.proofs.Digits.{digit-is, digits-add, value-add}
+use Rattle.pas_trace.proofs.Splits.{keeps}
+use Rattle.pas_trace.proofs.WordLines.{IsLine, Lacks, lacks-both, digits-lack, pieces-until, pieces-only, lines-until}
 
 -- the first so many bytes are digits of this value
 pub record AreDigits (text : List ℕ) (count value : ℕ) : Type 0 where
@@ -85,40 +77,9 @@ one-found (x ∷ y ∷ rest) end two ended lo hi =
     number-found (x ∷ y ∷ rest) 1 (x - 48) end (and_from (is_digit x) true (digit-is x lo hi) refl) value (omega arith) (omega arith) (omega arith) ended (λ many. absurd (omega arith))
 
 -- ---- words and the end of the line
--- no byte is the separator
-abbrev Lacks : ℕ → List ℕ → Type 0
-Lacks s [] = Unit {0}
-Lacks s (b ∷ bs) = (b ≢ s) × Lacks s bs
-
-lacks-both : (s : ℕ) (xs ys : List ℕ) → Lacks s xs → Lacks s ys → Lacks s (xs ++ ys)
-lacks-both s [] ys a b = b
-lacks-both s (x ∷ xs) ys a b = (a.0, lacks-both s xs ys a.1 b)
-
-digits-lack : (s : ℕ) (w : List ℕ) → s < 48 → all_digits w ≡ true → Lacks s w
-digits-lack s [] small e = tt
-digits-lack s (b ∷ bs) small e =
-    let p = and_parts (is_digit b) (all_digits bs) e in
-    let lo : 48 ≤ b = leb-true 48 b (and_parts (nat_le 48 b) (nat_le b 57) p.0).0 in
-    (λ same. omega (arith, same, lo), digits-lack s bs small p.1)
-
-pieces-until : (s : ℕ) (xs ys : List ℕ) → Lacks s xs → pieces s (xs ++ s ∷ ys) ≡ xs ∷ pieces s ys
-pieces-until s [] ys h = pieces-at s s ys refl
-pieces-until s (x ∷ xs) ys h = pieces-off s x (xs ++ s ∷ ys) h.0 ∙ ap (put_first x) (pieces-until s xs ys h.1)
-
-pieces-only : (s : ℕ) (xs : List ℕ) → Lacks s xs → pieces s xs ≡ xs ∷ []
-pieces-only s [] h = refl
-pieces-only s (x ∷ xs) h = pieces-off s x xs h.0 ∙ ap (put_first x) (pieces-only s xs h.1)
-
 number-some : (w : List ℕ) (n : ℕ) → number_of w ≡ Some n → 0 < length w
 number-some [] n e = absurd (cc)
 number-some (b ∷ bs) n e = omega arith
-
--- the text is a line of these words, the end of the line, and the rest
-record IsLine (text : List ℕ) (words : List (List ℕ)) (rest : List ℕ) : Type 0 where
-  line : List ℕ
-  text_is : text ≡ line ++ 10 ∷ rest
-  whole : Lacks 10 line
-  words_are : words_of line ≡ words
 
 line-end : (text : List ℕ) (n : ℕ) (rest : List ℕ) (b : BeginsWith text n 10 rest) → IsLine text (b.word ∷ []) rest
 line-end text n rest b = record {
@@ -141,9 +102,6 @@ line-more text n after words rest b l =
     word-more text b.word after words rest b.text_is (digits-lack 10 b.word (omega arith) b.digits) (digits-lack 32 b.word (omega arith) b.digits) (number-some b.word n b.number) l
 
 -- ---- the first line
-lines-until : (line rest : List ℕ) → Lacks 10 line → lines_of (line ++ 10 ∷ rest) ≡ line ∷ lines_of rest
-lines-until line rest whole = ap without_empty_end (pieces-until 10 line rest whole) ∙ end-after line 10 rest
-
 line-says : (version b : ℕ) (text : List ℕ) (words : List (List ℕ)) (rest : List ℕ) (item : Item) → 35 < b → IsLine text words rest
     → ((started : Bool) → item_of_words version started ((b ∷ []) ∷ words) ≡ Ok item) → FirstSays version (b ∷ 32 ∷ text) item rest
 unfolding word-more

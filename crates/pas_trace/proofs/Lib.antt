@@ -1,11 +1,12 @@
-mod Splits
+pub mod Splits
+pub mod WordLines
 mod FrontLines
-mod Digits
+pub mod Digits
 mod Gathering
 pub mod Costs
 mod Checking
 mod Headers
-mod PassedChecks
+pub mod PassedChecks
 mod Telling
 mod Adding
 mod Reading

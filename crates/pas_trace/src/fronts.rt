@@ -93,7 +93,7 @@ fn front_free(text: &[u8]) -> Option<(Item, &[u8])>
 /// What the first line of a text says, and the text after it. None for all lines but those that ask for a block or free one by its
 /// name, with single spaces and numbers of up to 18 digits in range: where it answers, it answers the item of the line.
 #[inline(always)]
-pub fn front_item(text: &[u8]) -> Option<(Item, &[u8])>
+pub(crate) fn front_item(text: &[u8]) -> Option<(Item, &[u8])>
     ensures { IfSome result (λ p. (version : ℕ) → FirstSays version text.now p.0 p.1.now) }
 {
     if text.len() < 2 || text[1] != b' ' {

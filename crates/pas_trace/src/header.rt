@@ -98,7 +98,7 @@ fn header_with(
 }
 
 /// The version and the region that a header names: `pas V pages P threads T heaps H age A`. None for any other line.
-pub fn read_header(line: &[u8]) -> Option<Header>
+pub(crate) fn read_header(line: &[u8]) -> Option<Header>
     ensures { result ≡ header_of line.now }
 {
     let (format, version, rest) = word_pair(line)?;

@@ -288,7 +288,7 @@ fn item_of_words(version: u8, started: bool, line: &[u8]) -> Result<Item, Reason
 /// What a line from the second on of a text of this version says, or BadWord or BadNumber. `started` says that an operation or a `phase`
 /// line stands before. One pass.
 #[inline]
-pub fn read_item(version: u8, started: bool, line: &[u8]) -> Result<Item, Reason>
+pub(crate) fn read_item(version: u8, started: bool, line: &[u8]) -> Result<Item, Reason>
     ensures { result ≡ item_of_line version started line.now }
 {
     if !line.is_empty() && line[0] == b'#' {

@@ -61,7 +61,7 @@ fn value_of_hex(digits: &[u8]) -> Option<u64>
 }
 
 /// The address that a word is: `0x` and eight lower-case hexadecimal digits. None for any other word.
-pub fn address(word: &[u8]) -> Option<u64>
+pub(crate) fn address(word: &[u8]) -> Option<u64>
     ensures value { result ≡ address_of_word word.now }
     ensures small { IfSome result (λ n. n < 2 ^ 32) }
 {

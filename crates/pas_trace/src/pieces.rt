@@ -3,7 +3,7 @@ ghost use Rattle.std.specs.Prelude.{◌≡◌, ◌≢◌, ◌<◌, ◌≤◌, �
 
 /// How many bytes stand before the first separator; all of them where there is none. One pass.
 #[inline]
-pub fn piece_length(bytes: &[u8], separator: u8) -> usize
+pub(crate) fn piece_length(bytes: &[u8], separator: u8) -> usize
     ensures within { result ≤ length bytes.now }
     ensures before { (k : ℕ) → k < result → slice_index bytes.now k ≢ separator }
     ensures ended { result < length bytes.now → slice_index bytes.now result ≡ separator }

@@ -6,7 +6,7 @@ use pas_profile::limits::{GRAIN_BYTES, MOST_BITFIT, PAGE_BYTES};
 
 /// Whether the alignment is a power of two from 16 to 4,096: a divisor of 4,096 is a power of two.
 #[inline(always)]
-pub fn is_aligning(align: u64) -> bool
+pub(crate) fn is_aligning(align: u64) -> bool
     ensures { result ≡ is_alignment align }
 {
     align >= GRAIN_BYTES as u64 && align <= PAGE_BYTES as u64 && PAGE_BYTES % align as u32 == 0
@@ -14,7 +14,7 @@ pub fn is_aligning(align: u64) -> bool
 
 /// How many records an allocation of so many bytes may make, in a region of whatever classes: 2, or one and one for each whole page.
 #[inline(always)]
-pub fn cost_of_allocation(size: u32) -> u32
+pub(crate) fn cost_of_allocation(size: u32) -> u32
     requires { size ≤ 2 ^ 26 }
     ensures value { result ≡ cost_of_size size }
     ensures few { result ≤ 16385 }

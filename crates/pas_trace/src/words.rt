@@ -22,7 +22,7 @@ fn leading_spaces(bytes: &[u8]) -> usize
 
 /// The first word of a line and the bytes after it. None exactly where the line has no word.
 #[inline]
-pub fn next_word(line: &[u8]) -> Option<(&[u8], &[u8])>
+pub(crate) fn next_word(line: &[u8]) -> Option<(&[u8], &[u8])>
     ensures { MatchOption result (words_of line.now ≡ []) (λ p. words_of line.now ≡ p.0.now ∷ words_of p.1.now) }
 {
     let start = leading_spaces(line);
@@ -40,7 +40,7 @@ pub fn next_word(line: &[u8]) -> Option<(&[u8], &[u8])>
 
 /// Whether two words are the same bytes.
 #[inline]
-pub fn is_word(word: &[u8], other: &[u8]) -> bool
+pub(crate) fn is_word(word: &[u8], other: &[u8]) -> bool
     ensures { result ≡ same_bytes word.now other.now }
 {
     word == other

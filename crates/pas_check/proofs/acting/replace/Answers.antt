@@ -1,4 +1,4 @@
-use Rattle.std.proofs.Common.{◌≡◌, ℕ, Bool, None, Some, refl, arith}
+use Rattle.std.proofs.Common.{Bool, None, Some, refl, arith}
 use Rattle.pas_profile.specs.declared.profile.Profile.{Profile}
 use Rattle.pas_trace.specs.Acts.{Act}
 use Rattle.pas_trace.specs.declared.item.Request.{Request}

@@ -1,0 +1,275 @@
+-- THE ACTS THAT GIVE BACK: flushes, stops, stops of idle threads, the close, and frees into any log.
+use Rattle.std.proofs.Common.{◌≡◌, ℕ, ◌+◌, ◌%◌, ◌≤◌, ◌==◌, nat_le, Bool, true, false, if◌then◌else◌, List, [], ◌∷◌, ◌++◌, length, Option, None, Some, inl, inr, refl, ap, sym, ◌∙◌, subst, append_assoc, arith}
+use Rattle.std.proofs.lemmas.Bool.{false≢true, eq-eqb}
+use Rattle.std.proofs.lemmas.Bool.Decides.{nat_tests}
+use Rattle.std.proofs.lemmas.List.Elements.{All-nil}
+use Rattle.pas_profile.specs.Blocks.{address_of}
+use Rattle.pas_profile.specs.Profiles.{IsValid}
+use Rattle.pas_profile.specs.declared.name.Block.{Block}
+use Rattle.pas_profile.specs.declared.name.Name.{Name}
+use Rattle.pas_profile.specs.declared.profile.Profile.{Profile}
+use Rattle.pas_steps.specs.Events.{events_by}
+use Rattle.pas_steps.specs.Lists.{part, visible}
+use Rattle.pas_steps.specs.Views.{View}
+use Rattle.pas_steps.specs.declared.step.Made.{Made}
+use Rattle.pas_free_log.specs.Conditions.{IsEntryOf}
+use Rattle.pas_free_log.specs.Logs.{entry_of, sized_entry}
+use Rattle.pas_free_log.specs.declared.log.Entry.{Entry}
+use Rattle.pas_free_log.specs.declared.noting.EndedRun.{EndedRun}
+use Rattle.pas_cache.specs.Caches.{AtRest}
+use Rattle.pas_cache.specs.Calls.{TakesEntry}
+use Rattle.pas_cache.specs.Changes.{LogsEntry, EmptiesFull}
+use Rattle.pas_cache.specs.Contents.{Cached}
+use Rattle.pas_cache.specs.Locals.{RestsWith}
+use Rattle.pas_segregated.specs.declared.slots.Slots.{Slots}
+use Rattle.pas_report.specs.declared.record.Record.{Record}
+use Rattle.pas_report.specs.declared.record.Said.{Said as TheSaid}
+use Rattle.pas_report.specs.declared.record.Said.TheVariants as Said
+use Rattle.pas_trace.specs.Acts.{Act}
+use Rattle.pas_trace.specs.EveryPlan.{IsThread}
+use Rattle.pas_trace.specs.declared.plan.What.TheVariants.{Free, FreeSized, Raw, RawSized, Remake, Flush, Stop}
+use Rattle.pas_answers.specs.Answers.{Progress, Named, named, Answer, having, IsRemadeBy, IsFreed, IsFreedBy, IsFlushed, IsStopped, standing_for, records_of, said_by, with_records, with_steps, after_answer, after_stop, room_noted}
+use Rattle.pas_answers.specs.Answers.{with_cache as with_cached}
+use Rattle.pas_one_text.specs.State.{World, Cache, cache_of, set_cache, log_of, says, names_it}
+use Rattle.pas_one_text.specs.Order.{keeps_block, replaces, remakes}
+use Rattle.pas_one_text.specs.Frees.{adds, frees, frees_what, frees_named, flushes, stops}
+use Rattle.pas_one_text.specs.Passes.{stops_idle}
+use Rattle.pas_same_text.specs.Same.{IsSame, IsSameCache}
+use Rattle.pas_same_text.specs.Acts.{IsBetween, IsTaken, AreBlocksUsable, HasUsableBlocks, StaysSameWhere}
+use Rattle.pas_same_text.proofs.CacheLists.{same_own, same_with, same_again}
+use Rattle.pas_same_text.proofs.FlushActs.{flush_same}
+use Rattle.pas_same_text.proofs.Frames.{unchanged, pages_next}
+use Rattle.pas_same_text.specs.Plans.{IsIdleRemake}
+use Rattle.pas_same_text.proofs.LoggedFrees.{after_with, said_same, nothing_more, page_inside, freed_is, refused_same, skipped_same, freed_same}
+use Rattle.pas_same_text.proofs.SmallActs.{says_same, cache_state}
+use Rattle.pas_same_text.proofs.StopActs.{stop_same}
+
+-- ---- a replay of the same list, with the same caches
+same_between : (f : Profile) (p : Progress) (k : ℕ) (steps : List Made) (c : Cached) (names : List Named) (records : List Record) → IsBetween f (with_records (record (with_steps p k steps c) { names = names }) records) → IsBetween f (with_steps p k steps c)
+same_between f p k steps c names records b = record { legal = b.legal; threads = b.threads; scavenger = b.scavenger }
+
+-- ---- a flush
+module _ (f : Profile) (k : ℕ) (p p' : Progress) (w : World) (usable : HasUsableBlocks p) (thread : IsThread f k) where
+  flushed : (a : Answer) → IsFlushed k (p.caches k) a.cache a.steps → a.said ≡ None → a.names ≡ p.names → p' ≡ after_answer p k a → IsValid f → IsBetween f p → IsBetween f p' → IsSame f p w → IsSame f p' (flushes f k w)
+  flushed a is said names reached valid before after same =
+      let rs : List Record = records_of (events_by k (part k p.list) a.steps) in
+      let to : p' ≡ with_records (with_steps p k a.steps a.cache) (rs ++ []) =
+      reached ∙ (ap (λ (s : Option TheSaid). after_with p k a.steps s a.names a.cache) said ∙ ap (λ (ns : List Named). after_with p k a.steps None ns a.cache) names) in
+      let there : IsBetween f (with_steps p k a.steps a.cache) = same_between f p k a.steps a.cache p.names (rs ++ []) (subst (IsBetween f) to after) in
+      subst (λ (q : Progress). IsSame f q (flushes f k w)) (sym to)
+      (subst (λ (xs : List Record). IsSame f (with_records (with_steps p k a.steps a.cache) xs) (flushes f k w)) (sym (nothing_more rs))
+      (flush_same f k p w a.steps a.cache valid thread before same usable is.empties is.cache there))
+
+  -- ---- a stop, after which this is said
+  stopped_all : (steps : List Made) (c' : Cached) → IsStopped k (p.caches k) c' steps → IsValid f → IsBetween f p → IsBetween f (with_steps p k steps c') → IsSame f p w
+      → IsSame f (with_records (with_steps p k steps c') (records_of (events_by k (part k p.list) steps))) (stops f k w)
+  stopped_all steps c' is valid before after same =
+      subst (λ (ms : List Made). IsSame f (with_records (with_steps p k ms c') (records_of (events_by k (part k p.list) ms))) (stops f k w)) (sym is.steps_are)
+      (stop_same f k p w is.flushed is.stopped c' valid thread before same usable is.empties is.stops is.kinds is.silent is.cache (subst (λ (ms : List Made). IsBetween f (with_steps p k ms c')) is.steps_are after))
+
+  stopped_plain : (steps : List Made) (c' : Cached) → IsStopped k (p.caches k) c' steps → p' ≡ with_records (with_steps p k steps c') (records_of (events_by k (part k p.list) steps) ++ []) → IsValid f → IsBetween f p → IsBetween f p' → IsSame f p w → IsSame f p' (stops f k w)
+  stopped_plain steps c' is reached valid before after same =
+      let rs : List Record = records_of (events_by k (part k p.list) steps) in
+      let there : IsBetween f (with_steps p k steps c') = same_between f p k steps c' p.names (rs ++ []) (subst (IsBetween f) reached after) in
+      subst (λ (q : Progress). IsSame f q (stops f k w)) (sym reached)
+      (subst (λ (xs : List Record). IsSame f (with_records (with_steps p k steps c') xs) (stops f k w)) (sym (nothing_more rs)) (stopped_all steps c' is valid before there same))
+
+  stopped_said : (steps : List Made) (c' : Cached) (r : Record) → IsStopped k (p.caches k) c' steps → p' ≡ after_stop p k steps c' (r ∷ []) → IsValid f → IsBetween f p → IsBetween f p' → IsSame f p w → IsSame f p' (says r (stops f k w))
+  stopped_said steps c' r is reached valid before after same =
+      let rs : List Record = records_of (events_by k (part k p.list) steps) in
+      let q : Progress = with_steps p k steps c' in
+      let there : IsBetween f q = same_between f p k steps c' p.names (rs ++ r ∷ []) (subst (IsBetween f) reached after) in
+      subst (λ (x : Progress). IsSame f x (says r (stops f k w))) (sym (reached ∙ ap (λ (xs : List Record). record q { records = xs }) (sym (append_assoc p.records rs (r ∷ [])))))
+      (says_same f (with_records q rs) (stops f k w) r (stopped_all steps c' is valid before there same))
+
+pub flush_act : (f : Profile) (line k : ℕ) → IsThread f k → StaysSameWhere HasUsableBlocks f (Act.Operates (record { line = line; actor = k; what = Flush }))
+flush_act f line k is p p' w usable taken = flushed f k p p' w usable is taken.advances.0 taken.advances.1.0 taken.advances.1.1 taken.advances.1.2 taken.advances.2 taken.valid taken.before taken.after taken.same
+
+pub stop_act : (f : Profile) (line k : ℕ) → IsThread f k → StaysSameWhere HasUsableBlocks f (Act.Operates (record { line = line; actor = k; what = Stop }))
+stop_act f line k is p p' w usable taken =
+    let a : Answer = taken.advances.0 in
+    let to : p' ≡ with_records (with_steps p k a.steps a.cache) (records_of (events_by k (part k p.list) a.steps) ++ []) =
+    taken.advances.2 ∙ (ap (λ (s : Option TheSaid). after_with p k a.steps s a.names a.cache) taken.advances.1.1 ∙ ap (λ (ns : List Named). after_with p k a.steps None ns a.cache) taken.advances.1.2) in
+    stopped_plain f k p p' w usable is a.steps a.cache taken.advances.1.0 to taken.valid taken.before taken.after taken.same
+
+pub end_act : (f : Profile) (k : ℕ) → IsThread f k → StaysSameWhere HasUsableBlocks f (Act.Ends k)
+end_act f k is p p' w usable taken = stopped_plain f k p p' w usable is taken.advances.0 taken.advances.1 taken.advances.2 taken.advances.3 taken.valid taken.before taken.after taken.same
+
+-- ---- a thread that is idle
+idle_test : (f : Profile) (k n : ℕ) (p : Progress) (w : World) → IsThread f k → IsSame f p w → nat_le ((cache_of w k).began + n) w.read ≡ nat_le ((p.caches k).idle_since + n) p.epoch
+idle_test f k n p w is same = ap (λ (b : ℕ). nat_le (b + n) w.read) (same.caches.each k is).began ∙ ap (λ (r : ℕ). nat_le ((p.caches k).idle_since + n) r) same.read
+
+idle_by : (f : Profile) (k n : ℕ) (w : World) (t : Bool) → nat_le ((cache_of w k).began + n) w.read ≡ t → stops_idle f k n w ≡ (if t then says (Record.Said 0 (Said.Stopped k)) (stops f k w) else w)
+idle_by f k n w t e = ap (λ (u : Bool). if u then says (Record.Said 0 (Said.Stopped k)) (stops f k w) else w) e
+
+pub idle_act : (f : Profile) (k n : ℕ) → IsThread f k → StaysSameWhere HasUsableBlocks f (Act.StopsIdle k n)
+idle_act f k n is p p' w usable taken = elim taken.advances [
+  | inl h ↦
+      let le : (p.caches k).idle_since + n ≤ p.epoch = h.0 in
+      let test : nat_le ((p.caches k).idle_since + n) p.epoch ≡ true = grind (arith, nat_tests, le) in
+      subst (λ (x : World). IsSame f p' x) (sym (idle_by f k n w true (idle_test f k n p w is taken.same ∙ test)))
+      (stopped_said f k p p' w usable is h.1 h.2 (Record.Said 0 (Said.Stopped k)) h.3 h.4 taken.valid taken.before taken.after taken.same)
+  | inr h ↦
+      let test : nat_le ((p.caches k).idle_since + n) p.epoch ≡ false = not_le ((p.caches k).idle_since + n) p.epoch h.0 in
+      subst (λ (x : World). IsSame f p' x) (sym (idle_by f k n w false (idle_test f k n p w is taken.same ∙ test))) (subst (λ (q : Progress). IsSame f q w) (sym h.1) taken.same)
+]
+  where
+    by_test : (a b : ℕ) (t : Bool) → nat_le a b ≡ t → (a ≤ b → ⊥) → t ≡ false
+    by_test a b true e past = let le : a ≤ b = grind (arith, nat_tests, e) in absurd (past le)
+    by_test a b false e past = refl
+
+    not_le : (a b : ℕ) → (a ≤ b → ⊥) → nat_le a b ≡ false
+    not_le a b past = by_test a b (nat_le a b) refl past
+
+-- ==== FREES INTO ANY LOG
+-- an actor that is at rest with a cache is so with an empty log
+rest_emptied : (f : Profile) (c c' : Cached) (noted : List EndedRun) (v : View) → c'.locals ≡ c.locals → AtRest f c' v → AtRest f (record c { log = []; noted = noted }) v
+rest_emptied f c c' noted v is rest = record {
+  locals = subst (λ (ls : List Slots). RestsWith f ls v) is rest.locals;
+  few = subst (λ (ls : List Slots). length ls ≤ 32) is rest.few;
+  entries = All-nil (IsEntryOf f);
+  few_entries = omega arith;
+}
+
+module _ (f : Profile) (k : ℕ) (entry : Entry) (p : Progress) (w : World) (c' : Cached) (steps : List Made) (thread : IsThread f k) (valid : IsValid f) (before : IsBetween f p) (same : IsSame f p w) (usable : AreBlocksUsable (visible p.list))
+    (after : IsBetween f (with_steps p k steps c')) (full : nat_le 64 (length (p.caches k).log) ≡ true) (takes : TakesEntry f k (p.caches k) c' entry steps) where
+  abbrev c : Cached
+  c = p.caches k
+
+  abbrev emptied : Cached
+  emptied = record c { log = []; noted = c'.noted }
+
+  logged : LogsEntry k c.log c'.log c.noted c'.noted entry steps
+  logged = takes.logs
+
+  both : EmptiesFull true k c.log logged.kept c.noted c'.noted steps
+  both = subst (λ (t : Bool). EmptiesFull t k c.log logged.kept c.noted c'.noted steps) full logged.emptied
+
+  rest_at : (j : ℕ) (t : Bool) (v : View) → AtRest f (if t then c' else p.caches j) v → AtRest f (if t then emptied else p.caches j) v
+  rest_at j true v rest = rest_emptied f c c' c'.noted v (ap (λ (d : Cached). d.locals) takes.cache) rest
+  rest_at j false v rest = rest
+
+  abbrev q : Progress
+  q = with_steps p k steps emptied
+
+  between : IsBetween f q
+  between = record { legal = after.legal; threads = λ j is. rest_at j (j == k) (part j q.list) (after.threads j is); scavenger = after.scavenger }
+
+  flushed_first : IsSame f (with_records q (records_of (events_by k (part k p.list) steps))) (flushes f k w)
+  flushed_first = flush_same f k p w steps emptied valid thread before same usable both.0 refl between
+
+  abbrev v : World
+  v = flushes f k w
+
+  own : IsSameCache emptied (cache_of v k)
+  own = subst (λ (d : Cached). IsSameCache d (cache_of v k)) (same_own p.caches k emptied) (flushed_first.caches.each k thread)
+
+  abbrev new : Cache
+  new = record (cache_of v k) { log = log_of v k ++ entry ∷ [] }
+
+  log_is : c'.log ≡ entry ∷ []
+  log_is = logged.log_is ∙ ap (λ (es : List Entry). es ++ entry ∷ []) both.1
+
+  cache_is : c' ≡ record c { log = entry ∷ []; noted = c'.noted }
+  cache_is = takes.cache ∙ ap (λ (es : List Entry). record c { log = es; noted = c'.noted }) log_is
+
+  new_same : IsSameCache c' new
+  new_same = subst (λ (d : Cached). IsSameCache d new) (sym cache_is) (record { locals = own.locals; log = ap (λ (es : List Entry). es ++ entry ∷ []) own.log; noted = own.noted; began = own.began })
+
+  added : IsSame f (after_with p k steps None p.names c') (adds k entry v)
+  added = record {
+    pages = pages_next f q.list q.list v (set_cache k new v) flushed_first.pages (unchanged q.list) (cache_state v k new refl);
+    caches = same_again f p.caches (adds k entry v).caches k emptied c' (same_with f (with_cached p.caches k emptied) v.caches k c' new thread flushed_first.caches new_same);
+    names = flushed_first.names;
+    records = ap (λ (rs : List Record). p.records ++ rs) (nothing_more (records_of (events_by k (part k p.list) steps))) ∙ flushed_first.records;
+    epoch = flushed_first.epoch;
+    read = flushed_first.read;
+  }
+
+  text : frees f k entry w ≡ adds k entry v
+  text =
+      let inside = page_inside f.pages (address_of entry.name) takes.region.page.0 takes.region.page.1 in
+      let test : nat_le 64 (length (log_of w k)) ≡ true = ap (λ (es : List Entry). nat_le 64 (length es)) (same.caches.each k thread).log ∙ full in
+      freed_is f k entry w true true inside (eq-eqb (address_of entry.name % 16) 0 takes.region.aligned) ∙ ap (λ (t : Bool). adds k entry (if t then flushes f k w else w)) test
+
+  pub full_same : IsSame f (after_with p k steps None p.names c') (frees f k entry w)
+  full_same = subst (λ (x : World). IsSame f (after_with p k steps None p.names c') x) (sym text) added
+
+module _ (f : Profile) (k : ℕ) (entry : Entry) (p : Progress) (w : World) (c' : Cached) (steps : List Made) (thread : IsThread f k) (valid : IsValid f) (before : IsBetween f p) (same : IsSame f p w) (usable : AreBlocksUsable (visible p.list))
+    (after : IsBetween f (with_steps p k steps c')) where
+  by_room : (t : Bool) → nat_le 64 (length (p.caches k).log) ≡ t → TakesEntry f k (p.caches k) c' entry steps → IsSame f (after_with p k steps None p.names c') (frees f k entry w)
+  by_room true e takes = full_same f k entry p w c' steps thread valid before same usable after e takes
+  by_room false e takes = freed_same f k entry p w c' steps None thread same e (inl (takes, refl))
+
+  pub freed_any : (said : Option TheSaid) → IsFreed f k (p.caches k) c' entry steps said → IsSame f (after_with p k steps said p.names c') (frees f k entry w)
+  freed_any said (inl t) = subst (λ (s : Option TheSaid). IsSame f (after_with p k steps s p.names c') (frees f k entry w)) (sym t.1) (by_room (nat_le 64 (length (p.caches k).log)) refl t.0)
+  freed_any said (inr t) = subst (λ (s : Option TheSaid). IsSame f (after_with p k steps s p.names c') (frees f k entry w)) (sym t.2) (refused_same f k entry p w c' steps t.0 same t.1)
+
+-- ---- the acts
+module _ (f : Profile) (k : ℕ) (p p' : Progress) (w : World) (thread : IsThread f k) (valid : IsValid f) (before : IsBetween f p) (after : IsBetween f p') (same : IsSame f p w) (usable : HasUsableBlocks p) (a : Answer) (names : a.names ≡ p.names) (reached : p' ≡ after_answer p k a) where
+  to : p' ≡ after_with p k a.steps a.said p.names a.cache
+  to = reached ∙ ap (λ (ns : List Named). after_with p k a.steps a.said ns a.cache) names
+
+  there : IsBetween f (with_steps p k a.steps a.cache)
+  there = same_between f p k a.steps a.cache p.names (records_of (events_by k (part k p.list) a.steps) ++ said_by k a.said) (subst (IsBetween f) to after)
+
+  pub entry_any : (entry : Entry) → IsFreed f k (p.caches k) a.cache entry a.steps a.said → IsSame f p' (frees f k entry w)
+  entry_any entry freed = subst (λ (q : Progress). IsSame f q (frees f k entry w)) (sym to) (freed_any f k entry p w a.cache a.steps thread valid before same usable there a.said freed)
+
+  named_by : (name : ℕ) (size : Option ℕ) (meant : Option (Option Block)) → IsFreedBy f k (p.caches k) a.cache name size meant a.steps a.said → IsSame f p' (frees_what f k name (room_noted size) meant w)
+  named_by name size None freed = absurd freed
+  named_by name size (Some None) freed = subst (λ (q : Progress). IsSame f q (says (Record.Said k (Said.Skipped name)) w)) (sym to) (skipped_same f k name p w a.cache a.steps a.said same freed.0 freed.1 freed.2)
+  named_by name size (Some (Some block)) freed = entry_any (sized_entry block.name (room_noted size)) freed
+
+  pub name_any : (name : ℕ) (size : Option ℕ) → IsFreedBy f k (p.caches k) a.cache name size (standing_for p.names name) a.steps a.said → IsSame f p' (frees_named f k name (room_noted size) w)
+  name_any name size freed = subst (λ (ns : List Named). IsSame f p' (frees_what f k name (room_noted size) (standing_for ns name) w)) (sym same.names) (named_by name size (standing_for p.names name) freed)
+
+pub raw_act : (f : Profile) (line k : ℕ) (block : Name) → IsThread f k → StaysSameWhere HasUsableBlocks f (Act.Operates (record { line = line; actor = k; what = Raw block }))
+raw_act f line k block is p p' w usable taken = entry_any f k p p' w is taken.valid taken.before taken.after taken.same usable taken.advances.0 taken.advances.1.1 taken.advances.2 (entry_of block) taken.advances.1.0
+
+pub raw_sized_act : (f : Profile) (line k room : ℕ) (block : Name) → IsThread f k → StaysSameWhere HasUsableBlocks f (Act.Operates (record { line = line; actor = k; what = RawSized room block }))
+raw_sized_act f line k room block is p p' w usable taken = entry_any f k p p' w is taken.valid taken.before taken.after taken.same usable taken.advances.0 taken.advances.1.1 taken.advances.2 (sized_entry block room) taken.advances.1.0
+
+pub free_act : (f : Profile) (line k name : ℕ) → IsThread f k → StaysSameWhere HasUsableBlocks f (Act.Operates (record { line = line; actor = k; what = Free name }))
+free_act f line k name is p p' w usable taken = name_any f k p p' w is taken.valid taken.before taken.after taken.same usable taken.advances.0 taken.advances.1.1 taken.advances.2 name None taken.advances.1.0
+
+pub free_sized_act : (f : Profile) (line k name room : ℕ) → IsThread f k → StaysSameWhere HasUsableBlocks f (Act.Operates (record { line = line; actor = k; what = FreeSized name room }))
+free_sized_act f line k name room is p p' w usable taken = name_any f k p p' w is taken.valid taken.before taken.after taken.same usable taken.advances.0 taken.advances.1.1 taken.advances.2 name (Some room) taken.advances.1.0
+
+-- ---- reallocations that do nothing
+named_same : (f : Profile) (k name : ℕ) (o : Option Block) (said : TheSaid) (p : Progress) (w : World) → IsSame f p w → IsSame f (after_with p k [] (Some said) (named name o ∷ p.names) (p.caches k)) (names_it name o (says (Record.Said k said) w))
+named_same f k name o said p w same =
+    let to : IsSame f (after_with p k [] (Some said) p.names (p.caches k)) (says (Record.Said k said) w) = said_same f k said p w same in record {
+      pages = pages_next f p.list p.list w (names_it name o (says (Record.Said k said) w)) same.pages (unchanged p.list) (record { events = refl; live = refl; hinted = refl; locals = refl });
+      caches = to.caches;
+      names = ap (λ (ns : List Named). named name o ∷ ns) same.names;
+      records = to.records;
+      epoch = to.epoch;
+      read = to.read;
+    }
+
+remade_as : (f : Profile) (k name : ℕ) (o : Option Block) (said : TheSaid) (p p' : Progress) (w : World) (a : Answer) → IsSame f p w → p' ≡ after_answer p k a → a.steps ≡ [] → a.cache ≡ p.caches k → a.said ≡ Some said → a.names ≡ named name o ∷ p.names
+    → IsSame f p' (names_it name o (says (Record.Said k said) w))
+remade_as f k name o said p p' w a same reached steps cache is names =
+    subst (λ (q : Progress). IsSame f q (names_it name o (says (Record.Said k said) w)))
+    (sym (reached
+    ∙ (ap (λ (ms : List Made). after_with p k ms a.said a.names a.cache) steps
+    ∙ (ap (λ (c : Cached). after_with p k [] a.said a.names c) cache
+    ∙ (ap (λ (s : Option TheSaid). after_with p k [] s a.names (p.caches k)) is
+    ∙ ap (λ (ns : List Named). after_with p k [] (Some said) ns (p.caches k)) names)))))
+    (named_same f k name o said p w same)
+
+remakes_idly : (f : Profile) (k name size align : ℕ) (meant : Option (Option Block)) (p p' : Progress) (w : World) (a : Answer) → IsIdleRemake size align meant → IsSame f p w → p' ≡ after_answer p k a
+    → IsRemadeBy f k name size align meant (having p.names (part k p.list) (p.caches k)) a → IsSame f p' (remakes f k name size align meant w)
+remakes_idly f k name size align None p p' w a idle same reached h = absurd h
+remakes_idly f k name size align (Some None) p p' w a idle same reached h = remade_as f k name None (Said.Skipped name) p p' w a same reached h.0 h.1 h.2 h.3
+remakes_idly f k name size align (Some (Some old)) p p' w a idle same reached (inl kept) =
+    subst (λ (t : Bool). IsSame f p' (if t then keeps_block k name old w else replaces f k name old size align w)) (sym idle)
+    (remade_as f k name (Some old) (Said.Kept old.name name) p p' w a same reached kept.no_steps kept.cache kept.said_is kept.names_are)
+remakes_idly f k name size align (Some (Some old)) p p' w a idle same reached (inr replaced) = absurd (false≢true (sym replaced.unsuited ∙ idle))
+
+pub remake_act : (f : Profile) (line k name old heap size align : ℕ) (p p' : Progress) (w : World) → IsIdleRemake size align (standing_for p.names old) → IsTaken f (Act.Operates (record { line = line; actor = k; what = Remake name old heap size align })) p p' w
+    → IsSame f p' (remakes f k name size align (standing_for w.names old) w)
+remake_act f line k name old heap size align p p' w idle taken =
+    subst (λ (ns : List Named). IsSame f p' (remakes f k name size align (standing_for ns old) w)) (sym taken.same.names)
+    (remakes_idly f k name size align (standing_for p.names old) p p' w taken.advances.0 idle taken.same taken.advances.2 taken.advances.1)

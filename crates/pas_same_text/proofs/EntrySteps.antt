@@ -1,0 +1,295 @@
+-- One logged free by its steps: the event that they make, the block that ended, and what is noted, marked and hinted.
+use Rattle.std.proofs.Common.{◌≡◌, ℕ, zero, suc, ◌+◌, ◌*◌, ◌/◌, ◌%◌, ◌^◌, ◌<◌, ◌≤◌, ◌==◌, nat_lt, Bool, true, false, not, ◌&&◌, if◌then◌else◌, List, [], ◌∷◌, ◌++◌, Option, None, Some, inl, inr, refl, ap, sym, ◌∙◌, subst, arith}
+use Rattle.std.proofs.lemmas.Bool.{eq-eqb, true≢false}
+use Rattle.pas_bits.specs.Runs.{meets_page}
+use Rattle.pas_bits.proofs.Runs.{to_meet}
+use Rattle.pas_profile.specs.Blocks.{address_of, grain_of, length_of}
+use Rattle.pas_profile.specs.Directories.{directory_read, deed_word_of}
+use Rattle.pas_profile.specs.Lives.{live_word, is_live, turn_of}
+use Rattle.pas_profile.specs.Profiles.{IsValid}
+use Rattle.pas_profile.specs.declared.directory.Directory.{Directory}
+use Rattle.pas_profile.specs.declared.event.Event.{Event}
+use Rattle.pas_profile.specs.declared.event.Why.{Why}
+use Rattle.pas_profile.specs.declared.name.Name.{Name}
+use Rattle.pas_profile.specs.declared.profile.Profile.{Profile}
+use Rattle.pas_profile.specs.declared.word.Word.TheVariants as Word
+use Rattle.pas_profile.proofs.Codecs.{read-deed_word_of, directory_from_profile}
+use Rattle.pas_machine.specs.State.{Live, live_in, deed_in, gives_in, ends_in}
+use Rattle.pas_steps.specs.Allowed.{IsStepOf, IsEndIn}
+use Rattle.pas_steps.specs.Desks.{made, triples}
+use Rattle.pas_steps.specs.Effects.{target, life_word_at}
+use Rattle.pas_steps.specs.Events.{event_of, events_by, with_event}
+use Rattle.pas_steps.specs.Kinds.{Only, kind_of, is_in, LookDeed, Putting, Stamping, returning}
+use Rattle.pas_steps.specs.Lists.{Whole, part, word_after, visible, Legal}
+use Rattle.pas_steps.specs.Past.{Always}
+use Rattle.pas_steps.specs.Views.{epoch_of, or_zero}
+use Rattle.pas_steps.specs.declared.step.Made.{Made}
+use Rattle.pas_steps.specs.declared.step.Step.TheVariants.{Look, Stamp}
+use Rattle.pas_steps.proofs.Apart.{only_both, only_within, epoch_same, events_same}
+use Rattle.pas_steps.proofs.Calls.{returns_are}
+use Rattle.pas_steps.proofs.Past.{in_turn_always}
+use Rattle.pas_core.specs.Good.{IsLifeOf, IsLifeOfLive, word_of_deed}
+use Rattle.pas_core.proofs.Deeds.{deed_of, directory_is_of}
+use Rattle.pas_core.proofs.Lives.{life_of, block_of_word}
+use Rattle.pas_core.proofs.OneActor.{legal_earlier}
+use Rattle.pas_rights.specs.Looks.{HintsEmpty}
+use Rattle.pas_rights.proofs.Orders.{return_returns}
+use Rattle.pas_rights.proofs.Puts.{puts_kinds}
+use Rattle.pas_free_log.specs.Endings.{guess_by, TriesBy, last_step, IsEndOf, EndSteps, reason_by, reason_for}
+use Rattle.pas_free_log.specs.Flushes.{Settled, EntrySteps, AfterEnd, event_for}
+use Rattle.pas_free_log.specs.Frames.{ending, putting_back}
+use Rattle.pas_free_log.specs.Logs.{is_sized}
+use Rattle.pas_free_log.specs.Returns.{PageSteps, PagesSteps, RunSteps, first_on, count_on}
+use Rattle.pas_free_log.specs.Stamps.{page_count, pages_from}
+use Rattle.pas_free_log.specs.declared.ending.Outcome.{Outcome}
+use Rattle.pas_free_log.specs.declared.ending.Outcome.TheVariants.{Ended, Refused}
+use Rattle.pas_free_log.specs.declared.log.Entry.{Entry}
+use Rattle.pas_free_log.proofs.OneEntry.{first_look, trying, AreIdle, idle_look, tries_idle, EndsWith, last_ends, last_refused, guess_is, not_ended, count_some}
+use Rattle.pas_one_text.specs.Frees.{is_other_room}
+use Rattle.pas_same_text.specs.Entries.{IsEntryReason}
+use Rattle.pas_same_text.proofs.Flushes.{visible_steps}
+use Rattle.pas_same_text.proofs.GivingBack.{IsMarked, marked_parts, none_marked, returns_marked, hints_none, hints_both}
+use Rattle.pas_same_text.proofs.ReturnHints.{return_hints}
+
+-- ---- the pages of a block that ended
+page_kinds : (g n : ℕ) (steps : List Made) → PageSteps g n steps → Only putting_back steps
+page_kinds g n steps h = subst (Only putting_back) (sym h.steps_are)
+    (only_both putting_back h.after (h.puts ++ (made (Stamp (g / 256)) h.stamped ∷ made (Look (Word.Deed (g / 256))) (deed_word_of h.directory) ∷ []))
+    (only_within returning putting_back h.after refl (returns_are (g / 256) h.after (return_returns (g / 256) h.directory h.after h.returns)))
+    (only_both putting_back h.puts (made (Stamp (g / 256)) h.stamped ∷ made (Look (Word.Deed (g / 256))) (deed_word_of h.directory) ∷ [])
+    (only_within (Putting ∷ []) putting_back h.puts refl (puts_kinds (g / 256) h.mask 4 h.puts h.order)) (refl, (refl, tt))))
+
+run_kinds : (k g n : ℕ) (steps : List Made) → PagesSteps k g n steps → Only putting_back steps
+run_kinds k g n steps h = in_turn_always (λ page piece. PageSteps (first_on g page) (count_on g n page) piece) (λ m. is_in putting_back (kind_of m.step) ≡ true)
+    (λ page piece is. page_kinds (first_on g page) (count_on g n page) piece is) (pages_from (g / 256) k) steps h
+
+page_hints : (g n : ℕ) (steps : List Made) → PageSteps g n steps → Always HintsEmpty steps
+page_hints g n steps h = subst (Always HintsEmpty) (sym h.steps_are)
+    (hints_both h.after (h.puts ++ (made (Stamp (g / 256)) h.stamped ∷ made (Look (Word.Deed (g / 256))) (deed_word_of h.directory) ∷ []))
+    (return_hints (g / 256) h.directory h.after h.returns)
+    (hints_both h.puts (made (Stamp (g / 256)) h.stamped ∷ made (Look (Word.Deed (g / 256))) (deed_word_of h.directory) ∷ [])
+    (hints_none (Putting ∷ []) h.puts refl (puts_kinds (g / 256) h.mask 4 h.puts h.order))
+    (hints_none (Stamping ∷ LookDeed ∷ []) (made (Stamp (g / 256)) h.stamped ∷ made (Look (Word.Deed (g / 256))) (deed_word_of h.directory) ∷ []) refl (refl, (refl, tt)))))
+
+run_hints : (k g n : ℕ) (steps : List Made) → PagesSteps k g n steps → Always HintsEmpty steps
+run_hints zero g n steps h = subst (Always HintsEmpty) (sym h) tt
+run_hints (suc k) g n steps h = subst (Always HintsEmpty) (sym h.4) (hints_both h.0 h.1 (page_hints (first_on g (g / 256 + k)) (count_on g n (g / 256 + k)) h.0 h.2) (run_hints k g n h.1 h.3))
+
+page_marks : (g n q : ℕ) (steps : List Made) → PageSteps g n steps → IsMarked q steps → g / 256 ≡ q
+page_marks g n q steps h marked =
+    let rest : List Made = h.puts ++ (made (Stamp (g / 256)) h.stamped ∷ made (Look (Word.Deed (g / 256))) (deed_word_of h.directory) ∷ []) in
+    let others : Only (Putting ∷ Stamping ∷ LookDeed ∷ []) rest = only_both (Putting ∷ Stamping ∷ LookDeed ∷ []) h.puts (made (Stamp (g / 256)) h.stamped ∷ made (Look (Word.Deed (g / 256))) (deed_word_of h.directory) ∷ [])
+    (only_within (Putting ∷ []) (Putting ∷ Stamping ∷ LookDeed ∷ []) h.puts refl (puts_kinds (g / 256) h.mask 4 h.puts h.order)) (refl, (refl, tt)) in
+    elim (marked_parts q h.after rest (subst (IsMarked q) h.steps_are marked)) [
+      | inl first ↦ returns_marked (g / 256) q h.after (return_returns (g / 256) h.directory h.after h.returns) first
+      | inr later ↦ absurd (none_marked (Putting ∷ Stamping ∷ LookDeed ∷ []) refl q rest others later)
+    ]
+
+first_page : (g k : ℕ) → first_on g (g / 256 + k) / 256 ≡ g / 256 + k
+first_page g k = omega arith
+
+run_marks : (k g n q : ℕ) (steps : List Made) → PagesSteps k g n steps → IsMarked q steps → (g / 256 ≤ q) × (q < g / 256 + k)
+run_marks zero g n q steps h marked = absurd (subst (IsMarked q) h marked)
+run_marks (suc k) g n q steps h marked = elim (marked_parts q h.0 h.1 (subst (IsMarked q) h.4 marked)) [
+  | inl first ↦ let at = sym (first_page g k) ∙ page_marks (first_on g (g / 256 + k)) (count_on g n (g / 256 + k)) q h.0 h.2 first in (omega (arith, at), omega (arith, at))
+  | inr later ↦ let rest = run_marks k g n q h.1 h.3 later in let low = rest.0 in let high = rest.1 in (low, omega (arith, high))
+]
+
+-- a page that is marked is one of the block's
+pub block_marked : (g n q : ℕ) (steps : List Made) → 1 ≤ n → RunSteps g n steps → IsMarked q steps → meets_page g n q ≡ true
+block_marked g n q steps some h marked =
+    let at = run_marks (page_count g n) g n q steps h marked in
+    let low = at.0 in let high = at.1 in let count = count_some g n some in
+    to_meet g n q (omega (arith, low)) (omega (arith, high, count, some))
+
+-- ---- names by their parts
+pub name_same : (a b : Name) → address_of a ≡ address_of b → a.turn ≡ b.turn → a ≡ b
+name_same a b at turn =
+    ap (λ (x : ℕ). let n : Name = record { address = record { 0 = x }; turn = a.turn } in n) at
+    ∙ ap (λ (x : ℕ). let n : Name = record { address = record { 0 = address_of b }; turn = x } in n) turn
+
+-- ---- the last try
+target_last : (t : Bool) (entry : Entry) (n : ℕ) → target (last_step t entry n) ≡ life_word_at (grain_of entry.name)
+target_last true entry n = refl
+target_last false entry n = refl
+
+end_in : (f : Profile) (t : Bool) (entry : Entry) (n : ℕ) → (t ≡ true → n ≡ entry.room / 16) → IsStepOf f (last_step t entry n) → IsEndIn f entry.name n
+end_in f true entry n is of = subst (IsEndIn f entry.name) (sym (is refl)) of.0
+end_in f false entry n is of = of
+
+whole_room : (f : Profile) (t : Bool) (entry : Entry) (n : ℕ) → t ≡ true → IsStepOf f (last_step t entry n) → entry.room % 16 ≡ 0
+whole_room f true entry n e of = of.1
+whole_room f false entry n e of = absurd (true≢false (sym e))
+
+idle_before : (t : Bool) (entry : Entry) (deed first guess : ℕ) (before : List Made) → TriesBy t entry first guess before → AreIdle (before ++ first_look entry.name deed)
+idle_before true entry deed first guess before tries = subst (λ s. AreIdle (s ++ first_look entry.name deed)) (sym tries.1) (idle_look entry.name deed)
+idle_before false entry deed first guess before tries = tries_idle entry.name deed first guess before tries
+
+-- a deed word is read as the directory that the machine has
+pub read_deed : (f : Profile) (valid : IsValid f) (o : Option Directory) → ((d : Directory) → o ≡ Some d → directory_read (deed_word_of d) ≡ Some d) → directory_read (word_of_deed o) ≡ o
+read_deed f valid None is = refl
+read_deed f valid (Some d) is = is d refl
+
+-- the block that ended
+pub record IsEndOfBlock (f : Profile) (l : Whole) (entry : Entry) (grains : ℕ) : Type 0 where
+  pub block : Live
+  pub lives : live_in (visible l) (address_of entry.name) ≡ Some block
+  pub turn : block.block.name.turn ≡ entry.name.turn
+  pub long : length_of block.block ≡ grains
+  pub some : 1 ≤ grains
+  pub room : is_other_room entry block.block ≡ false
+
+module _ (f : Profile) (k epoch : ℕ) (s : Settled) (piece : List Made) (l : Whole) (valid : IsValid f) (legal : Legal f (triples k piece ++ l)) (is : EntrySteps s piece) (known : epoch_of (part k l) ≡ epoch) where
+  abbrev entry : Entry
+  entry = s.entry
+
+  abbrev e : EndSteps s.entry s.outcome is.ends
+  e = is.order
+
+  abbrev look : Made
+  look = made (Look (Word.Deed (address_of entry.name / 4096))) e.deed
+
+  abbrev first : List Made
+  first = e.before ++ first_look entry.name e.deed
+
+  idle : AreIdle first
+  idle = idle_before (is_sized entry) entry e.deed (guess_by (directory_read e.deed)) e.guess e.before e.tries
+
+  guessed : is_sized entry ≡ true → e.guess ≡ entry.room / 16
+  guessed = guess_is (is_sized entry) entry (guess_by (directory_read e.deed)) e.guess e.before e.tries
+
+  ends_legal : Legal f (triples k (made (last_step (is_sized entry) entry e.guess) e.answer ∷ first) ++ l)
+  ends_legal = subst (λ (ms : List Made). Legal f (triples k ms ++ l)) e.steps_are (legal_earlier f k is.after is.ends l (subst (λ (ms : List Made). Legal f (triples k ms ++ l)) is.steps_are legal))
+
+  abbrev lm : Whole
+  lm = triples k first ++ l
+
+  answer_is : e.answer ≡ word_after lm (life_word_at (grain_of entry.name))
+  answer_is = ends_legal.0.answer_is ∙ ap (word_after lm) (target_last (is_sized entry) entry e.guess)
+
+  within : IsEndIn f entry.name e.guess
+  within = end_in f (is_sized entry) entry e.guess guessed ends_legal.0.of_region
+
+  same_events : visible lm ≡ visible l
+  same_events = visible_steps k first l ∙ ap (λ (es : List Event). es ++ visible l) (idle.events k (part k l))
+
+  -- ---- the block
+  place : 16 * grain_of entry.name ≡ address_of entry.name
+  place = let aligned = within.1 in omega (arith, aligned)
+
+  abbrev g : ℕ
+  g = grain_of entry.name
+
+  abbrev word : ℕ
+  word = word_after lm (life_word_at g)
+
+  life : IsLifeOf f g word (live_in (visible lm) (16 * g)) (gives_in (visible lm) (16 * g)) (ends_in (visible lm) (16 * g))
+  life = life_of f lm valid ends_legal.1 g
+
+  room_at : (b : Live) → length_of b.block ≡ e.guess → b.block.room % 16 ≡ 0 → (t : Bool) → is_sized entry ≡ t → is_other_room entry b.block ≡ false
+  room_at b long whole false sized = ap (λ (t : Bool). t && not (b.block.room == entry.room)) sized
+  room_at b long whole true sized =
+      let n = guessed sized in
+      let multiple = whole_room f (is_sized entry) entry e.guess sized ends_legal.0.of_region in
+      let same : b.block.room ≡ entry.room = omega (arith, long, whole, n, multiple) in
+      ap (λ (t : Bool). is_sized entry && not t) (eq-eqb b.block.room entry.room same) ∙ no_more (is_sized entry)
+    where
+      no_more : (x : Bool) → (x && false) ≡ false
+      no_more true = refl
+      no_more false = refl
+
+  pub found_block : e.answer ≡ live_word entry.name.turn e.guess → IsEndOfBlock f l entry e.guess
+  found_block hit =
+      let turn : entry.name.turn < 2 ^ 40 = let t = within.2 in omega (arith, t) in
+      let o = block_of_word f g word (live_in (visible lm) (16 * g)) (gives_in (visible lm) (16 * g)) (ends_in (visible lm) (16 * g)) entry.name.turn e.guess life turn (sym answer_is ∙ hit) in
+      let b : Live = o.0 in
+      let alive : IsLifeOfLive f g word b (gives_in (visible lm) (16 * g)) (ends_in (visible lm) (16 * g)) = subst (λ (x : Option Live). IsLifeOf f g word x (gives_in (visible lm) (16 * g)) (ends_in (visible lm) (16 * g))) o.1 life in
+      let same : live_word entry.name.turn e.guess ≡ live_word (ends_in (visible lm) (16 * g)) (length_of b.block) = sym hit ∙ (answer_is ∙ alive.word_is) in
+      let ended = o.3 in
+      let long : length_of b.block ≡ e.guess = omega (arith, same, ended) in
+      let some : 1 ≤ e.guess = within.3 in
+      record {
+        block = b;
+        lives = ap (λ (a : ℕ). live_in (visible l) a) (sym place) ∙ (ap (λ (es : List Event). live_in es (16 * g)) (sym same_events) ∙ o.1);
+        turn = o.2;
+        long = long;
+        some = some;
+        room = room_at b long alive.whole (is_sized entry) refl;
+      }
+
+  -- ---- its event
+  abbrev last : EndsWith entry.name e.guess (last_step (is_sized entry) entry e.guess)
+  last = last_ends (is_sized entry) entry e.guess guessed
+
+  end_event : (o : Outcome) → IsEndOf entry e.guess e.answer o → event_of k epoch (last_step (is_sized entry) entry e.guess) e.answer ≡ Some (event_for k epoch entry o)
+  end_event (Ended grains) h = last.event k epoch e.answer h.0
+  end_event (Refused read) h =
+      last_refused (is_sized entry) entry e.guess k epoch e.answer guessed h.0 (not_ended (is_sized entry) entry.name e.guess e.answer within.2 h.0)
+      ∙ ap (λ (n : ℕ). Some (Event.Reject k entry.name (reason_for entry n))) (sym h.1)
+
+  ends_event : events_by k (part k l) is.ends ≡ event_for k epoch entry s.outcome ∷ []
+  ends_event =
+      ap (events_by k (part k l)) e.steps_are
+      ∙ (ap (λ (o : Option ℕ). with_event (event_of k (or_zero o) (last_step (is_sized entry) entry e.guess) e.answer) (events_by k (part k l) first)) (epoch_same trying refl first (part k l) idle.kinds)
+      ∙ (ap (λ (n : ℕ). with_event (event_of k n (last_step (is_sized entry) entry e.guess) e.answer) (events_by k (part k l) first)) known
+      ∙ (ap (λ (o : Option Event). with_event o (events_by k (part k l) first)) (end_event s.outcome e.comes_to)
+      ∙ ap (λ (es : List Event). event_for k epoch entry s.outcome ∷ es) (idle.events k (part k l)))))
+
+  after_kinds : (o : Outcome) → AfterEnd entry.name o is.after → Only putting_back is.after
+  after_kinds (Ended grains) h = run_kinds (page_count g grains) g grains is.after h
+  after_kinds (Refused read) h = subst (Only putting_back) (sym h) tt
+
+  ends_kinds : Only ending is.ends
+  ends_kinds = subst (Only ending) (sym e.steps_are) (ap (is_in ending) last.kind, only_within trying ending first refl idle.kinds)
+
+  pub entry_kinds : Only ending piece
+  entry_kinds = subst (Only ending) (sym is.steps_are) (only_both ending is.after is.ends (only_within putting_back ending is.after refl (after_kinds s.outcome is.returns)) ends_kinds)
+
+  pub entry_events : visible (triples k piece ++ l) ≡ event_for k epoch entry s.outcome ∷ visible l
+  entry_events =
+      visible_steps k piece l
+      ∙ ap (λ (es : List Event). es ++ visible l)
+      (ap (events_by k (part k l)) is.steps_are ∙ (events_same putting_back refl k (part k l) is.after is.ends (after_kinds s.outcome is.returns) ∙ ends_event))
+
+  -- ---- its hints
+  after_hints : (o : Outcome) → AfterEnd entry.name o is.after → Always HintsEmpty is.after
+  after_hints (Ended grains) h = run_hints (page_count g grains) g grains is.after h
+  after_hints (Refused read) h = subst (Always HintsEmpty) (sym h) tt
+
+  ends_trying : Only trying is.ends
+  ends_trying = subst (Only trying) (sym e.steps_are) (ap (is_in trying) last.kind, idle.kinds)
+
+  pub entry_hints : Always HintsEmpty piece
+  entry_hints = subst (Always HintsEmpty) (sym is.steps_are) (hints_both is.after is.ends (after_hints s.outcome is.returns) (hints_none trying is.ends refl ends_trying))
+
+  -- a page that is marked is one of those of the block that ended
+  pub after_marked : (q : ℕ) → IsMarked q piece → IsMarked q is.after
+  after_marked q marked = elim (marked_parts q is.after is.ends (subst (IsMarked q) is.steps_are marked)) [
+    | inl first_part ↦ first_part
+    | inr later ↦ absurd (none_marked trying refl q is.ends ends_trying later)
+  ]
+
+  -- ---- the directory that was read
+  look_legal : Legal f (triples k (look ∷ []) ++ l)
+  look_legal = legal_earlier f k e.before (look ∷ []) l ends_legal.1
+
+  pub read_directory : s.directory ≡ deed_in (visible l) (address_of entry.name / 4096)
+  read_directory =
+      let page : ℕ = address_of entry.name / 4096 in
+      is.directory
+      ∙ (ap directory_read (look_legal.0.answer_is ∙ deed_of f l look_legal.1 page)
+      ∙ read_deed f valid (deed_in (visible l) page) (λ d at. read-deed_word_of d (directory_from_profile f d valid (directory_is_of f l look_legal.1 page d at))))
+
+-- a refusal names a room only where the free did, and that one
+by_turn : (entry : Entry) (read : ℕ) → IsEntryReason entry (if nat_lt entry.name.turn (turn_of read) then Why.Ended else Why.NoBlock)
+by_turn entry read = elim (nat_lt entry.name.turn (turn_of read)) as (λ (t : Bool). IsEntryReason entry (if t then Why.Ended else Why.NoBlock)) [ true ↦ tt | false ↦ tt ]
+
+reason_sized : (t : Bool) (entry : Entry) (read : ℕ) → is_sized entry ≡ t → IsEntryReason entry (reason_by t entry read)
+reason_sized true entry read sized = elim (is_live read && (turn_of read == entry.name.turn)) as (λ (x : Bool). IsEntryReason entry (if x then Why.SizeDiffers entry.room else (if nat_lt entry.name.turn (turn_of read) then Why.Ended else Why.NoBlock))) [
+  | true ↦ (sized, refl)
+  | false ↦ by_turn entry read
+]
+reason_sized false entry read sized = by_turn entry read
+
+pub reason_is : (entry : Entry) (read : ℕ) → IsEntryReason entry (reason_for entry read)
+reason_is entry read = reason_sized (is_sized entry) entry read refl

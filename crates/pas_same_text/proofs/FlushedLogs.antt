@@ -1,0 +1,413 @@
+-- A FLUSH, entry by entry: its steps beside what the text does.
+use Rattle.std.proofs.Common.{◌≡◌, ℕ, zero, suc, ◌-◌, ◌/◌, ◌<◌, ◌≤◌, ◌==◌, nat_lt, Bool, true, false, ◌||◌, if◌then◌else◌, List, [], ◌∷◌, ◌++◌, length, map, reverse, take, Option, None, Some, inl, inr, refl, ap, sym, ◌∙◌, subst, append_assoc, length-append, arith}
+use Rattle.std.specs.Prelude.{option_to_list}
+use Rattle.std.proofs.lemmas.Bool.{eq-eqb, false≢true}
+use Rattle.std.proofs.lemmas.Bool.Decides.{nat_tests}
+use Rattle.std.proofs.lemmas.Grind.{reverse_onto}
+use Rattle.std.specs.List.{flat_map}
+use Rattle.pas_bits.specs.Runs.{meets_page}
+use Rattle.pas_profile.specs.Blocks.{address_of, grain_of, length_of}
+use Rattle.pas_profile.specs.Profiles.{IsValid, IsPage}
+use Rattle.pas_profile.specs.declared.directory.Directory.{Directory}
+use Rattle.pas_profile.specs.declared.event.Event.{Event}
+use Rattle.pas_profile.specs.declared.name.Name.{Name}
+use Rattle.pas_profile.specs.declared.profile.Profile.{Profile}
+use Rattle.pas_profile.specs.declared.word.Word.TheVariants as Word
+use Rattle.pas_machine.specs.Machine.{Run}
+use Rattle.pas_machine.specs.State.{Live, live_in, deed_in}
+use Rattle.pas_machine.proofs.LiveBlocks.{lives_where}
+use Rattle.pas_steps.specs.Desks.{made, triples}
+use Rattle.pas_steps.specs.Kinds.{Only, LookEpoch}
+use Rattle.pas_steps.specs.Lists.{Whole, part, visible, Legal}
+use Rattle.pas_steps.specs.Past.{Always}
+use Rattle.pas_steps.specs.Views.{epoch_of, or_zero}
+use Rattle.pas_steps.specs.declared.step.Made.{Made}
+use Rattle.pas_steps.specs.declared.step.Step.TheVariants.{Look}
+use Rattle.pas_steps.proofs.Adding.{triples_append}
+use Rattle.pas_steps.proofs.Apart.{only_both, only_within, epoch_same}
+use Rattle.pas_steps.proofs.Parts.{part_of_own}
+use Rattle.pas_core.proofs.MachineRuns.{runs}
+use Rattle.pas_core.proofs.OneActor.{legal_earlier}
+use Rattle.pas_rights.specs.Looks.{HintsEmpty}
+use Rattle.pas_free_log.specs.Endings.{IsEndOf, reason_for}
+use Rattle.pas_free_log.specs.Flushes.{Settled, EntrySteps, EntriesSteps, AfterEnd, event_for, shown_for, noted_for, noted_after}
+use Rattle.pas_free_log.specs.Frames.{ending, freeing}
+use Rattle.pas_free_log.specs.Noted.{large_run, noted_by}
+use Rattle.pas_free_log.specs.declared.ending.Outcome.{Outcome}
+use Rattle.pas_free_log.specs.declared.ending.Outcome.TheVariants.{Ended, Refused}
+use Rattle.pas_free_log.specs.declared.log.Entry.{Entry}
+use Rattle.pas_free_log.specs.declared.noting.EndedRun.{EndedRun}
+use Rattle.pas_cache.specs.Contents.{Cached}
+use Rattle.pas_report.specs.declared.record.Record.{Record}
+use Rattle.pas_trace.specs.EveryPlan.{IsThread}
+use Rattle.pas_answers.specs.Answers.{Caches}
+use Rattle.pas_answers.specs.Answers.{with_cache as with_cached}
+use Rattle.pas_one_text.specs.State.{World, Cache, each, cache_of, with_cache, noted_of, set_log, live_after}
+use Rattle.pas_one_text.specs.Frees.{ends, ends_block, is_other_room, rejects, pages_of}
+use Rattle.pas_one_text.specs.Pages.{page_numbers}
+use Rattle.pas_same_text.specs.Entries.{IsShown}
+use Rattle.pas_same_text.specs.Same.{AreSameCaches, IsSameCache, lives_in, has_number}
+use Rattle.pas_same_text.proofs.CacheLists.{all_locals, locals_with, same_with, same_own, same_again, with_own}
+use Rattle.pas_same_text.proofs.EndedBlocks.{rejected_returns, ended_returns, ended_caches, ended_locals, noted_then}
+use Rattle.pas_same_text.proofs.EntryEvents.{reject_text, end_text, reject_shown, end_shown}
+use Rattle.pas_same_text.proofs.EntrySteps.{IsEndOfBlock, found_block, block_marked, name_same, entry_kinds, entry_events, entry_hints, after_marked, read_directory, reason_is}
+use Rattle.pas_same_text.proofs.GivenBack.{Returns, returns_nothing, returns_then, returns_like, has_both, page_there}
+use Rattle.pas_same_text.proofs.GivingBack.{IsMarked, marked_parts, none_marked, hints_none, hints_both}
+use Rattle.pas_same_text.proofs.Tests.{has_filtered}
+
+-- ---- what is noted
+take_both : {A : Type 0} (k : ℕ) (xs ys : List A) → take k xs ++ take (k - length (take k xs)) ys ≡ take k (xs ++ ys)
+take_both zero xs ys = refl
+take_both (suc k) [] ys = ap (λ n. take n ys) {y = suc k} (omega arith)
+take_both (suc k) (x ∷ xs) ys = ap (λ n. x ∷ take k xs ++ take n ys) (omega arith) ∙ ap (λ zs. x ∷ zs) (take_both k xs ys)
+
+flat_both : (h : Settled → List EndedRun) (xs : List Settled) (x : Settled) → flat_map h (xs ++ x ∷ []) ≡ flat_map h xs ++ h x
+flat_both h [] x = nothing_after (h x)
+  where
+    nothing_after : (ys : List EndedRun) → ys ++ [] ≡ ys
+    nothing_after [] = refl
+    nothing_after (y ∷ ys) = ap (λ (zs : List EndedRun). y ∷ zs) (nothing_after ys)
+flat_both h (y ∷ xs) x = ap (λ (zs : List EndedRun). h y ++ zs) (flat_both h xs x) ∙ sym (append_assoc (h y) (flat_map h xs) (h x))
+
+noted_more : (es : List EndedRun) (s : Settled) (settled : List Settled) → noted_after es (s ∷ settled) ≡ noted_after es settled ++ take (64 - length (noted_after es settled)) (noted_for s)
+noted_more es s settled =
+    let xs : List EndedRun = flat_map noted_for (reverse settled) in
+    let n : ℕ = 64 - length es in
+    let long = length-append es (take n xs) in
+    ap (λ (ys : List EndedRun). es ++ take n ys) (ap (flat_map noted_for) (reverse_onto settled s []) ∙ flat_both noted_for (reverse settled) s)
+    ∙ (ap (λ (ys : List EndedRun). es ++ ys) (sym (take_both n xs (noted_for s)))
+    ∙ (sym (append_assoc es (take n xs) (take (n - length (take n xs)) (noted_for s)))
+    ∙ ap (λ (m : ℕ). (es ++ take n xs) ++ take m (noted_for s)) (omega (arith, long))))
+
+nothing_more : {A : Type 0} (xs : List A) → xs ++ [] ≡ xs
+nothing_more [] = refl
+nothing_more {A} (x ∷ xs) = ap (λ (ys : List A). x ∷ ys) (nothing_more xs)
+
+take_none : {A : Type 0} (n : ℕ) → take {A = A} n [] ≡ []
+take_none zero = refl
+take_none (suc n) = refl
+
+noted_start : (es : List EndedRun) → noted_after es [] ≡ es
+noted_start es = ap (λ (xs : List EndedRun). es ++ xs) (take_none (64 - length es)) ∙ nothing_more es
+
+-- one run at most
+room_for : (noted : List EndedRun) (o : Option EndedRun) (t : Bool) → nat_lt (length noted) 64 ≡ t → (if t then noted ++ option_to_list o else noted) ≡ noted ++ take (64 - length noted) (option_to_list o)
+room_for noted None true e = ap (λ (xs : List EndedRun). noted ++ xs) (sym (take_none (64 - length noted)))
+room_for noted (Some run) true e = let lt : length noted < 64 = grind (arith, nat_tests, e) in one (64 - length noted) (omega (arith, lt))
+  where
+    one : (n : ℕ) → 1 ≤ n → noted ++ run ∷ [] ≡ noted ++ take n (run ∷ [])
+    one zero some = absurd (omega (arith, some))
+    one (suc n) some = ap (λ (xs : List EndedRun). noted ++ run ∷ xs) (sym (take_none n))
+room_for noted o false e =
+    let le : 64 ≤ length noted = grind (arith, nat_tests, e) in
+    let none : 64 - length noted ≡ 0 = omega (arith, le) in
+    sym (ap (λ (n : ℕ). noted ++ take n (option_to_list o)) none ∙ nothing_more noted)
+
+-- ---- lists of entries
+each_last : {A : Type 0} (does : A → World → World) (xs : List A) (x : A) (w : World) → each does (xs ++ x ∷ []) w ≡ does x (each does xs w)
+each_last does [] x w = refl
+each_last does (y ∷ xs) x w = each_last does xs x (does y w)
+
+-- ---- a block that lived before and lives no longer, of which the page was minded
+pub record IsEndedOn (es es' : List Event) (pages : List ℕ) (q : ℕ) : Type 0 where
+  pub address : ℕ
+  pub block : Live
+  pub lived : live_in es address ≡ Some block
+  pub gone : live_in es' address ≡ None
+  pub met : meets_page (address / 16) (length_of block.block) q ≡ true
+  pub minded : has_number pages q ≡ true
+
+-- the blocks after some events lived before them
+pub record OnlyFewer (es es' : List Event) : Type 0 where
+  pub lives : (a : ℕ) (b : Live) → live_in es' a ≡ Some b → live_in es a ≡ Some b
+  pub deeds : (page : ℕ) → deed_in es' page ≡ deed_in es page
+
+or_left : (x y : Bool) → x ≡ true → (x || y) ≡ true
+or_left true y h = refl
+or_left false y h = absurd (false≢true h)
+
+or_right : (x y : Bool) → y ≡ true → (x || y) ≡ true
+or_right true y h = refl
+or_right false y h = h
+
+-- what the event for an entry does to the live blocks
+still_gone : (k epoch : ℕ) (entry : Entry) (o : Outcome) (es : List Event) (a : ℕ) → live_in es a ≡ None → live_in (event_for k epoch entry o ∷ es) a ≡ None
+still_gone k epoch entry (Ended grains) es a h = by_test (address_of entry.name == a)
+  where
+    by_test : (t : Bool) → (if t then None else live_in es a) ≡ None
+    by_test true = refl
+    by_test false = h
+still_gone k epoch entry (Refused read) es a h = h
+
+fewer_one : (k epoch : ℕ) (entry : Entry) (o : Outcome) (es : List Event) → OnlyFewer es (event_for k epoch entry o ∷ es)
+fewer_one k epoch entry (Ended grains) es = record { lives = λ a b h. by_test a b (address_of entry.name == a) h; deeds = λ page. refl }
+  where
+    is_some : Option Live → Bool
+    is_some None = false
+    is_some (Some l) = true
+
+    by_test : (a : ℕ) (b : Live) (t : Bool) → (if t then None else live_in es a) ≡ Some b → live_in es a ≡ Some b
+    by_test a b true h = absurd (false≢true (ap is_some h))
+    by_test a b false h = h
+fewer_one k epoch entry (Refused read) es = record { lives = λ a b h. h; deeds = λ page. refl }
+
+fewer_then : (es fs gs : List Event) → OnlyFewer es fs → OnlyFewer fs gs → OnlyFewer es gs
+fewer_then es fs gs a b = record { lives = λ at l h. a.lives at l (b.lives at l h); deeds = λ page. b.deeds page ∙ a.deeds page }
+
+-- ==== HOW FAR A FLUSH IS: from the state w and the list l on, these entries took effect by these steps, and the text is at v
+pub record IsFlushedTo (f : Profile) (k e : ℕ) (l : Whole) (w : World) (c : Cached) (caches : Caches) (settled : List Settled) (steps : List Made) (v : World) : Type 0 where
+  pub events : v.events ≡ visible (triples k steps ++ l)
+  pub live : v.live ≡ lives_in v.events
+  pub names : v.names ≡ w.names
+  pub records : v.records ≡ map Record.Event (map (shown_for k e) settled) ++ w.records
+  pub epoch : v.epoch ≡ w.epoch
+  pub read : v.read ≡ w.read
+  pub indexes : v.indexes ≡ w.indexes
+  pub locals : all_locals v.caches ≡ all_locals w.caches
+  pub same : AreSameCaches f (with_cached caches k (record c { log = []; noted = noted_after c.noted settled })) v.caches
+  pub pages : List ℕ
+  pub returns : Returns f pages w v
+  pub fewer : OnlyFewer w.events v.events
+  pub marks : (q : ℕ) → IsPage f q → IsMarked q steps → IsEndedOn w.events v.events pages q
+  pub kinds : Only freeing steps
+  pub hints : Always HintsEmpty steps
+  pub known : epoch_of (part k (triples k steps ++ l)) ≡ e
+
+-- ---- one entry more
+-- what its outcome does to the text
+pub record IsTakenBy (f : Profile) (k : ℕ) (s : Settled) (piece : List Made) (v x : World) (own : Cache) : Type 0 where
+  pub pages : List ℕ
+  pub returns : Returns f pages v x
+  pub locals : all_locals x.caches ≡ all_locals v.caches
+  pub caches : x.caches ≡ with_cache v.caches k own
+  pub marks : (q : ℕ) → IsPage f q → IsMarked q piece → IsEndedOn v.events x.events pages q
+
+abbrev own_then : Settled → World → ℕ → Cache
+own_then s v k = record (cache_of v k) { noted = noted_of v k ++ take (64 - length (noted_of v k)) (noted_for s) }
+
+abbrev or_this : Live → Option Live → Live
+or_this d None = d
+or_this d (Some x) = x
+
+module _ (f : Profile) (k epoch : ℕ) (s : Settled) (piece : List Made) (l : Whole) (valid : IsValid f) (legal : Legal f (triples k piece ++ l)) (is : EntrySteps s piece) (known : epoch_of (part k l) ≡ epoch)
+    (v : World) (live : v.live ≡ lives_in v.events) (events : v.events ≡ visible l) (now : v.epoch ≡ epoch) where
+  abbrev x : World
+  x = ends f k s.entry v
+
+  run_after : Run f (event_for k epoch s.entry s.outcome ∷ v.events)
+  run_after = subst (Run f) (entry_events f k epoch s piece l valid legal is known ∙ ap (λ (es : List Event). event_for k epoch s.entry s.outcome ∷ es) (sym events)) (runs f (triples k piece ++ l) valid legal)
+
+  run : Run f v.events
+  run = run_after.1
+
+  -- what is known where the block of the name ended
+  module _ (grains : ℕ) (outcome : s.outcome ≡ Ended grains) where
+    came : IsEndOf s.entry is.order.guess is.order.answer (Ended grains)
+    came = subst (IsEndOf s.entry is.order.guess is.order.answer) outcome is.order.comes_to
+
+    found : IsEndOfBlock f l s.entry is.order.guess
+    found = found_block f k epoch s piece l valid legal is known came.0
+
+    abbrev b : Live
+    b = found.block
+
+    lives : live_in v.events (address_of s.entry.name) ≡ Some b
+    lives = ap (λ (es : List Event). live_in es (address_of s.entry.name)) events ∙ found.lives
+
+    at : address_of b.block.name ≡ address_of s.entry.name
+    at = lives_where f v.events run (address_of s.entry.name) b lives
+
+    named : b.block.name ≡ s.entry.name
+    named = name_same b.block.name s.entry.name at found.turn
+
+    long : length_of b.block ≡ grains
+    long = found.long ∙ sym came.1
+
+    abbrev y : World
+    y = ends_block f k s.entry.name b.block v
+
+    text : x ≡ y
+    text = end_text f k s.entry v live b lives found.turn found.room
+
+    ended_shown : IsShown (Event.End k s.entry.name epoch) v x
+    ended_shown = subst (λ (e : ℕ). IsShown (Event.End k s.entry.name e) v x) now
+        (end_shown f k s.entry v live (b, lives, found.turn) (λ b' there. subst (λ (c : Live). is_other_room s.entry c.block ≡ false) (ap (or_this b) (sym lives ∙ there)) found.room))
+
+    run_same : large_run b.block.name (length_of b.block) (deed_in v.events (address_of b.block.name / 4096)) ≡ large_run s.entry.name grains s.directory
+    run_same =
+        ap (λ (n : Name). large_run n (length_of b.block) (deed_in v.events (address_of n / 4096))) named
+        ∙ (ap (λ (m : ℕ). large_run s.entry.name m (deed_in v.events (address_of s.entry.name / 4096))) long
+        ∙ ap (λ (d : Option Directory). large_run s.entry.name grains d) (ap (λ (es : List Event). deed_in es (address_of s.entry.name / 4096)) events ∙ sym (read_directory f k epoch s piece l valid legal is known)))
+
+    noted_same : noted_then f k s.entry.name b v run live lives ≡ noted_of v k ++ take (64 - length (noted_of v k)) (noted_for s)
+    noted_same =
+        room_for (noted_of v k) (large_run b.block.name (length_of b.block) (deed_in v.events (address_of b.block.name / 4096))) (nat_lt (length (noted_of v k)) 64) refl
+        ∙ ap (λ (runs : List EndedRun). noted_of v k ++ take (64 - length (noted_of v k)) runs) (ap option_to_list run_same ∙ ap (noted_by s.entry.name s.directory) (sym outcome))
+
+    marked : (q : ℕ) → IsPage f q → IsMarked q piece → IsEndedOn v.events y.events (pages_of f b.block) q
+    marked q of mark =
+        let after : IsMarked q is.after = after_marked f k epoch s piece l valid legal is known q mark in
+        let returns : AfterEnd s.entry.name (Ended grains) is.after = subst (λ (o : Outcome). AfterEnd s.entry.name o is.after) outcome is.returns in
+        let some : 1 ≤ grains = subst (λ (m : ℕ). 1 ≤ m) (sym came.1) found.some in
+        let met : meets_page (grain_of s.entry.name) grains q ≡ true = block_marked (grain_of s.entry.name) grains q is.after some returns after in
+        let own : meets_page (grain_of s.entry.name) (length_of b.block) q ≡ true = ap (λ (m : ℕ). meets_page (grain_of s.entry.name) m q) long ∙ met in
+        record {
+          address = address_of s.entry.name;
+          block = b;
+          lived = lives;
+          gone = ap (λ (es : List Event). live_in es (address_of s.entry.name)) (ap (λ (w : World). w.events) (sym text) ∙ ended_shown.events) ∙ ended_none;
+          met = own;
+          minded = has_filtered (meets_page (grain_of b.block.name) (length_of b.block)) (page_numbers f) q (ap (λ (n : Name). meets_page (grain_of n) (length_of b.block) q) named ∙ own) (page_there f q of);
+        }
+      where
+        ended_none : live_in (Event.End k s.entry.name epoch ∷ v.events) (address_of s.entry.name) ≡ None
+        ended_none = ap (λ (t : Bool). if t then None else live_in v.events (address_of s.entry.name)) (eq-eqb (address_of s.entry.name) (address_of s.entry.name) refl)
+
+    ended_taken : IsTakenBy f k s piece v x (own_then s v k)
+    ended_taken = subst (λ (w : World). IsTakenBy f k s piece v w (own_then s v k)) (sym text) (record {
+      pages = pages_of f b.block;
+      returns = ended_returns f k s.entry.name b v run live lives;
+      locals = ended_locals f k s.entry.name b v run live lives;
+      caches = ended_caches f k s.entry.name b v run live lives ∙ ap (λ (ns : List EndedRun). with_cache v.caches k (record (cache_of v k) { noted = ns })) noted_same;
+      marks = marked;
+    })
+
+  module _ (read : ℕ) (outcome : s.outcome ≡ Refused read) where
+    run_rejected : Run f (event_for k epoch s.entry (Refused read) ∷ v.events)
+    run_rejected = subst (λ (o : Outcome). Run f (event_for k epoch s.entry o ∷ v.events)) outcome run_after
+
+    rejected_text : x ≡ rejects k s.entry.name (reason_for s.entry read) v
+    rejected_text = reject_text f k s.entry v live (reason_for s.entry read) run run_rejected.0.1 (reason_is s.entry read)
+
+    rejected_shown : IsShown (Event.Reject k s.entry.name (reason_for s.entry read)) v x
+    rejected_shown = reject_shown f k s.entry v live (reason_for s.entry read) run run_rejected.0.1 (reason_is s.entry read)
+
+    no_mark : (q : ℕ) → IsMarked q piece → ⊥
+    no_mark q mark =
+        let none : is.after ≡ [] = subst (λ (o : Outcome). AfterEnd s.entry.name o is.after) outcome is.returns in
+        subst (IsMarked q) none (after_marked f k epoch s piece l valid legal is known q mark)
+
+    none_noted : own_then s v k ≡ cache_of v k
+    none_noted = ap (λ (runs : List EndedRun). record (cache_of v k) { noted = runs })
+        (ap (λ (runs : List EndedRun). noted_of v k ++ take (64 - length (noted_of v k)) runs) (ap (noted_by s.entry.name s.directory) outcome)
+        ∙ (ap (λ (runs : List EndedRun). noted_of v k ++ runs) (take_none (64 - length (noted_of v k))) ∙ nothing_more (noted_of v k)))
+
+    rejected_taken : IsTakenBy f k s piece v x (own_then s v k)
+    rejected_taken = subst (λ (w : World). IsTakenBy f k s piece v w (own_then s v k)) (sym rejected_text) (record {
+      pages = [];
+      returns = rejected_returns f k s.entry.name (reason_for s.entry read) v;
+      locals = refl;
+      caches = sym (ap (λ (c : Cache). with_cache v.caches k c) none_noted ∙ with_own v.caches k);
+      marks = λ q of mark. absurd (no_mark q mark);
+    })
+
+  taken_by : (o : Outcome) → s.outcome ≡ o → IsShown (event_for k epoch s.entry o) v x × IsTakenBy f k s piece v x (own_then s v k)
+  taken_by (Ended grains) outcome = (ended_shown grains outcome, ended_taken grains outcome)
+  taken_by (Refused read) outcome = (rejected_shown read outcome, rejected_taken read outcome)
+
+-- ---- the marks so far
+still_ended : (es fs gs : List Event) (ps qs : List ℕ) (q : ℕ) → ((a : ℕ) → live_in fs a ≡ None → live_in gs a ≡ None) → IsEndedOn es fs ps q → IsEndedOn es gs (ps ++ qs) q
+still_ended es fs gs ps qs q stays o = record {
+  address = o.address;
+  block = o.block;
+  lived = o.lived;
+  gone = stays o.address o.gone;
+  met = o.met;
+  minded = has_both ps qs q ∙ or_left (has_number ps q) (has_number qs q) o.minded;
+}
+
+ended_since : (es fs gs : List Event) (ps qs : List ℕ) (q : ℕ) → OnlyFewer es fs → IsEndedOn fs gs qs q → IsEndedOn es gs (ps ++ qs) q
+ended_since es fs gs ps qs q fewer o = record {
+  address = o.address;
+  block = o.block;
+  lived = fewer.lives o.address o.block o.lived;
+  gone = o.gone;
+  met = o.met;
+  minded = has_both ps qs q ∙ or_right (has_number ps q) (has_number qs q) o.minded;
+}
+
+module _ (f : Profile) (k epoch : ℕ) (l : Whole) (w : World) (c : Cached) (caches : Caches) (valid : IsValid f) (thread : IsThread f k) (now : w.epoch ≡ epoch) where
+  next_flushed : (s : Settled) (settled : List Settled) (piece steps : List Made) (v : World) → Legal f (triples k piece ++ (triples k steps ++ l)) → EntrySteps s piece → IsFlushedTo f k epoch l w c caches settled steps v
+      → IsFlushedTo f k epoch l w c caches (s ∷ settled) (piece ++ steps) (ends f k s.entry v)
+  next_flushed s settled piece steps v legal is was =
+      let before : Whole = triples k steps ++ l in
+      let at = taken_by f k epoch s piece before valid legal is was.known v was.live was.events (was.epoch ∙ now) s.outcome refl in
+      let shown = at.0 in
+      let taken = at.1 in
+      let e : Event = event_for k epoch s.entry s.outcome in
+      let own : Cached = record c { log = []; noted = noted_after c.noted settled } in
+      let own_same : IsSameCache own (cache_of v k) = subst (λ (d : Cached). IsSameCache d (cache_of v k)) (same_own caches k own) (was.same.each k thread) in
+      let new : Cached = record c { log = []; noted = noted_after c.noted (s ∷ settled) } in
+      let noted : noted_of v k ++ take (64 - length (noted_of v k)) (noted_for s) ≡ noted_after c.noted (s ∷ settled) =
+      ap (λ (ns : List EndedRun). ns ++ take (64 - length ns) (noted_for s)) own_same.noted ∙ sym (noted_more c.noted s settled) in
+      let new_same : IsSameCache new (own_then s v k) = record { locals = own_same.locals; log = own_same.log; noted = noted; began = own_same.began } in
+      let x : World = ends f k s.entry v in
+      let stays : (a : ℕ) → live_in v.events a ≡ None → live_in x.events a ≡ None = λ a h. ap (λ (es : List Event). live_in es a) shown.events ∙ still_gone k epoch s.entry s.outcome v.events a h in
+      let less : OnlyFewer v.events x.events = subst (OnlyFewer v.events) (sym shown.events) (fewer_one k epoch s.entry s.outcome v.events) in
+      let all : triples k piece ++ before ≡ triples k (piece ++ steps) ++ l = triples_append k piece steps l in
+      record {
+        events = shown.events ∙ (ap (λ (es : List Event). e ∷ es) was.events ∙ (sym (entry_events f k epoch s piece before valid legal is was.known) ∙ ap visible all));
+        live = shown.live ∙ (ap (live_after e) was.live ∙ ap lives_in (sym shown.events));
+        names = shown.names ∙ was.names;
+        records = shown.records ∙ ap (λ (rs : List Record). Record.Event e ∷ rs) was.records;
+        epoch = shown.epoch ∙ was.epoch;
+        read = shown.read ∙ was.read;
+        indexes = shown.indexes ∙ was.indexes;
+        locals = taken.locals ∙ was.locals;
+        same = same_again f caches x.caches k own new (subst (AreSameCaches f (with_cached (with_cached caches k own) k new)) (sym taken.caches) (same_with f (with_cached caches k own) v.caches k new (own_then s v k) thread was.same new_same));
+        pages = was.pages ++ taken.pages;
+        returns = returns_then f was.pages taken.pages w v x was.returns taken.returns;
+        fewer = fewer_then w.events v.events x.events was.fewer less;
+        marks = λ q of mark. elim (marked_parts q piece steps mark) [
+          | inl here ↦ ended_since w.events v.events x.events was.pages taken.pages q was.fewer (taken.marks q of here)
+          | inr earlier ↦ still_ended w.events v.events x.events was.pages taken.pages q stays (was.marks q of earlier)
+        ];
+        kinds = only_both freeing piece steps (only_within ending freeing piece refl (entry_kinds f k epoch s piece before valid legal is was.known)) was.kinds;
+        hints = hints_both piece steps (entry_hints f k epoch s piece before valid legal is was.known) was.hints;
+        known = ap epoch_of (ap (part k) (sym all) ∙ part_of_own k piece before)
+            ∙ (ap or_zero (epoch_same ending refl piece (part k before) (entry_kinds f k epoch s piece before valid legal is was.known)) ∙ was.known);
+      }
+
+  abbrev look : Made
+  look = made (Look Word.Epoch) epoch
+
+  pub flushed_start : w.events ≡ visible l → w.live ≡ lives_in w.events → AreSameCaches f caches w.caches → c ≡ caches k → IsFlushedTo f k epoch l w c caches [] (look ∷ []) (set_log k [] w)
+  flushed_start events live same is =
+      let own : IsSameCache c (cache_of w k) = subst (λ (d : Cached). IsSameCache d (cache_of w k)) (sym is) (same.each k thread) in
+      let new : Cache = record (cache_of w k) { log = [] } in
+      let locals : all_locals (with_cache w.caches k new) ≡ all_locals w.caches = locals_with w.caches k new refl in
+      record {
+        events = events;
+        live = live;
+        names = refl;
+        records = refl;
+        epoch = refl;
+        read = refl;
+        indexes = refl;
+        locals = locals;
+        same = same_with f caches w.caches k (record c { log = []; noted = noted_after c.noted [] }) new thread same
+            (record { locals = own.locals; log = refl; noted = own.noted ∙ sym (noted_start c.noted); began = own.began });
+        pages = [];
+        returns = returns_like f [] w w (set_log k [] w) (returns_nothing f w) refl refl refl locals;
+        fewer = record { lives = λ a b h. h; deeds = λ page. refl };
+        marks = λ q of mark. absurd (none_marked (LookEpoch ∷ []) refl q (look ∷ []) (refl, tt) mark);
+        kinds = (refl, tt);
+        hints = hints_none (LookEpoch ∷ []) (look ∷ []) refl (refl, tt);
+        known = ap epoch_of (part_of_own k (look ∷ []) l);
+      }
+
+  pub flushed_all : (settled : List Settled) (steps : List Made) → EntriesSteps settled steps → Legal f (triples k (steps ++ look ∷ []) ++ l) → IsFlushedTo f k epoch l w c caches [] (look ∷ []) (set_log k [] w)
+      → IsFlushedTo f k epoch l w c caches settled (steps ++ look ∷ []) (each (ends f k) (reverse (map (λ s. s.entry) settled)) (set_log k [] w))
+  flushed_all [] steps h legal start = subst (λ (ms : List Made). IsFlushedTo f k epoch l w c caches [] (ms ++ look ∷ []) (set_log k [] w)) (sym h) start
+  flushed_all (s ∷ settled) steps h legal start =
+      let rest : List Made = h.1 ++ look ∷ [] in
+      let all : steps ++ look ∷ [] ≡ h.0 ++ rest = ap (λ (ms : List Made). ms ++ look ∷ []) h.4 ∙ append_assoc h.0 h.1 (look ∷ []) in
+      let whole : Legal f (triples k (h.0 ++ rest) ++ l) = subst (λ (ms : List Made). Legal f (triples k ms ++ l)) all legal in
+      let before : Legal f (triples k rest ++ l) = legal_earlier f k h.0 rest l whole in
+      let v : World = each (ends f k) (reverse (map (λ s. s.entry) settled)) (set_log k [] w) in
+      let was : IsFlushedTo f k epoch l w c caches settled rest v = flushed_all settled h.1 h.3 before start in
+      let next : IsFlushedTo f k epoch l w c caches (s ∷ settled) (h.0 ++ rest) (ends f k s.entry v) = next_flushed s settled h.0 rest v (subst (Legal f) (sym (triples_append k h.0 rest l)) whole) h.2 was in
+      let text : each (ends f k) (reverse (s.entry ∷ map (λ s. s.entry) settled)) (set_log k [] w) ≡ ends f k s.entry v =
+      ap (λ (es : List Entry). each (ends f k) es (set_log k [] w)) (reverse_onto (map (λ s. s.entry) settled) s.entry []) ∙ each_last (ends f k) (reverse (map (λ s. s.entry) settled)) s.entry (set_log k [] w) in
+      subst (λ (ms : List Made). IsFlushedTo f k epoch l w c caches (s ∷ settled) ms (each (ends f k) (reverse (s.entry ∷ map (λ s. s.entry) settled)) (set_log k [] w))) (sym all)
+      (subst (λ (z : World). IsFlushedTo f k epoch l w c caches (s ∷ settled) (h.0 ++ rest) z) (sym text) next)

@@ -1,0 +1,303 @@
+-- What the text does where grains come back to pages: which grains are free then, and which pages are hinted.
+use Rattle.std.proofs.Common.{◌≡◌, ℕ, zero, suc, ◌+◌, ◌<◌, ◌≤◌, ◌≢◌, ◌==◌, Bool, true, false, ◌&&◌, ◌||◌, if◌then◌else◌, List, [], ◌∷◌, ◌++◌, inl, inr, refl, ap, sym, ◌∙◌, arith}
+use Rattle.std.proofs.lemmas.Bool.{false≢true, true≢false, eqb-true, eq-eqb, or_cases, cases_eq}
+use Rattle.std.proofs.lemmas.List.Folds.{list_any-append}
+use Rattle.std.specs.List.{list_any, filter}
+use Rattle.pas_bits.specs.Runs.{meets_page}
+use Rattle.pas_profile.specs.Blocks.{grain_of, length_of}
+use Rattle.pas_profile.specs.Profiles.{IsPage}
+use Rattle.pas_profile.specs.declared.name.Block.{Block}
+use Rattle.pas_profile.specs.declared.profile.Profile.{Profile}
+use Rattle.pas_profile.specs.declared.event.Event.{Event}
+use Rattle.pas_machine.specs.State.{backed_in}
+use Rattle.pas_trace.specs.Acts.{numbers_from}
+use Rattle.pas_one_text.specs.State.{Local, World, each}
+use Rattle.pas_one_text.specs.Pages.{each_of, is_free, is_free_of, is_empty, is_hinted, hints, minds, page_numbers}
+use Rattle.pas_same_text.specs.Same.{has_number}
+use Rattle.pas_same_text.proofs.CacheLists.{all_locals}
+
+-- ---- tests of numbers that follow each other
+pub each_same : (n from : ℕ) (test other : ℕ → Bool) → ((b : ℕ) → from ≤ b → b < from + n → test b ≡ other b) → each_of from n test ≡ each_of from n other
+unfolding each_of
+each_same zero from test other agree = refl
+each_same (suc n) from test other agree =
+    ap (λ (t : Bool). t && each_of (from + 1) n test) (agree from (omega arith) (omega arith))
+    ∙ ap (λ (t : Bool). other from && t) (each_same n (from + 1) test other (λ b low high. agree b (omega (arith, low)) (omega (arith, high))))
+
+each_more_at : (x y r s : Bool) → (x ≡ true → y ≡ true) → (r ≡ true → s ≡ true) → (x && r) ≡ true → (y && s) ≡ true
+each_more_at true true r s first rest h = rest h
+each_more_at true false r s first rest h = first refl
+each_more_at false y r s first rest h = absurd (false≢true h)
+
+-- each number passes the one test that passes the other
+pub each_more : (n from : ℕ) (test other : ℕ → Bool) → ((b : ℕ) → from ≤ b → b < from + n → test b ≡ true → other b ≡ true) → each_of from n test ≡ true → each_of from n other ≡ true
+unfolding each_of
+each_more zero from test other more h = refl
+each_more (suc n) from test other more h =
+    each_more_at (test from) (other from) (each_of (from + 1) n test) (each_of (from + 1) n other)
+    (more from (omega arith) (omega arith))
+    (each_more n (from + 1) test other (λ b low high. more b (omega (arith, low)) (omega (arith, high)))) h
+
+-- .. at one of them, and at all
+pub each_at : (n from b : ℕ) (test : ℕ → Bool) → each_of from n test ≡ true → from ≤ b → b < from + n → test b ≡ true
+unfolding each_of
+each_at zero from b test h low high = absurd (omega (arith, low, high))
+each_at (suc n) from b test h low high = elim (cases_eq from b) [
+  | inl same ↦ ap test (sym same) ∙ and_one (test from) (each_of (from + 1) n test) h
+  | inr ne ↦ each_at n (from + 1) b test (and_two (test from) (each_of (from + 1) n test) h) (omega (arith, low, ne)) (omega (arith, high))
+]
+  where
+    and_one : (x y : Bool) → (x && y) ≡ true → x ≡ true
+    and_one true y h = refl
+    and_one false y h = h
+
+    and_two : (x y : Bool) → (x && y) ≡ true → y ≡ true
+    and_two true y h = h
+    and_two false y h = absurd (false≢true h)
+
+pub each_all : (n from : ℕ) (test : ℕ → Bool) → ((b : ℕ) → from ≤ b → b < from + n → test b ≡ true) → each_of from n test ≡ true
+unfolding each_of
+each_all zero from test all = refl
+each_all (suc n) from test all = both (test from) (each_of (from + 1) n test) (all from (omega arith) (omega arith)) (each_all n (from + 1) test (λ b low high. all b (omega (arith, low)) (omega (arith, high))))
+  where
+    both : (x y : Bool) → x ≡ true → y ≡ true → (x && y) ≡ true
+    both true y e h = h
+    both false y e h = absurd (false≢true e)
+
+-- ---- what is free follows from the live blocks and the local allocators
+abbrev pub free_with : List Block → List Local → ℕ → ℕ → Bool
+free_with live locals page b = is_free_of (filter (λ x. meets_page (grain_of x.name) (length_of x) page) live) (filter (λ l. l.page == page) locals) page b
+
+free_is : (w : World) (page b : ℕ) → is_free w page b ≡ free_with w.live (all_locals w.caches) page b
+free_is w page b = refl
+
+pub free_kept : (w v : World) (page b : ℕ) → v.live ≡ w.live → all_locals v.caches ≡ all_locals w.caches → is_free v page b ≡ is_free w page b
+free_kept w v page b live locals =
+    free_is v page b
+    ∙ (ap (λ (bs : List Block). free_with bs (all_locals v.caches) page b) live
+    ∙ (ap (λ (ls : List Local). free_with w.live ls page b) locals
+    ∙ sym (free_is w page b)))
+
+pub empty_kept : (w v : World) (page : ℕ) → ((b : ℕ) → b < 256 → is_free v page b ≡ is_free w page b) → is_empty v page ≡ is_empty w page
+empty_kept w v page same = each_same 256 0 (is_free v page) (is_free w page) (λ b low high. same b high)
+
+-- ---- states that differ in hints alone
+pub record OnlyHints (w v : World) : Type 0 where
+  pub events : v.events ≡ w.events
+  pub records : v.records ≡ w.records
+  pub live : v.live ≡ w.live
+  pub caches : v.caches ≡ w.caches
+  pub indexes : v.indexes ≡ w.indexes
+  pub names : v.names ≡ w.names
+  pub epoch : v.epoch ≡ w.epoch
+  pub read : v.read ≡ w.read
+
+no_hints : (w : World) → OnlyHints w w
+no_hints w = record { events = refl; records = refl; live = refl; caches = refl; indexes = refl; names = refl; epoch = refl; read = refl }
+
+hints_then : (w v x : World) → OnlyHints w v → OnlyHints v x → OnlyHints w x
+hints_then w v x a b = record {
+  events = b.events ∙ a.events;
+  records = b.records ∙ a.records;
+  live = b.live ∙ a.live;
+  caches = b.caches ∙ a.caches;
+  indexes = b.indexes ∙ a.indexes;
+  names = b.names ∙ a.names;
+  epoch = b.epoch ∙ a.epoch;
+  read = b.read ∙ a.read;
+}
+
+only_if : (w v x : World) (t : Bool) → OnlyHints w v → OnlyHints w x → OnlyHints w (if t then v else x)
+only_if w v x true a b = a
+only_if w v x false a b = b
+
+more_hinted : (w : World) (page : ℕ) → OnlyHints w (record w { hinted = page ∷ w.hinted })
+more_hinted w page = record { events = refl; records = refl; live = refl; caches = refl; indexes = refl; names = refl; epoch = refl; read = refl }
+
+only_minds : (w : World) (page : ℕ) → OnlyHints w (minds page w)
+only_minds w page = only_if w (hints page w) w (backed_in w.events page && is_empty w page) (only_if w w (record w { hinted = page ∷ w.hinted }) (is_hinted w page) (no_hints w) (more_hinted w page)) (no_hints w)
+
+pub all_only_hints : (pages : List ℕ) (w : World) → OnlyHints w (each minds pages w)
+all_only_hints [] w = no_hints w
+all_only_hints (page ∷ pages) w = hints_then w (minds page w) (each minds pages (minds page w)) (only_minds w page) (all_only_hints pages (minds page w))
+
+-- ---- a page that is backed and empty
+abbrev pub is_idle : World → ℕ → Bool
+is_idle w page = backed_in w.events page && is_empty w page
+
+pub idle_kept : (w v : World) (page : ℕ) → OnlyHints w v → is_idle v page ≡ is_idle w page
+idle_kept w v page only =
+    ap (λ (es : List Event). backed_in es page && is_empty v page) only.events
+    ∙ ap (λ (t : Bool). backed_in w.events page && t) (empty_kept w v page (λ b small. free_kept w v page b only.live (ap all_locals only.caches)))
+
+-- ---- which pages are hinted after pages were minded
+no_more : (x : Bool) → x ≡ (x || false)
+no_more true = refl
+no_more false = refl
+
+hinted_at : (page q : ℕ) (old : List ℕ) (t h same : Bool) → list_any (λ p. p == page) old ≡ h → (page == q) ≡ same
+    → list_any (λ p. p == q) (if t then (if h then old else page ∷ old) else old) ≡ (list_any (λ p. p == q) old || (same && t))
+hinted_at page q old true true true e is =
+    let here : list_any (λ p. p == q) old ≡ true = ap (λ (x : ℕ). list_any (λ p. p == x) old) (sym (eqb-true page q is)) ∙ e in
+    here ∙ ap (λ (t : Bool). t || true) (sym here)
+hinted_at page q old true true false e is = no_more (list_any (λ p. p == q) old)
+hinted_at page q old true false true e is = ap (λ (t : Bool). t || list_any (λ p. p == q) old) is ∙ sym (or_true (list_any (λ p. p == q) old))
+  where
+    or_true : (x : Bool) → (x || true) ≡ true
+    or_true true = refl
+    or_true false = refl
+hinted_at page q old true false false e is = ap (λ (t : Bool). t || list_any (λ p. p == q) old) is ∙ no_more (list_any (λ p. p == q) old)
+hinted_at page q old false h true e is = no_more (list_any (λ p. p == q) old)
+hinted_at page q old false h false e is = no_more (list_any (λ p. p == q) old)
+
+hinted_minded : (w : World) (page q : ℕ) → is_hinted (minds page w) q ≡ (is_hinted w q || ((page == q) && is_idle w page))
+hinted_minded w page q = of_if (is_idle w page) (is_hinted w page) ∙ hinted_at page q w.hinted (is_idle w page) (is_hinted w page) (page == q) refl refl
+  where
+    of_if : (t h : Bool) → is_hinted (if t then (if h then w else record w { hinted = page ∷ w.hinted }) else w) q ≡ list_any (λ p. p == q) (if t then (if h then w.hinted else page ∷ w.hinted) else w.hinted)
+    of_if true true = refl
+    of_if true false = refl
+    of_if false h = refl
+
+same_idle : (w : World) (page q : ℕ) (same : Bool) → (page == q) ≡ same → (same && is_idle w page) ≡ (same && is_idle w q)
+same_idle w page q true is = ap (is_idle w) (eqb-true page q is)
+same_idle w page q false is = refl
+
+joined : (h s r i : Bool) → ((h || (s && i)) || (r && i)) ≡ (h || ((s || r) && i))
+joined true s r i = refl
+joined false true true true = refl
+joined false true true false = refl
+joined false true false true = refl
+joined false true false false = refl
+joined false false r i = refl
+
+pub hinted_all : (pages : List ℕ) (w : World) (q : ℕ) → is_hinted (each minds pages w) q ≡ (is_hinted w q || (has_number pages q && is_idle w q))
+hinted_all [] w q = no_more (is_hinted w q)
+hinted_all (page ∷ pages) w q =
+    hinted_all pages (minds page w) q
+    ∙ (ap (λ (t : Bool). is_hinted (minds page w) q || (has_number pages q && t)) (idle_kept w (minds page w) q (only_minds w page))
+    ∙ (ap (λ (t : Bool). t || (has_number pages q && is_idle w q)) (hinted_minded w page q ∙ ap (λ (t : Bool). is_hinted w q || t) (same_idle w page q (page == q) refl))
+    ∙ joined (is_hinted w q) (page == q) (has_number pages q) (is_idle w q)))
+
+-- ==== GRAINS COME BACK to these pages: what was free stays so, on other pages nothing changes, and these pages are hinted where they are idle then
+pub record Returns (f : Profile) (pages : List ℕ) (w v : World) : Type 0 where
+  pub within : (page : ℕ) → has_number pages page ≡ true → IsPage f page
+  pub backed : (page : ℕ) → backed_in v.events page ≡ backed_in w.events page
+  pub grows : (page b : ℕ) → b < 256 → is_free w page b ≡ true → is_free v page b ≡ true
+  pub others : (page b : ℕ) → IsPage f page → has_number pages page ≡ false → b < 256 → is_free v page b ≡ is_free w page b
+  pub hinted : (page : ℕ) → is_hinted v page ≡ (is_hinted w page || (has_number pages page && is_idle v page))
+
+pub idle_grows : (f : Profile) (pages : List ℕ) (w v : World) (page : ℕ) → Returns f pages w v → is_idle w page ≡ true → is_idle v page ≡ true
+idle_grows f pages w v page r h = both (backed_in w.events page) (backed_in v.events page) (is_empty w page) (is_empty v page) (sym (r.backed page)) (each_more 256 0 (is_free w page) (is_free v page) (λ b low high. r.grows page b high)) h
+  where
+    both : (x y e g : Bool) → x ≡ y → (e ≡ true → g ≡ true) → (x && e) ≡ true → (y && g) ≡ true
+    both true true e g same more h = more h
+    both true false e g same more h = absurd (true≢false same)
+    both false y e g same more h = absurd (false≢true h)
+
+idle_same : (f : Profile) (pages : List ℕ) (w v : World) (page : ℕ) → Returns f pages w v → IsPage f page → has_number pages page ≡ false → is_idle v page ≡ is_idle w page
+idle_same f pages w v page r of none =
+    ap (λ (t : Bool). t && is_empty v page) (r.backed page)
+    ∙ ap (λ (t : Bool). backed_in w.events page && t) (empty_kept w v page (λ b small. r.others page b of none small))
+
+pub returns_nothing : (f : Profile) (w : World) → Returns f [] w w
+returns_nothing f w = record {
+  within = λ page h. absurd (false≢true h);
+  backed = λ page. refl;
+  grows = λ page b small h. h;
+  others = λ page b of none small. refl;
+  hinted = λ page. no_more (is_hinted w page);
+}
+
+-- as far as nothing but what these tests read is the same
+pub returns_like : (f : Profile) (pages : List ℕ) (w v x : World) → Returns f pages w v → x.events ≡ v.events → x.live ≡ v.live → x.hinted ≡ v.hinted → all_locals x.caches ≡ all_locals v.caches → Returns f pages w x
+returns_like f pages w v x r events live hinted locals = record {
+  within = r.within;
+  backed = λ page. ap (λ (es : List Event). backed_in es page) events ∙ r.backed page;
+  grows = λ page b small h. free_kept v x page b live locals ∙ r.grows page b small h;
+  others = λ page b of none small. free_kept v x page b live locals ∙ r.others page b of none small;
+  hinted = λ page. ap (λ (hs : List ℕ). list_any (λ p. p == page) hs) hinted
+      ∙ (r.hinted page
+      ∙ ap (λ (t : Bool). is_hinted w page || (has_number pages page && t))
+      (ap (λ (es : List Event). backed_in es page && is_empty v page) (sym events)
+      ∙ ap (λ (t : Bool). backed_in x.events page && t) (sym (empty_kept v x page (λ b small. free_kept v x page b live locals)))));
+}
+
+-- ---- one after the other
+settled_hint : (h p q b c : Bool) → (b ≡ true → c ≡ true) → (p ≡ true → q ≡ false → c ≡ b) → ((h || (p && b)) || (q && c)) ≡ (h || ((p || q) && c))
+settled_hint true p q b c grows same = refl
+settled_hint false true true true true grows same = refl
+settled_hint false true true true false grows same = absurd (false≢true (grows refl))
+settled_hint false true true false c grows same = refl
+settled_hint false true false b c grows same = ends b c (same refl refl)
+  where
+    ends : (b c : Bool) → c ≡ b → (b || false) ≡ c
+    ends true c e = sym e
+    ends false c e = sym e
+settled_hint false false q b c grows same = refl
+
+neither : (x y : Bool) → (x || y) ≡ false → (x ≡ false) × (y ≡ false)
+neither true y h = absurd (true≢false h)
+neither false y h = (refl, h)
+
+pub has_both : (ps qs : List ℕ) (page : ℕ) → has_number (ps ++ qs) page ≡ (has_number ps page || has_number qs page)
+has_both ps qs page = list_any-append (λ m. m == page) ps qs
+
+module _ (f : Profile) (ps qs : List ℕ) (w v x : World) (a : Returns f ps w v) (b : Returns f qs v x) where
+  within_both : (page : ℕ) → has_number (ps ++ qs) page ≡ true → IsPage f page
+  within_both page h = elim (or_cases (has_number ps page) (has_number qs page) (sym (has_both ps qs page) ∙ h)) [
+    | inl first ↦ a.within page first
+    | inr later ↦ b.within page later
+  ]
+
+  pub returns_then : Returns f (ps ++ qs) w x
+  returns_then = record {
+    within = within_both;
+    backed = λ page. b.backed page ∙ a.backed page;
+    grows = λ page g small h. b.grows page g small (a.grows page g small h);
+    others = λ page g of none small.
+        let each = neither (has_number ps page) (has_number qs page) (sym (has_both ps qs page) ∙ none) in
+        b.others page g of each.1 small ∙ a.others page g of each.0 small;
+    hinted = λ page.
+        b.hinted page
+        ∙ (ap (λ (t : Bool). t || (has_number qs page && is_idle x page)) (a.hinted page)
+        ∙ (settled_hint (is_hinted w page) (has_number ps page) (has_number qs page) (is_idle v page) (is_idle x page)
+        (idle_grows f qs v x page b) (λ here none. idle_same f qs v x page b (a.within page here) none)
+        ∙ ap (λ (t : Bool). is_hinted w page || (t && is_idle x page)) (sym (has_both ps qs page))));
+  }
+
+-- ---- the pages that are minded at the end
+pub minded_last : (f : Profile) (pages : List ℕ) (w v : World) → ((page : ℕ) → has_number pages page ≡ true → IsPage f page) → ((page : ℕ) → backed_in v.events page ≡ backed_in w.events page)
+    → ((page b : ℕ) → b < 256 → is_free w page b ≡ true → is_free v page b ≡ true) → ((page b : ℕ) → IsPage f page → has_number pages page ≡ false → b < 256 → is_free v page b ≡ is_free w page b) → v.hinted ≡ w.hinted
+    → Returns f pages w (each minds pages v)
+minded_last f pages w v within backed grows others hinted =
+    let only : OnlyHints v (each minds pages v) = all_only_hints pages v in record {
+      within = within;
+      backed = λ page. ap (λ (es : List Event). backed_in es page) only.events ∙ backed page;
+      grows = λ page b small h. free_kept v (each minds pages v) page b only.live (ap all_locals only.caches) ∙ grows page b small h;
+      others = λ page b of none small. free_kept v (each minds pages v) page b only.live (ap all_locals only.caches) ∙ others page b of none small;
+      hinted = λ page. hinted_all pages v page
+          ∙ (ap (λ (hs : List ℕ). list_any (λ p. p == page) hs || (has_number pages page && is_idle v page)) hinted
+          ∙ ap (λ (t : Bool). is_hinted w page || (has_number pages page && t)) (sym (idle_kept v (each minds pages v) page only)));
+    }
+
+-- ---- pages of the region
+numbers_within : (n from page : ℕ) → has_number (numbers_from from n) page ≡ true → (from ≤ page) × (page < from + n)
+numbers_within zero from page h = absurd (false≢true h)
+numbers_within (suc n) from page h = elim (or_cases (from == page) (has_number (numbers_from (from + 1) n) page) h) [
+  | inl here ↦ let is : from ≡ page = eqb-true from page here in (omega (arith, is), omega (arith, is))
+  | inr later ↦ let in_rest = numbers_within n (from + 1) page later in let low = in_rest.0 in let high = in_rest.1 in (omega (arith, low), omega (arith, high))
+]
+
+have_at : (from page : ℕ) (rest : Bool) (t : Bool) → (from == page) ≡ t → (from ≢ page → rest ≡ true) → ((from == page) || rest) ≡ true
+have_at from page rest true e more = ap (λ (x : Bool). x || rest) e
+have_at from page rest false e more = ap (λ (x : Bool). x || rest) e ∙ more (λ same. false≢true (sym e ∙ eq-eqb from page same))
+
+numbers_have : (n from page : ℕ) → from ≤ page → page < from + n → has_number (numbers_from from n) page ≡ true
+numbers_have zero from page low high = absurd (omega (arith, low, high))
+numbers_have (suc n) from page low high = have_at from page (has_number (numbers_from (from + 1) n) page) (from == page) refl (λ ne. numbers_have n (from + 1) page (omega (arith, low, ne)) (omega (arith, high)))
+
+pub page_within : (f : Profile) (page : ℕ) → has_number (page_numbers f) page ≡ true → IsPage f page
+page_within f page h = let at = numbers_within f.pages 1 page h in let high = at.1 in (at.0, omega (arith, high))
+
+pub page_there : (f : Profile) (page : ℕ) → IsPage f page → has_number (page_numbers f) page ≡ true
+page_there f page of = let high = of.1 in numbers_have f.pages 1 page of.0 (omega (arith, high))

@@ -1,0 +1,174 @@
+-- Pages after an act that only gives back: which are hinted, and which are offered.
+use Rattle.std.proofs.Common.{◌≡◌, ℕ, ◌+◌, ◌*◌, ◌/◌, ◌%◌, ◌<◌, Bool, true, false, not, ◌&&◌, ◌||◌, List, ◌++◌, Some, ◌⊎◌, inl, inr, refl, ap, sym, ◌∙◌, subst, arith}
+use Rattle.std.proofs.lemmas.Bool.{true≢false, false≢true, or_cases, false_from_ne_true, eq-eqb}
+use Rattle.pas_profile.specs.Directories.{number_of}
+use Rattle.pas_profile.specs.Profiles.{IsValid, IsPage, IsDirectoryOf}
+use Rattle.pas_profile.specs.declared.directory.Directory.{Directory}
+use Rattle.pas_profile.specs.declared.event.Event.{Event}
+use Rattle.pas_profile.specs.declared.profile.Profile.{Profile}
+use Rattle.pas_machine.specs.State.{Live, live_in, backed_in}
+use Rattle.pas_steps.specs.Desks.{triples}
+use Rattle.pas_steps.specs.Kinds.{Only}
+use Rattle.pas_steps.specs.Lists.{Whole, part, visible, Legal}
+use Rattle.pas_steps.specs.Past.{Always}
+use Rattle.pas_steps.specs.Views.{holds, usable_by_kind}
+use Rattle.pas_steps.specs.declared.step.Made.{Made}
+use Rattle.pas_steps.proofs.Sets.{same_truth}
+use Rattle.pas_core.specs.Good.{IsPartOf, IsInOnePlace, word_of_backed}
+use Rattle.pas_core.specs.Hints.{IsEmptyBacked}
+use Rattle.pas_core.specs.Rights.{empty_bit, eligible_bit}
+use Rattle.pas_core.proofs.MachineRuns.{agrees, in_one_place, one_backed}
+use Rattle.pas_core.proofs.Offers.{hinted_at_rest}
+use Rattle.pas_core.proofs.Rights.{hinted_page, right_in_one_place}
+use Rattle.pas_rights.specs.Looks.{HintsEmpty}
+use Rattle.pas_free_log.specs.Frames.{freeing}
+use Rattle.pas_answers.specs.Answers.{Progress}
+use Rattle.pas_one_text.specs.State.{World}
+use Rattle.pas_one_text.specs.Pages.{each_of, is_free, is_empty, is_hinted, is_kept, is_of, is_offered, has_room}
+use Rattle.pas_same_text.specs.Same.{HasSame, ArePagesSame, has_number}
+use Rattle.pas_same_text.specs.Acts.{IsBetween}
+use Rattle.pas_same_text.specs.Words.{free_bit}
+use Rattle.pas_same_text.proofs.FreeGrains.{free_same}
+use Rattle.pas_same_text.proofs.GivenBack.{Returns, is_idle, each_at, each_all}
+use Rattle.pas_same_text.proofs.GivingBack.{OffersPage, HintsPage, hinted_stays, hinted_by, offered_by, hinted_empty}
+use Rattle.pas_same_text.proofs.RestingPages.{Fails, some_fails, clear_of, bit_tells, bit_offered, offered_bit}
+use Rattle.pas_same_text.proofs.Tests.{and_first, and_second}
+
+-- ---- room
+no-not : (x : Bool) → not x ≡ true → x ≡ false
+no-not true h = absurd (false≢true h)
+no-not false h = refl
+
+not-no : (x : Bool) → not x ≡ false → x ≡ true
+not-no true h = refl
+not-no false h = absurd (true≢false h)
+
+-- a page with a free grain that its blocks may cover has room
+pub room_from : (w : World) (d : Directory) (page b : ℕ) → b < 256 → usable_by_kind d.kind b ≡ true → is_free w page b ≡ true → has_room w d page ≡ true
+room_from w d page b small usable free = ap not (false_from_ne_true (each_of 0 256 (λ x. not (usable_by_kind d.kind x && is_free w page x))) (λ all.
+    false≢true (sym (ap not (both (usable_by_kind d.kind b) (is_free w page b) usable free)) ∙ each_at 256 0 b (λ x. not (usable_by_kind d.kind x && is_free w page x)) all (omega arith) small)))
+  where
+    both : (x y : Bool) → x ≡ true → y ≡ true → (x && y) ≡ true
+    both true y e h = h
+    both false y e h = absurd (false≢true e)
+
+-- where free grains stay free, room stays
+pub room_grows : (w v : World) (d : Directory) (page : ℕ) → ((b : ℕ) → b < 256 → is_free w page b ≡ true → is_free v page b ≡ true) → has_room w d page ≡ true → has_room v d page ≡ true
+room_grows w v d page grows room =
+    let o : Fails 0 256 (λ b. not (usable_by_kind d.kind b && is_free w page b)) = some_fails 256 0 (λ b. not (usable_by_kind d.kind b && is_free w page b)) (no-not (each_of 0 256 (λ b. not (usable_by_kind d.kind b && is_free w page b))) room) in
+    let both : (usable_by_kind d.kind o.number && is_free w page o.number) ≡ true = not-no (usable_by_kind d.kind o.number && is_free w page o.number) o.fails in
+    room_from v d page o.number o.high (and_first (usable_by_kind d.kind o.number) (is_free w page o.number) both)
+    (grows o.number o.high (and_second (usable_by_kind d.kind o.number) (is_free w page o.number) both))
+
+pub had_room : (w : World) (d : Directory) (q : ℕ) → is_offered w d q ≡ true → has_room w d q ≡ true
+had_room w d q h = and_second (not (is_kept w q)) (has_room w d q) (and_second (is_of w d q) (not (is_kept w q) && has_room w d q) h)
+
+-- ---- grains of a legal list
+-- a grain of a live block is held by nobody
+pub covered_not_held : (f : Profile) (l : Whole) → IsValid f → Legal f l → (g address : ℕ) (b : Live) → live_in (visible l) address ≡ Some b → IsPartOf g address b → (k : ℕ) → holds (part k l) g ≡ true → ⊥
+covered_not_held f l valid legal g address b lives of k held = by_place (in_one_place f l valid legal g)
+  where
+    by_place : IsInOnePlace l g → ⊥
+    by_place (inl free) = false≢true (sym (free.nobody k) ∙ held)
+    by_place (inr (inl one)) = one.no_block address b lives of
+    by_place (inr (inr covered)) = false≢true (sym (covered.nobody k) ∙ held)
+
+-- a grain that nobody holds and no live block has is free
+pub free_left : (f : Profile) (l : Whole) → IsValid f → Legal f l → (g : ℕ) → ((k : ℕ) → holds (part k l) g ≡ true → ⊥) → ((address : ℕ) (b : Live) → live_in (visible l) address ≡ Some b → IsPartOf g address b → ⊥) → free_bit l g ≡ true
+free_left f l valid legal g nobody none = by_place (in_one_place f l valid legal g)
+  where
+    by_place : IsInOnePlace l g → free_bit l g ≡ true
+    by_place (inl free) = free.free
+    by_place (inr (inl one)) = absurd (nobody one.actor (one.holder one.actor ∙ eq-eqb one.actor one.actor refl))
+    by_place (inr (inr covered)) = absurd (none covered.address covered.block covered.lives covered.covered)
+
+-- ---- pages that are backed and empty, in words and in the text
+module _ (f : Profile) (p : Progress) (w : World) (valid : IsValid f) (between : IsBetween f p) (same : HasSame f p w) where
+  backed_is : (page : ℕ) → backed_in w.events page ≡ backed_in (visible p.list) page
+  backed_is page = ap (λ (es : List Event). backed_in es page) same.events
+
+  pub idle_page : (page : ℕ) → is_idle w page ≡ true → IsEmptyBacked p.list page
+  idle_page page h =
+      let backed : backed_in w.events page ≡ true = and_first (backed_in w.events page) (is_empty w page) h in
+      let empty : is_empty w page ≡ true = and_second (backed_in w.events page) (is_empty w page) h in
+      record {
+        backed = (agrees f p.list valid between.legal).backed page ∙ ap word_of_backed (sym (backed_is page) ∙ backed);
+        free = λ g of.
+            let whole : 256 * page + g % 256 ≡ g = omega (arith, of) in
+            let small : g % 256 < 256 = omega arith in
+            ap (free_bit p.list) (sym whole) ∙ (sym (free_same f p w valid between same page (g % 256) small) ∙ each_at 256 0 (g % 256) (is_free w page) empty (omega arith) small);
+      }
+
+  pub page_idle : (page : ℕ) → IsEmptyBacked p.list page → is_idle w page ≡ true
+  page_idle page e =
+      let backed : backed_in (visible p.list) page ≡ true = one_backed (backed_in (visible p.list) page) (sym e.backed ∙ (agrees f p.list valid between.legal).backed page) in
+      let empty : is_empty w page ≡ true = each_all 256 0 (is_free w page) (λ b low high.
+      let of : (256 * page + b) / 256 ≡ page = omega (arith, high) in
+      free_same f p w valid between same page b high ∙ e.free (256 * page + b) of) in
+      both (backed_in w.events page) (is_empty w page) (backed_is page ∙ backed) empty
+    where
+      both : (x y : Bool) → x ≡ true → y ≡ true → (x && y) ≡ true
+      both true y e h = h
+      both false y e h = absurd (false≢true e)
+
+  -- at rest such a page is hinted
+  pub idle_hinted : (page : ℕ) → is_idle w page ≡ true → empty_bit p.list page ≡ true
+  idle_hinted page h = hinted_at_rest f p.list valid between.legal (clear_of f p w valid between same) page (idle_page page h)
+
+-- ==== THE PAGES after an act that only gives back
+pub record IsGivenBack (f : Profile) (k : ℕ) (l : Whole) (w : World) (steps : List Made) (v : World) : Type 0 where
+  pub pages : List ℕ
+  pub returns : Returns f pages w v
+  pub kinds : Only freeing steps
+  pub hints : Always HintsEmpty steps
+  pub marks : (q : ℕ) → IsPage f q → HintsPage q steps → has_number pages q ≡ true
+  pub rooms : (q : ℕ) (d : Directory) → IsDirectoryOf f d → is_of v d q ≡ true → OffersPage q steps → has_room v d q ≡ true
+
+module _ (f : Profile) (k : ℕ) (l : Whole) (p' : Progress) (w v : World) (steps : List Made) (valid : IsValid f) (was : ArePagesSame f l w) (list : p'.list ≡ triples k steps ++ l) (between : IsBetween f p') (same : HasSame f p' v)
+    (given : IsGivenBack f k l w steps v) where
+  legal : Legal f (triples k steps ++ l)
+  legal = subst (Legal f) list between.legal
+
+  or_left : (x y : Bool) → x ≡ true → (x || y) ≡ true
+  or_left true y h = refl
+  or_left false y h = absurd (false≢true h)
+
+  or_right : (x y : Bool) → y ≡ true → (x || y) ≡ true
+  or_right true y h = refl
+  or_right false y h = h
+
+  both : (x y : Bool) → x ≡ true → y ≡ true → (x && y) ≡ true
+  both true y e h = h
+  both false y e h = absurd (false≢true e)
+
+  to_bit : (page : ℕ) → is_hinted v page ≡ true → empty_bit p'.list page ≡ true
+  to_bit page h = elim (or_cases (is_hinted w page) (has_number given.pages page && is_idle v page) (sym (given.returns.hinted page) ∙ h)) [
+    | inl old ↦ ap (λ (m : Whole). empty_bit m page) list ∙ hinted_stays freeing refl k steps l page given.kinds (sym (was.hinted page) ∙ old)
+    | inr new ↦ idle_hinted f p' v valid between same page (and_second (has_number given.pages page) (is_idle v page) new)
+  ]
+
+  from_bit : (page : ℕ) → empty_bit p'.list page ≡ true → is_hinted v page ≡ true
+  from_bit page bit = given.returns.hinted page ∙ at (hinted_by k steps l page (ap (λ (m : Whole). empty_bit m page) (sym list) ∙ bit))
+    where
+      at : (empty_bit l page ≡ true) ⊎ HintsPage page steps → (is_hinted w page || (has_number given.pages page && is_idle v page)) ≡ true
+      at (inl old) = or_left (is_hinted w page) (has_number given.pages page && is_idle v page) (was.hinted page ∙ old)
+      at (inr new) =
+          let empty : IsEmptyBacked (triples k steps ++ l) page = hinted_empty freeing f k l page refl refl steps legal given.kinds given.hints new in
+          or_right (is_hinted w page) (has_number given.pages page && is_idle v page)
+          (both (has_number given.pages page) (is_idle v page) (given.marks page (hinted_page f p'.list between.legal page bit) new)
+          (page_idle f p' v valid between same page (subst (λ (m : Whole). IsEmptyBacked m page) (sym list) empty)))
+
+  from_offer : (page : ℕ) (d : Directory) → IsDirectoryOf f d → eligible_bit p'.list (number_of d) page ≡ true → is_offered v d page ≡ true
+  from_offer page d of bit = bit_offered f p' v valid between same page d of bit (at (offered_by k steps l (number_of d) page (ap (λ (m : Whole). eligible_bit m (number_of d) page) (sym list) ∙ bit)))
+    where
+      at : (eligible_bit l (number_of d) page ≡ true) ⊎ OffersPage page steps → has_room v d page ≡ true
+      at (inl old) = room_grows w v d page (λ b small h. given.returns.grows page b small h) (had_room w d page (was.offered page d of ∙ old))
+      at (inr new) = given.rooms page d of (bit_tells f p' v valid between same page d of (right_in_one_place f p'.list between.legal page) bit).0 new
+
+  pub given_pages : ArePagesSame f p'.list v
+  given_pages = record {
+    events = same.events;
+    live = same.live;
+    hinted = λ page. same_truth (is_hinted v page) (empty_bit p'.list page) (to_bit page) (from_bit page);
+    offered = λ page d of. same_truth (is_offered v d page) (eligible_bit p'.list (number_of d) page) (offered_bit f p' v valid between same page d of) (from_offer page d of);
+  }

@@ -1,0 +1,218 @@
+-- What the text does where the local allocators of a cache go: their slots come back to their pages.
+use Rattle.std.proofs.Common.{◌≡◌, ℕ, ◌+◌, ◌-◌, ◌*◌, ◌≤◌, ◌==◌, Bool, true, false, not, ◌&&◌, ◌||◌, if◌then◌else◌, cond, List, [], ◌∷◌, ◌++◌, length, map, refl, ap, sym, ◌∙◌, subst, arith}
+use Rattle.std.proofs.lemmas.Bool.{eq-eqb, eqb-true, false≢true}
+use Rattle.std.proofs.lemmas.List.Folds.{list_any-append}
+use Rattle.std.proofs.lemmas.List.Sums.{sum_by-cons}
+use Rattle.std.specs.List.{list_any, count_by}
+use Rattle.pas_bits.specs.Runs.{in_run}
+use Rattle.pas_profile.specs.Classes.{class_grains}
+use Rattle.pas_profile.specs.Profiles.{IsPage}
+use Rattle.pas_profile.specs.declared.profile.Profile.{Profile}
+use Rattle.pas_steps.proofs.Sets.{same_truth}
+use Rattle.pas_segregated.specs.declared.slots.Slots.{Slots}
+use Rattle.pas_cache.specs.Locals.{HasOneEach}
+use Rattle.pas_cache.specs.Locals.{is_for as is_for_slots}
+use Rattle.pas_one_text.specs.State.{Local, Cache, World, each, cache_in, cache_of, with_cache, locals_of, set_locals}
+use Rattle.pas_one_text.specs.Classes.{is_for, others, gives_up}
+use Rattle.pas_one_text.specs.Frees.{gives_up_all}
+use Rattle.pas_one_text.specs.Pages.{is_covered, is_cached, blocks_on, locals_on}
+use Rattle.pas_same_text.specs.Same.{AreSameLocals}
+use Rattle.pas_same_text.proofs.CacheLists.{all_locals, own_with, many_with, with_own}
+use Rattle.pas_same_text.proofs.GivenBack.{Returns, OnlyHints, minded_last, all_only_hints, returns_nothing, returns_then}
+use Rattle.pas_same_text.proofs.SameLocals.{for_same}
+use Rattle.pas_same_text.proofs.Slots.{has_grain, cached_any, any_cached}
+
+-- ---- one local allocator of a heap and class
+abbrev pub AreUnique : List Local → Type 0
+AreUnique [] = Unit {0}
+AreUnique (l ∷ ls) = (others l.heap l.class ls ≡ ls) × AreUnique ls
+
+counted : (p : Slots → Bool) (s : Slots) (slots : List Slots) → count_by p (s ∷ slots) ≡ cond (p s) 1 0 + count_by p slots
+counted p s slots = sum_by-cons (λ x. cond (p x) 1 0) s slots
+
+no_longer : (c rest : ℕ) (t : Bool) → cond t 1 0 + c ≤ 0 → (t ≡ false) × (c ≤ 0)
+no_longer c rest true h = absurd (omega (arith, h))
+no_longer c rest false h = (refl, omega (arith, h))
+
+none_for : (heap class : ℕ) (slots : List Slots) (ls : List Local) → AreSameLocals slots ls → count_by (is_for_slots heap class) slots ≤ 0 → others heap class ls ≡ ls
+none_for heap class [] [] same none = refl
+none_for heap class [] (l ∷ ls) same none = absurd same
+none_for heap class (s ∷ slots) [] same none = absurd same
+none_for heap class (s ∷ slots) (l ∷ ls) same none =
+    let at = no_longer (count_by (is_for_slots heap class) slots) 0 (is_for_slots heap class s) (subst (λ (n : ℕ). n ≤ 0) (counted (is_for_slots heap class) s slots) none) in
+    ap (λ (t : Bool). if not t then l ∷ others heap class ls else others heap class ls) (for_same heap class s l same.0 ∙ at.0)
+    ∙ ap (λ (xs : List Local). l ∷ xs) (none_for heap class slots ls same.1 at.1)
+
+own_counted : (c : ℕ) (t : Bool) → t ≡ true → cond t 1 0 + c ≤ 1 → c ≤ 0
+own_counted c true e h = omega (arith, h)
+own_counted c false e h = absurd (false≢true e)
+
+fewer_counted : (c : ℕ) (t : Bool) → cond t 1 0 + c ≤ 1 → c ≤ 1
+fewer_counted c true h = omega (arith, h)
+fewer_counted c false h = omega (arith, h)
+
+for_own : (heap class : ℕ) (l : Local) → l.heap ≡ heap → l.class ≡ class → is_for heap class l ≡ true
+for_own heap class l h c = ap (λ (t : Bool). t && (l.class == class)) (eq-eqb l.heap heap h) ∙ eq-eqb l.class class c
+
+pub unique_of : (slots : List Slots) (ls : List Local) → AreSameLocals slots ls → HasOneEach slots → AreUnique ls
+unique_of [] [] same one = tt
+unique_of [] (l ∷ ls) same one = absurd same
+unique_of (s ∷ slots) [] same one = absurd same
+unique_of (s ∷ slots) (l ∷ ls) same one = (
+  none_for l.heap l.class slots ls same.1 (own_counted (count_by (is_for_slots l.heap l.class) slots) (is_for_slots l.heap l.class s) (sym (for_same l.heap l.class s l same.0) ∙ for_own l.heap l.class l refl refl) (subst (λ (n : ℕ). n ≤ 1) (counted (is_for_slots l.heap l.class) s slots) (one l.heap l.class))),
+  unique_of slots ls same.1 (λ heap class. fewer_counted (count_by (is_for_slots heap class) slots) (is_for_slots heap class s) (subst (λ (n : ℕ). n ≤ 1) (counted (is_for_slots heap class) s slots) (one heap class))),
+)
+
+others_rest : (l : Local) (ls : List Local) → AreUnique (l ∷ ls) → others l.heap l.class (l ∷ ls) ≡ ls
+others_rest l ls unique = ap (λ (t : Bool). if not t then l ∷ others l.heap l.class ls else others l.heap l.class ls) (for_own l.heap l.class l refl refl) ∙ unique.0
+
+-- ---- a cache that has other local allocators
+swap_at : (x : Bool) (c new : List Local) (p : Local → Bool) (rest more : List Local) → (list_any p new ≡ true → list_any p c ≡ true) → (list_any p rest ≡ true → list_any p more ≡ true) → list_any p (new ++ rest) ≡ true → list_any p (c ++ more) ≡ true
+swap_at x c new p rest more one all h = list_any-append p c more ∙ from (list_any p new) (list_any p rest) (list_any p c) (list_any p more) one all (sym (list_any-append p new rest) ∙ h)
+  where
+    from : (a b c d : Bool) → (a ≡ true → c ≡ true) → (b ≡ true → d ≡ true) → (a || b) ≡ true → (c || d) ≡ true
+    from true b true d one all h = refl
+    from true b false d one all h = absurd (false≢true (one refl))
+    from false b true d one all h = refl
+    from false b false d one all h = all h
+
+given_at : (c : Cache) (cs : List Cache) (k : ℕ) (new : Cache) (p : Local → Bool) (t : Bool) → (list_any p new.locals ≡ true → list_any p (if t then c else cache_in cs (k - 1)).locals ≡ true)
+    → ((list_any p new.locals ≡ true → list_any p (cache_in cs (k - 1)).locals ≡ true) → list_any p (all_locals (with_cache cs (k - 1) new)) ≡ true → list_any p (all_locals cs) ≡ true)
+    → list_any p (all_locals (if t then new ∷ cs else c ∷ with_cache cs (k - 1) new)) ≡ true → list_any p (c.locals ++ all_locals cs) ≡ true
+given_at c cs k new p true one more h = swap_at true c.locals new.locals p (all_locals cs) (all_locals cs) one (λ e. e) h
+given_at c cs k new p false one more h = swap_at true c.locals c.locals p (all_locals (with_cache cs (k - 1) new)) (all_locals cs) (λ e. e) (more one) h
+
+pub any_with : (cs : List Cache) (k : ℕ) (new : Cache) (p : Local → Bool) → (list_any p new.locals ≡ true → list_any p (cache_in cs k).locals ≡ true) → list_any p (all_locals (with_cache cs k new)) ≡ true → list_any p (all_locals cs) ≡ true
+any_with [] k new p one h = h
+any_with (c ∷ cs) k new p one h = given_at c cs k new p (k == 1) one (λ less. any_with cs (k - 1) new p less) h
+
+taken_at : (c : Cache) (cs : List Cache) (k : ℕ) (new : Cache) (p : Local → Bool) (t : Bool) → (list_any p (if t then c else cache_in cs (k - 1)).locals ≡ true → list_any p new.locals ≡ true)
+    → ((list_any p (cache_in cs (k - 1)).locals ≡ true → list_any p new.locals ≡ true) → list_any p (all_locals cs) ≡ true → list_any p (all_locals (with_cache cs (k - 1) new)) ≡ true)
+    → list_any p (c.locals ++ all_locals cs) ≡ true → list_any p (all_locals (if t then new ∷ cs else c ∷ with_cache cs (k - 1) new)) ≡ true
+taken_at c cs k new p true one more h = swap_at true new.locals c.locals p (all_locals cs) (all_locals cs) one (λ e. e) h
+taken_at c cs k new p false one more h = swap_at true c.locals c.locals p (all_locals cs) (all_locals (with_cache cs (k - 1) new)) (λ e. e) (more one) h
+
+pub with_any : (cs : List Cache) (k : ℕ) (new : Cache) (p : Local → Bool) → (list_any p (cache_in cs k).locals ≡ true → list_any p new.locals ≡ true) → list_any p (all_locals cs) ≡ true → list_any p (all_locals (with_cache cs k new)) ≡ true
+with_any [] k new p one h = h
+with_any (c ∷ cs) k new p one h = taken_at c cs k new p (k == 1) one (λ less. with_any cs (k - 1) new p less) h
+
+twice_at : (c : Cache) (cs : List Cache) (k : ℕ) (a b : Cache) (t : Bool) → (k == 1) ≡ t → (t ≡ false → with_cache (with_cache cs (k - 1) a) (k - 1) b ≡ with_cache cs (k - 1) b)
+    → with_cache (if t then a ∷ cs else c ∷ with_cache cs (k - 1) a) k b ≡ (if t then b ∷ cs else c ∷ with_cache cs (k - 1) b)
+twice_at c cs k a b true e more = ap (λ (u : Bool). if u then b ∷ cs else a ∷ with_cache cs (k - 1) b) e
+twice_at c cs k a b false e more = ap (λ (u : Bool). if u then b ∷ with_cache cs (k - 1) a else c ∷ with_cache (with_cache cs (k - 1) a) (k - 1) b) e ∙ ap (λ (xs : List Cache). c ∷ xs) (more refl)
+
+pub with_twice : (cs : List Cache) (k : ℕ) (a b : Cache) → with_cache (with_cache cs k a) k b ≡ with_cache cs k b
+with_twice [] k a b = refl
+with_twice (c ∷ cs) k a b = twice_at c cs k a b (k == 1) refl (λ e. with_twice cs (k - 1) a b)
+
+-- ==== A CACHE IS GIVEN UP: these local allocators of it, in order
+pub record IsGivenUp (f : Profile) (k : ℕ) (ls : List Local) (w v : World) : Type 0 where
+  pub events : v.events ≡ w.events
+  pub records : v.records ≡ w.records
+  pub live : v.live ≡ w.live
+  pub indexes : v.indexes ≡ w.indexes
+  pub names : v.names ≡ w.names
+  pub epoch : v.epoch ≡ w.epoch
+  pub read : v.read ≡ w.read
+  pub caches : v.caches ≡ with_cache w.caches k (record (cache_of w k) { locals = [] })
+  pub returns : Returns f (map (λ l. l.page) ls) w v
+
+module _ (f : Profile) (k : ℕ) (l : Local) (ls : List Local) (w : World) (is : locals_of w k ≡ l ∷ ls) (unique : AreUnique (l ∷ ls)) (page_of : IsPage f l.page) where
+  abbrev new : Cache
+  new = record (cache_of w k) { locals = others l.heap l.class (locals_of w k) }
+
+  abbrev bare : World
+  bare = set_locals k (others l.heap l.class (locals_of w k)) w
+
+  left : others l.heap l.class (locals_of w k) ≡ ls
+  left = ap (others l.heap l.class) is ∙ others_rest l ls unique
+
+  any_left : (p : Local → Bool) → list_any p new.locals ≡ true → list_any p (locals_of w k) ≡ true
+  any_left p h = ap (list_any p) is ∙ or_second (p l) (list_any p ls) (ap (list_any p) (sym left) ∙ h)
+    where
+      or_second : (x y : Bool) → y ≡ true → (x || y) ≡ true
+      or_second true y h = refl
+      or_second false y h = h
+
+  any_other : (p : Local → Bool) → p l ≡ false → list_any p (locals_of w k) ≡ true → list_any p new.locals ≡ true
+  any_other p none h = ap (list_any p) left ∙ (ap (λ (t : Bool). t || list_any p ls) (sym none) ∙ (ap (list_any p) (sym is) ∙ h))
+
+  cached_less : (page b : ℕ) → is_cached (locals_on bare page) b ≡ true → is_cached (locals_on w page) b ≡ true
+  cached_less page b h = any_cached w.caches page b (any_with w.caches k new (has_grain page b) (any_left (has_grain page b)) (cached_any bare.caches page b h))
+
+  cached_other : (page b : ℕ) → (l.page == page) ≡ false → is_cached (locals_on w page) b ≡ true → is_cached (locals_on bare page) b ≡ true
+  cached_other page b none h = any_cached bare.caches page b (with_any w.caches k new (has_grain page b) (any_other (has_grain page b) (ap (λ (t : Bool). t && list_any (λ s. in_run s (class_grains l.class) b) l.slots) none)) (cached_any w.caches page b h))
+
+  freed_more : (x c d : Bool) → (d ≡ true → c ≡ true) → (x && not c) ≡ true → (x && not d) ≡ true
+  freed_more true true d more h = absurd (false≢true h)
+  freed_more true false true more h = absurd (false≢true (more refl))
+  freed_more true false false more h = refl
+  freed_more false c d more h = absurd (false≢true h)
+
+  one_returns : Returns f (l.page ∷ []) w (gives_up k l w)
+  one_returns = minded_last f (l.page ∷ []) w bare
+      (λ page h. subst (IsPage f) (eqb-true l.page page (or_none (l.page == page) h)) page_of)
+      (λ page. refl)
+      (λ page b small h. freed_more (not (is_covered (blocks_on w page) (256 * page + b))) (is_cached (locals_on w page) b) (is_cached (locals_on bare page) b) (cached_less page b) h)
+      (λ page b of none small. ap (λ (t : Bool). not (is_covered (blocks_on w page) (256 * page + b)) && not t)
+      (same_truth (is_cached (locals_on bare page) b) (is_cached (locals_on w page) b) (cached_less page b) (cached_other page b (not_or (l.page == page) none))))
+      refl
+    where
+      or_none : (x : Bool) → (x || false) ≡ true → x ≡ true
+      or_none true h = refl
+      or_none false h = h
+
+      not_or : (x : Bool) → (x || false) ≡ false → x ≡ false
+      not_or true h = h
+      not_or false h = refl
+
+  abbrev pub gone : World
+  gone = gives_up k l w
+
+  only : OnlyHints bare gone
+  only = all_only_hints (l.page ∷ []) bare
+
+  own_gone : 1 ≤ k → k ≤ length w.caches → cache_of gone k ≡ record (cache_of w k) { locals = ls }
+  own_gone some few = ap (λ (cs : List Cache). cache_in cs k) only.caches ∙ (own_with w.caches k new some few ∙ ap (λ (xs : List Local). record (cache_of w k) { locals = xs }) left)
+
+  then_up : 1 ≤ k → k ≤ length w.caches → (v : World) → IsGivenUp f k ls gone v → IsGivenUp f k (l ∷ ls) w v
+  then_up some few v up = record {
+    events = up.events ∙ only.events;
+    records = up.records ∙ only.records;
+    live = up.live ∙ only.live;
+    indexes = up.indexes ∙ only.indexes;
+    names = up.names ∙ only.names;
+    epoch = up.epoch ∙ only.epoch;
+    read = up.read ∙ only.read;
+    caches = up.caches
+        ∙ (ap (λ (c : Cache). with_cache gone.caches k (record c { locals = [] })) (own_gone some few)
+        ∙ (ap (λ (cs : List Cache). with_cache cs k (record (cache_of w k) { locals = [] })) only.caches
+        ∙ with_twice w.caches k new (record (cache_of w k) { locals = [] })));
+    returns = returns_then f (l.page ∷ []) (map (λ x. x.page) ls) w gone v one_returns up.returns;
+  }
+
+abbrev pub AllOfRegion : Profile → List Local → Type 0
+AllOfRegion f [] = Unit {0}
+AllOfRegion f (l ∷ ls) = IsPage f l.page × AllOfRegion f ls
+
+each_up : (f : Profile) (k : ℕ) (ls : List Local) (w : World) → 1 ≤ k → k ≤ length w.caches → locals_of w k ≡ ls → AreUnique ls → AllOfRegion f ls → IsGivenUp f k ls w (each (gives_up k) ls w)
+each_up f k [] w some few is unique pages = record {
+  events = refl;
+  records = refl;
+  live = refl;
+  indexes = refl;
+  names = refl;
+  epoch = refl;
+  read = refl;
+  caches = sym (ap (λ (xs : List Local). with_cache w.caches k (record (cache_of w k) { locals = xs })) (sym is) ∙ with_own w.caches k);
+  returns = returns_nothing f w;
+}
+each_up f k (l ∷ ls) w some few is unique pages =
+    let v : World = gives_up k l w in
+    let own : cache_of v k ≡ record (cache_of w k) { locals = ls } = own_gone f k l ls w is unique pages.0 some few in
+    let many : k ≤ length v.caches = subst (λ (n : ℕ). k ≤ n) (sym (ap length (only f k l ls w is unique pages.0).caches ∙ many_with w.caches k (record (cache_of w k) { locals = others l.heap l.class (locals_of w k) }))) few in
+    then_up f k l ls w is unique pages.0 some few (each (gives_up k) ls v) (each_up f k ls v some many (ap (λ (c : Cache). c.locals) own) unique.1 pages.1)
+
+-- all of them
+pub all_up : (f : Profile) (k : ℕ) (w : World) → 1 ≤ k → k ≤ length w.caches → AreUnique (locals_of w k) → AllOfRegion f (locals_of w k) → IsGivenUp f k (locals_of w k) w (gives_up_all k w)
+all_up f k w some few unique pages = each_up f k (locals_of w k) w some few refl unique pages

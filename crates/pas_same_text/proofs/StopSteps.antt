@@ -1,0 +1,196 @@
+-- The steps by which local allocators are stopped: which pages they mark, what a hint rests on, and why a page is offered.
+use Rattle.std.proofs.Common.{◌≡◌, ℕ, zero, suc, ◌/◌, ◌%◌, ◌<◌, Bool, true, false, List, [], ◌∷◌, ◌++◌, ◌⊎◌, inl, inr, refl, ap, sym, ◌∙◌, subst, arith, MatchBool}
+use Rattle.std.proofs.lemmas.Bool.{cases_eq, true≢false}
+use Rattle.pas_bits.specs.Bits.{has_bit}
+use Rattle.pas_bits.specs.Masks.{HasMember}
+use Rattle.pas_bits.specs.declared.mask.Mask4.{Mask4}
+use Rattle.pas_profile.specs.Classes.{IsClass}
+use Rattle.pas_profile.specs.declared.directory.Directory.{Directory}
+use Rattle.pas_profile.specs.declared.profile.Profile.{Profile}
+use Rattle.pas_profile.specs.declared.word.Word.TheVariants as Word
+use Rattle.pas_steps.specs.Desks.{made, triples}
+use Rattle.pas_steps.specs.Effects.{target}
+use Rattle.pas_steps.specs.Kinds.{Kinds, Only, apart, Taking, LookFree, Putting, Parking}
+use Rattle.pas_steps.specs.Lists.{Whole, word_after, Legal}
+use Rattle.pas_steps.specs.Past.{Once, Always}
+use Rattle.pas_steps.specs.Views.{usable_by_kind}
+use Rattle.pas_steps.specs.declared.step.Made.{Made}
+use Rattle.pas_steps.specs.declared.step.Step.TheVariants.{Look, Park}
+use Rattle.pas_steps.proofs.Past.{once_later}
+use Rattle.pas_core.proofs.OneActor.{free_stays}
+use Rattle.pas_rights.specs.Leaves.{LeaveSteps, EndsLeave, ReoffersWhere}
+use Rattle.pas_rights.specs.Looks.{looks, HasUsable, HasNoUsable, HintsEmpty}
+use Rattle.pas_rights.specs.PutsBack.{BackSteps}
+use Rattle.pas_rights.specs.Words.{words}
+use Rattle.pas_rights.proofs.Hints.{leave_due}
+use Rattle.pas_rights.proofs.Looks.{looks_only}
+use Rattle.pas_rights.proofs.Orders.{leave_returns, return_returns}
+use Rattle.pas_rights.proofs.Puts.{puts_kinds}
+use Rattle.pas_segregated.specs.Masks.{start_of}
+use Rattle.pas_segregated.specs.Stops.{home_of, StopStepsAt, LeavesWhere, AreGrains}
+use Rattle.pas_segregated.specs.declared.slots.Slots.{Slots}
+use Rattle.pas_segregated.proofs.Starts.{start_below}
+use Rattle.pas_cache.specs.Changes.{StopsAll}
+use Rattle.pas_same_text.proofs.GivingBack.{IsMarked, marked_parts, none_marked, returns_marked, hints_none, hints_both, hints_of}
+use Rattle.pas_same_text.proofs.ReturnHints.{return_hints}
+
+-- ---- a grain that blocks of the directory may cover was read as free
+abbrev pub ReadsGrain : ℕ → ℕ → List Made → Type 0
+ReadsGrain page g = Once (λ m before. (m.step ≡ Look (Word.Free page (g / 64))) × (has_bit m.answer (g % 64) ≡ true))
+
+pub record ReadsRoom (page : ℕ) (d : Directory) (steps : List Made) : Type 0 where
+  pub grain : ℕ
+  pub small : grain < 256
+  pub usable : usable_by_kind d.kind grain ≡ true
+  pub read : ReadsGrain page grain steps
+
+-- it is free still
+pub grain_read : (ks : Kinds) → apart ks (Taking ∷ []) ≡ true → (f : Profile) (k : ℕ) (l : Whole) (page g : ℕ) (xs : List Made) → Legal f (triples k xs ++ l) → Only ks xs → ReadsGrain page g xs → has_bit (word_after (triples k xs ++ l) (Word.Free page (g / 64))) (g % 64) ≡ true
+grain_read ks no_take f k l page g [] legal only h = absurd h
+grain_read ks no_take f k l page g (m ∷ xs) legal only (inr h) = free_stays ks no_take k (m ∷ []) (triples k xs ++ l) page (g / 64) (g % 64) (only.0, tt) (grain_read ks no_take f k l page g xs legal.1 only.1 h)
+grain_read ks no_take f k l page g (m ∷ xs) legal only (inl h) =
+    let at : m.answer ≡ word_after (triples k xs ++ l) (Word.Free page (g / 64)) = legal.0.answer_is ∙ ap (λ s. word_after (triples k xs ++ l) (target s)) h.0 in
+    free_stays ks no_take k (m ∷ []) (triples k xs ++ l) page (g / 64) (g % 64) (only.0, tt) (ap (λ n. has_bit n (g % 64)) (sym at) ∙ h.1)
+
+room_later : (page : ℕ) (d : Directory) (ys xs : List Made) → ReadsRoom page d xs → ReadsRoom page d (ys ++ xs)
+room_later page d ys xs r = record { grain = r.grain; small = r.small; usable = r.usable; read = once_later _ ys xs r.read }
+
+pub room_earlier : (page : ℕ) (d : Directory) (ys xs : List Made) → ReadsRoom page d ys → ReadsRoom page d (ys ++ xs)
+room_earlier page d ys xs r = record { grain = r.grain; small = r.small; usable = r.usable; read = front page r.grain ys xs r.read }
+  where
+    front : (page g : ℕ) (ys xs : List Made) → ReadsGrain page g ys → ReadsGrain page g (ys ++ xs)
+    front page g [] xs h = absurd h
+    front page g (y ∷ ys) xs (inl h) = inl h
+    front page g (y ∷ ys) xs (inr h) = inr (front page g ys xs h)
+
+look_at : (page : ℕ) (answers : ℕ → ℕ) (n word : ℕ) → word < n → Once (λ m before. (m.step ≡ Look (Word.Free page word)) × (m.answer ≡ answers word)) (looks page answers n)
+look_at page answers zero word lt = absurd (omega (arith, lt))
+look_at page answers (suc n) word lt = elim (cases_eq word n) [
+  | inl e ↦ inl (ap (λ w. Look (Word.Free page w)) (sym e), ap answers (sym e))
+  | inr ne ↦ inr (look_at page answers n word (omega (arith, lt, ne)))
+]
+
+once_as : (P Q : Made → Type 0) (xs : List Made) → ((m : Made) → P m → Q m) → Once (λ m before. P m) xs → Once (λ m before. Q m) xs
+once_as P Q [] to h = h
+once_as P Q (x ∷ xs) to (inl h) = inl (to x h)
+once_as P Q (x ∷ xs) to (inr h) = inr (once_as P Q xs to h)
+
+looks_room : (page : ℕ) (d : Directory) (free : Mask4) → HasUsable d free → ReadsRoom page d (looks page (words free) 4)
+looks_room page d free u =
+    let small : u.0 < 256 = u.1 in
+    let word : u.0 / 64 < 4 = omega (arith, small) in
+    record {
+      grain = u.0;
+      small = u.1;
+      usable = u.3;
+      read = once_as (λ m. (m.step ≡ Look (Word.Free page (u.0 / 64))) × (m.answer ≡ words free (u.0 / 64))) (λ m. (m.step ≡ Look (Word.Free page (u.0 / 64))) × (has_bit m.answer (u.0 % 64) ≡ true)) (looks page (words free) 4)
+          (λ m h. (h.0, ap (λ n. has_bit n (u.0 % 64)) h.1 ∙ u.2)) (look_at page (words free) 4 (u.0 / 64) word);
+    }
+
+usable_if : (usable : Bool) (d : Directory) (free : Mask4) → MatchBool usable (HasUsable d free) (HasNoUsable d free) → usable ≡ true → HasUsable d free
+usable_if true d free h e = h
+usable_if false d free h e = absurd (true≢false (sym e))
+
+-- ---- a leave: a page is offered only after a grain was read so
+looks_offer_none : (page q : ℕ) (answers : ℕ → ℕ) → IsMarked q (looks page answers 4) → ⊥
+looks_offer_none page q answers h = none_marked (LookFree ∷ []) refl q (looks page answers 4) (looks_only page answers 4) h
+
+reoffers_none : (usable : Bool) (page q : ℕ) (d : Directory) (steps : List Made) → ReoffersWhere usable page d steps → IsMarked q steps → usable ≡ true
+reoffers_none true page q d steps h marked = refl
+reoffers_none false page q d steps h marked = absurd (subst (IsMarked q) h marked)
+
+end_room : (usable all_free : Bool) (page q : ℕ) (d : Directory) (free : Mask4) (after : List Made) → MatchBool usable (HasUsable d free) (HasNoUsable d free) → EndsLeave usable page d all_free after → IsMarked q after → ReadsRoom page d (after ++ looks page (words free) 4)
+end_room true all_free page q d free after u h marked = room_later page d after (looks page (words free) 4) (looks_room page d free u)
+end_room false all_free page q d free after none h marked =
+    let park : List Made = made (Park page) h.parked ∷ [] in
+    let later : List Made = looks page (words h.later) 4 in
+    elim (marked_parts q h.after (later ++ park) (subst (IsMarked q) h.steps_are marked)) [
+      | inl first ↦
+          let r : ReadsRoom page d later = looks_room page d h.later (usable_if h.usable d h.later h.usable_is (reoffers_none h.usable page q d h.after h.reoffers first)) in
+          let whole : ReadsRoom page d after = subst (ReadsRoom page d) (sym h.steps_are) (room_later page d h.after (later ++ park) (room_earlier page d later park r)) in
+          room_earlier page d after (looks page (words free) 4) whole
+      | inr rest ↦ elim (marked_parts q later park rest) [
+        | inl look ↦ absurd (looks_offer_none page q (words h.later) look)
+        | inr parks ↦ absurd (none_marked (Parking ∷ []) refl q park (refl, tt) parks)
+      ]
+    ]
+
+leave_room : (page q : ℕ) (d : Directory) (steps : List Made) → LeaveSteps page d steps → IsMarked q steps → ReadsRoom page d steps
+leave_room page q d steps h marked = elim (marked_parts q h.after (looks page (words h.free) 4) (subst (IsMarked q) h.steps_are marked)) [
+  | inl first ↦ subst (ReadsRoom page d) (sym h.steps_are) (end_room h.usable h.all_free page q d h.free h.after h.usable_is h.ends first)
+  | inr later ↦ absurd (looks_offer_none page q (words h.free) later)
+]
+
+-- ==== ONE LOCAL ALLOCATOR is stopped
+-- a page that is marked is its page, and it has a slot, or room was read
+pub record IsMarkedBy (s : Slots) (q : ℕ) (steps : List Made) : Type 0 where
+  pub page : s.page ≡ q
+  pub room : HasMember s.starts ⊎ ReadsRoom q (home_of s) steps
+
+left_marked : (s : Slots) (right : Bool) (q : ℕ) (steps : List Made) → LeavesWhere right s.page (home_of s) steps → IsMarked q steps → IsMarkedBy s q steps
+left_marked s true q steps h marked =
+    let same : s.page ≡ q = returns_marked s.page q steps (leave_returns s.page (home_of s) steps h) marked in
+    record { page = same; room = inr (subst (λ (p : ℕ). ReadsRoom p (home_of s) steps) same (leave_room s.page q (home_of s) steps h marked)) }
+left_marked s false q steps h marked = absurd (subst (IsMarked q) h marked)
+
+has_member : (s : Slots) (mask : Mask4) → IsClass s.class → AreGrains s mask → HasMember mask → HasMember s.starts
+has_member s mask is grains m = let below = start_below s.class m.0 is in let le = below.0 in let small = m.1 in (start_of s.class m.0, omega (arith, le, small), sym (grains m.0 m.1) ∙ m.2)
+
+back_marked : (s : Slots) (mask : Mask4) (q : ℕ) (steps : List Made) → IsClass s.class → AreGrains s mask → BackSteps s.page (home_of s) mask steps → IsMarked q steps → IsMarkedBy s q steps
+back_marked s mask q steps is grains (inl h) marked = absurd (subst (IsMarked q) h.1 marked)
+back_marked s mask q steps is grains (inr h) marked = elim (marked_parts q h.2 h.1 (subst (IsMarked q) h.5 marked)) [
+  | inl first ↦ record { page = returns_marked s.page q h.2 (return_returns s.page (home_of s) h.2 h.4) first; room = inl (has_member s mask is grains h.0) }
+  | inr later ↦ absurd (none_marked (Putting ∷ []) refl q h.1 (puts_kinds s.page mask 4 h.1 h.3) later)
+]
+
+marked_later : (s : Slots) (q : ℕ) (ys xs : List Made) → IsMarkedBy s q xs → IsMarkedBy s q (ys ++ xs)
+marked_later s q ys xs o = record { page = o.page; room = elim o.room [ inl some ↦ inl some | inr r ↦ inr (room_later q (home_of s) ys xs r) ] }
+
+marked_earlier : (s : Slots) (q : ℕ) (ys xs : List Made) → IsMarkedBy s q ys → IsMarkedBy s q (ys ++ xs)
+marked_earlier s q ys xs o = record { page = o.page; room = elim o.room [ inl some ↦ inl some | inr r ↦ inr (room_earlier q (home_of s) ys xs r) ] }
+
+one_marked : (s : Slots) (q : ℕ) (steps : List Made) → IsClass s.class → StopStepsAt (home_of s) s steps → IsMarked q steps → IsMarkedBy s q steps
+one_marked s q steps is h marked = subst (IsMarkedBy s q) (sym h.steps_are) (elim (marked_parts q h.left h.back (subst (IsMarked q) h.steps_are marked)) [
+  | inl first ↦ marked_earlier s q h.left h.back (left_marked s s.right q h.left h.leaves first)
+  | inr later ↦ marked_later s q h.left h.back (back_marked s h.mask q h.back is h.grains h.puts later)
+])
+
+left_hints : (s : Slots) (right : Bool) (steps : List Made) → LeavesWhere right s.page (home_of s) steps → Always HintsEmpty steps
+left_hints s true steps h = hints_of steps (leave_due s.page (home_of s) steps h)
+left_hints s false steps h = subst (Always HintsEmpty) (sym h) tt
+
+back_hints : (s : Slots) (mask : Mask4) (steps : List Made) → BackSteps s.page (home_of s) mask steps → Always HintsEmpty steps
+back_hints s mask steps (inl h) = subst (Always HintsEmpty) (sym h.1) tt
+back_hints s mask steps (inr h) = subst (Always HintsEmpty) (sym h.5) (hints_both h.2 h.1 (return_hints s.page (home_of s) h.2 h.4) (hints_none (Putting ∷ []) h.1 refl (puts_kinds s.page mask 4 h.1 h.3)))
+
+pub one_hints : (s : Slots) (steps : List Made) → StopStepsAt (home_of s) s steps → Always HintsEmpty steps
+one_hints s steps h = subst (Always HintsEmpty) (sym h.steps_are) (hints_both h.left h.back (left_hints s s.right h.left h.leaves) (back_hints s h.mask h.back h.puts))
+
+-- ==== ALL OF THEM
+abbrev pub AllClasses : List Slots → Type 0
+AllClasses [] = Unit {0}
+AllClasses (s ∷ rest) = IsClass s.class × AllClasses rest
+
+-- a local allocator of the list marked the page
+pub data IsMarkedIn (q : ℕ) (steps : List Made) : List Slots → Type 0 where
+  Here : (s : Slots) (rest : List Slots) → IsMarkedBy s q steps → IsMarkedIn q steps (s ∷ rest)
+  There : (s : Slots) (rest : List Slots) → IsMarkedIn q steps rest → IsMarkedIn q steps (s ∷ rest)
+
+in_later : (q : ℕ) (ys xs : List Made) (slots : List Slots) → IsMarkedIn q xs slots → IsMarkedIn q (ys ++ xs) slots
+in_later q ys xs slots (IsMarkedIn.Here s rest o) = IsMarkedIn.Here s rest (marked_later s q ys xs o)
+in_later q ys xs slots (IsMarkedIn.There s rest o) = IsMarkedIn.There s rest (in_later q ys xs rest o)
+
+pub in_earlier : (q : ℕ) (ys xs : List Made) (slots : List Slots) → IsMarkedIn q ys slots → IsMarkedIn q (ys ++ xs) slots
+in_earlier q ys xs slots (IsMarkedIn.Here s rest o) = IsMarkedIn.Here s rest (marked_earlier s q ys xs o)
+in_earlier q ys xs slots (IsMarkedIn.There s rest o) = IsMarkedIn.There s rest (in_earlier q ys xs rest o)
+
+pub all_marked : (q : ℕ) (slots : List Slots) (steps : List Made) → AllClasses slots → StopsAll slots steps → IsMarked q steps → IsMarkedIn q steps slots
+all_marked q [] steps classes h marked = absurd (subst (IsMarked q) h marked)
+all_marked q (s ∷ rest) steps classes h marked = subst (λ (ms : List Made). IsMarkedIn q ms (s ∷ rest)) (sym h.4) (elim (marked_parts q h.0 h.1 (subst (IsMarked q) h.4 marked)) [
+  | inl first ↦ IsMarkedIn.Here s rest (marked_earlier s q h.0 h.1 (one_marked s q h.0 classes.0 h.2 first))
+  | inr later ↦ IsMarkedIn.There s rest (in_later q h.0 h.1 rest (all_marked q rest h.1 classes.1 h.3 later))
+])
+
+pub all_hints : (slots : List Slots) (steps : List Made) → StopsAll slots steps → Always HintsEmpty steps
+all_hints [] steps h = subst (Always HintsEmpty) (sym h) tt
+all_hints (s ∷ rest) steps h = subst (Always HintsEmpty) (sym h.4) (hints_both h.0 h.1 (one_hints s h.0 h.2) (all_hints rest h.1 h.3))

@@ -1,0 +1,313 @@
+-- Each act leaves each live block on grains that blocks of its page's directory may cover.
+use Rattle.std.proofs.Common.{◌≡◌, ℕ, ◌/◌, ◌%◌, ◌<◌, ◌==◌, nat_le, max, Bool, true, false, if◌then◌else◌, List, [], ◌∷◌, ◌++◌, length, map, reverse, Option, None, Some, Result, Ok, Err, MatchResult, inl, inr, refl, ap, sym, ◌∙◌, subst, arith}
+use Rattle.std.proofs.lemmas.Bool.{false≢true, eqb-true}
+use Rattle.std.proofs.lemmas.Bool.Decides.{nat_tests}
+use Rattle.std.specs.List.{AllByRecursion}
+use Rattle.pas_bits.specs.Runs.{in_run}
+use Rattle.pas_bits.proofs.Runs.{run_of}
+use Rattle.pas_profile.specs.Blocks.{address_of, grain_of, length_of}
+use Rattle.pas_profile.specs.Classes.{class_size, class_grains, usable_grains, IsClass}
+use Rattle.pas_profile.specs.Directories.{IsKind, deed_word_of}
+use Rattle.pas_profile.specs.Profiles.{IsValid}
+use Rattle.pas_profile.specs.Routes.{room_by}
+use Rattle.pas_profile.specs.Requests.{is_shared, kind_of_class, kind_of_route, route_in, room_in}
+use Rattle.pas_profile.specs.declared.directory.Directory.{Directory}
+use Rattle.pas_profile.specs.declared.directory.Route.{Route}
+use Rattle.pas_profile.specs.declared.event.Event.{Event}
+use Rattle.pas_profile.specs.declared.event.NoRoom.{NoRoom}
+use Rattle.pas_profile.specs.declared.event.Outcome.{Outcome}
+use Rattle.pas_profile.specs.declared.event.Outcome.TheVariants as TheOutcome
+use Rattle.pas_profile.specs.declared.name.Block.{Block}
+use Rattle.pas_profile.specs.declared.profile.Profile.{Profile}
+use Rattle.pas_profile.specs.declared.word.Word.TheVariants as Word
+use Rattle.pas_profile.proofs.ClassFacts.{usable_grains_le, class_suits, class_known}
+use Rattle.pas_profile.proofs.Codecs.{deed_word_of-positive, same_from_deed_word}
+use Rattle.pas_machine.specs.Machine.{Run, Bears}
+use Rattle.pas_machine.specs.State.{Live, live_in, deed_in}
+use Rattle.pas_machine.proofs.LiveBlocks.{all_borne}
+use Rattle.pas_steps.specs.Desks.{triples}
+use Rattle.pas_steps.specs.Events.{events_by}
+use Rattle.pas_steps.specs.Lists.{Whole, part, word_after, visible, Legal}
+use Rattle.pas_steps.specs.Views.{View, known_deed, usable_by_kind}
+use Rattle.pas_steps.specs.declared.step.Made.{Made}
+use Rattle.pas_steps.proofs.Adding.{triples_append}
+use Rattle.pas_steps.proofs.Frames.{events_append}
+use Rattle.pas_steps.proofs.Parts.{part_of_own}
+use Rattle.pas_core.specs.Good.{IsPartOf, word_of_deed}
+use Rattle.pas_core.proofs.Deeds.{known_is, deed_of, directory_is_of}
+use Rattle.pas_core.proofs.MachineRuns.{runs}
+use Rattle.pas_core.proofs.OneActor.{legal_earlier}
+use Rattle.pas_core.proofs.Rights.{deeds_known}
+use Rattle.pas_free_log.specs.Flushes.{Settled, shown_for, event_for}
+use Rattle.pas_free_log.specs.Logs.{entry_of, sized_entry}
+use Rattle.pas_free_log.specs.declared.ending.Outcome.{Outcome as TheEnd}
+use Rattle.pas_free_log.specs.declared.ending.Outcome.TheVariants.{Ended, Refused}
+use Rattle.pas_free_log.specs.declared.log.Entry.{Entry}
+use Rattle.pas_free_log.specs.declared.noting.EndedRun.{EndedRun}
+use Rattle.pas_cache.specs.Calls.{TakesEntry}
+use Rattle.pas_cache.specs.Changes.{EmptiesLog, EmptiesFull}
+use Rattle.pas_cache.specs.Contents.{Cached}
+use Rattle.pas_cache.specs.Serves.{Wanted, wanted_for, IsPlaced, IsInSlot, IsPreparing, IsDeedOf}
+use Rattle.pas_scavenger.specs.Pages.{unback_of}
+use Rattle.pas_scavenger.specs.Passes.{unbacks_in}
+use Rattle.pas_report.specs.declared.record.Said.{Said}
+use Rattle.pas_trace.specs.Acts.{Act}
+use Rattle.pas_trace.specs.declared.item.Request.{Request}
+use Rattle.pas_trace.specs.declared.plan.What.{What}
+use Rattle.pas_answers.specs.Answers.{Progress, Having, Answer, having, IsGiven, RefusalEnds, RequestEnds, IsFreed, IsFreedBy, IsStopped, IsAnswered, IsRemadeBy, IsReplaced, request_for, standing_for, entry_with, wanted_by}
+use Rattle.pas_same_text.specs.Acts.{AreBlocksUsable, HasUsableBlocks, KeepsUsable}
+use Rattle.pas_same_text.proofs.Flushes.{visible_steps}
+
+-- ---- one event
+-- the block may be given so: each of its grains is one that blocks of its page's directory may cover
+abbrev IsUsableGive : List Event → Block → Type 0
+IsUsableGive es block = (g : ℕ) → in_run (grain_of block.name) (length_of block) g ≡ true → (d : Directory) → deed_in es (g / 256) ≡ Some d → usable_by_kind d.kind (g % 256) ≡ true
+
+abbrev GivesUsably : List Event → Event → Type 0
+GivesUsably es (Event.Deed k p d) = Unit {0}
+GivesUsably es (Event.Back k p) = Unit {0}
+GivesUsably es (Event.Unback k p e) = Unit {0}
+GivesUsably es (Event.Give k block) = IsUsableGive es block
+GivesUsably es (Event.End k name e) = Unit {0}
+GivesUsably es (Event.Reject k name why) = Unit {0}
+
+is_some : {A : Type 0} → Option A → Bool
+is_some None = false
+is_some (Some x) = true
+
+deed_usable : (f : Profile) (es : List Event) (p : ℕ) (d own : Directory) (address : ℕ) (b : Live) (g : ℕ) (t : Bool) → (p == g / 256) ≡ t → Run f es → deed_in es p ≡ None → live_in es address ≡ Some b → IsPartOf g address b
+    → AreBlocksUsable es → (if t then Some d else deed_in es (g / 256)) ≡ Some own → usable_by_kind own.kind (g % 256) ≡ true
+unfolding is_some
+deed_usable f es p d own address b g true e run none lives of usable is =
+    let bears : Bears f es b.block.heap (g / 256) = all_borne f es run address b lives g of in
+    absurd (false≢true (ap is_some (sym none ∙ (ap (deed_in es) (eqb-true p (g / 256) e) ∙ bears.deed))))
+deed_usable f es p d own address b g false e run none lives of usable is = usable.usable address b lives g of own is
+
+ended_usable : (es : List Event) (own : Directory) (address : ℕ) (b : Live) (g : ℕ) (t : Bool) → (if t then None else live_in es address) ≡ Some b → IsPartOf g address b → AreBlocksUsable es → deed_in es (g / 256) ≡ Some own → usable_by_kind own.kind (g % 256) ≡ true
+unfolding is_some
+ended_usable es own address b g true lives of usable is = absurd (false≢true (ap is_some lives))
+ended_usable es own address b g false lives of usable is = usable.usable address b lives g of own is
+
+abbrev or_this : Live → Option Live → Live
+or_this d None = d
+or_this d (Some x) = x
+
+given_usable : (k : ℕ) (block : Block) (es : List Event) (own : Directory) (address : ℕ) (b : Live) (g : ℕ) (t : Bool) → (address_of block.name == address) ≡ t → (if t then Some (record { actor = k; block = block }) else live_in es address) ≡ Some b → IsPartOf g address b
+    → IsUsableGive es block → AreBlocksUsable es → deed_in es (g / 256) ≡ Some own → usable_by_kind own.kind (g % 256) ≡ true
+given_usable k block es own address b g true e lives of give usable is =
+    let same : block ≡ b.block = ap (λ (o : Option Live). (or_this (record { actor = k; block = block }) o).block) lives in
+    let at : address_of block.name ≡ address = eqb-true (address_of block.name) address e in
+    give g (ap (λ (a : ℕ). in_run (a / 16) (length_of block) g) at ∙ (ap (λ (x : Block). in_run (address / 16) (length_of x) g) same ∙ of)) own is
+given_usable k block es own address b g false e lives of give usable is = usable.usable address b lives g of own is
+
+next_usable : (f : Profile) (e : Event) (es : List Event) → Run f (e ∷ es) → GivesUsably es e → AreBlocksUsable es → AreBlocksUsable (e ∷ es)
+next_usable f (Event.Deed k p d) es run give usable = record { usable = λ address b lives g of own is. deed_usable f es p d own address b g (p == g / 256) refl run.1 run.0.2 lives of usable is }
+next_usable f (Event.Back k p) es run give usable = record { usable = usable.usable }
+next_usable f (Event.Unback k p e) es run give usable = record { usable = usable.usable }
+next_usable f (Event.Give k block) es run give usable = record { usable = λ address b lives g of own is. given_usable k block es own address b g (address_of block.name == address) refl lives of give usable is }
+next_usable f (Event.End k name e) es run give usable = record { usable = λ address b lives g of own is. ended_usable es own address b g (address_of name == address) lives of usable is }
+next_usable f (Event.Reject k name why) es run give usable = record { usable = usable.usable }
+
+-- ---- events without a give
+abbrev IsNoGive : Event → Type 0
+IsNoGive (Event.Deed k p d) = Unit {0}
+IsNoGive (Event.Back k p) = Unit {0}
+IsNoGive (Event.Unback k p e) = Unit {0}
+IsNoGive (Event.Give k block) = ⊥
+IsNoGive (Event.End k name e) = Unit {0}
+IsNoGive (Event.Reject k name why) = Unit {0}
+
+abbrev AreNoGives : List Event → Type 0
+AreNoGives = AllByRecursion IsNoGive
+
+no_give : (es : List Event) (e : Event) → IsNoGive e → GivesUsably es e
+no_give es (Event.Deed k p d) is = tt
+no_give es (Event.Back k p) is = tt
+no_give es (Event.Unback k p e) is = tt
+no_give es (Event.Give k block) is = absurd is
+no_give es (Event.End k name e) is = tt
+no_give es (Event.Reject k name why) is = tt
+
+run_later : (f : Profile) (evs es : List Event) → Run f (evs ++ es) → Run f es
+run_later f [] es run = run
+run_later f (e ∷ evs) es run = run_later f evs es run.1
+
+all_usable : (f : Profile) (evs es : List Event) → Run f (evs ++ es) → AreNoGives evs → AreBlocksUsable es → AreBlocksUsable (evs ++ es)
+all_usable f [] es run none usable = usable
+all_usable f (e ∷ evs) es run none usable = next_usable f e (evs ++ es) run (no_give (evs ++ es) e none.0) (all_usable f evs es run.1 none.1 usable)
+
+-- steps without a give, after a legal list
+steps_usable : (f : Profile) (k : ℕ) (steps : List Made) (l : Whole) → IsValid f → Legal f (triples k steps ++ l) → AreNoGives (events_by k (part k l) steps) → AreBlocksUsable (visible l) → AreBlocksUsable (visible (triples k steps ++ l))
+steps_usable f k steps l valid legal none usable =
+    subst AreBlocksUsable (sym (visible_steps k steps l)) (all_usable f (events_by k (part k l) steps) (visible l) (subst (Run f) (visible_steps k steps l) (runs f (triples k steps ++ l) valid legal)) none usable)
+
+-- ---- flushes
+entry_gives : (k epoch : ℕ) (entry : Entry) (o : TheEnd) → IsNoGive (event_for k epoch entry o)
+entry_gives k epoch entry (Ended grains) = tt
+entry_gives k epoch entry (Refused read) = tt
+
+shown_gives : (k epoch : ℕ) (settled : List Settled) → AreNoGives (map (shown_for k epoch) settled)
+shown_gives k epoch [] = tt
+shown_gives k epoch (s ∷ settled) = (entry_gives k epoch s.entry s.outcome, shown_gives k epoch settled)
+
+flush_gives : (k : ℕ) (logged : List Entry) (noted noted' : List EndedRun) (steps : List Made) (v : View) → EmptiesLog k logged noted noted' steps → AreNoGives (events_by k v steps)
+flush_gives k logged noted noted' steps v h = subst AreNoGives (sym (h.events v)) (shown_gives k h.epoch h.settled)
+
+full_gives : (full : Bool) (k : ℕ) (log kept : List Entry) (noted noted' : List EndedRun) (steps : List Made) (v : View) → EmptiesFull full k log kept noted noted' steps → AreNoGives (events_by k v steps)
+full_gives true k log kept noted noted' steps v h = flush_gives k log noted noted' steps v h.0
+full_gives false k log kept noted noted' steps v h = subst (λ (ms : List Made). AreNoGives (events_by k v ms)) (sym h.0) tt
+
+freed_gives : (f : Profile) (k : ℕ) (c c' : Cached) (entry : Entry) (steps : List Made) (said : Option Said) (v : View) → IsFreed f k c c' entry steps said → AreNoGives (events_by k v steps)
+freed_gives f k c c' entry steps said v (inl t) = full_gives (nat_le 64 (length c.log)) k c.log t.0.logs.kept c.noted c'.noted steps v t.0.logs.emptied
+freed_gives f k c c' entry steps said v (inr t) = subst (λ (ms : List Made). AreNoGives (events_by k v ms)) (sym t.1.no_steps) tt
+
+named_gives : (f : Profile) (k : ℕ) (c c' : Cached) (name : ℕ) (size : Option ℕ) (meant : Option (Option Block)) (steps : List Made) (said : Option Said) (v : View) → IsFreedBy f k c c' name size meant steps said → AreNoGives (events_by k v steps)
+named_gives f k c c' name size None steps said v freed = absurd freed
+named_gives f k c c' name size (Some None) steps said v freed = subst (λ (ms : List Made). AreNoGives (events_by k v ms)) (sym freed.0) tt
+named_gives f k c c' name size (Some (Some block)) steps said v freed = freed_gives f k c c' (entry_with block.name size) steps said v freed
+
+stop_gives : (k : ℕ) (c c' : Cached) (steps : List Made) (v : View) → IsStopped k c c' steps → AreNoGives (events_by k v steps)
+stop_gives k c c' steps v h =
+    subst AreNoGives (sym (ap (events_by k v) h.steps_are ∙ (events_append k h.stopped h.flushed v ∙ ap (λ (es : List Event). es ++ events_by k v h.flushed) (h.silent (h.flushed ++ v))))) (flush_gives k c.log c.noted c'.noted h.flushed v h.empties)
+
+-- ---- a pass
+one_unback : (k epoch page : ℕ) (o : Outcome) → AreNoGives (unback_of k epoch page o)
+one_unback k epoch page TheOutcome.Unbacked = (tt, tt)
+one_unback k epoch page o = tt
+
+both_none : (xs ys : List Event) → AreNoGives xs → AreNoGives ys → AreNoGives (xs ++ ys)
+both_none [] ys a b = b
+both_none (x ∷ xs) ys a b = (a.0, both_none xs ys a.1 b)
+
+unbacks_give : (k epoch : ℕ) (pairs : List (ℕ × Outcome)) → AreNoGives (unbacks_in k epoch pairs)
+unbacks_give k epoch [] = tt
+unbacks_give k epoch (p ∷ pairs) = both_none (unback_of k epoch p.0 p.1) (unbacks_in k epoch pairs) (one_unback k epoch p.0 p.1) (unbacks_give k epoch pairs)
+
+-- ---- a request
+preparing_none : (d : Directory) (e : Event) → IsPreparing d e → IsNoGive e
+preparing_none d e (IsPreparing.Deeds k page) = tt
+preparing_none d e (IsPreparing.Backs k page) = tt
+
+all_preparing : (d : Directory) (es : List Event) → AllByRecursion (IsPreparing d) es → AreNoGives es
+all_preparing d [] all = tt
+all_preparing d (e ∷ es) all = (preparing_none d e all.0, all_preparing d es all.1)
+
+deed_none : (d : Directory) (e : Event) → IsDeedOf d e → IsNoGive e
+deed_none d e (IsDeedOf.Deeds k page) = tt
+
+all_deeds : (d : Directory) (es : List Event) → AllByRecursion (IsDeedOf d) es → AreNoGives es
+all_deeds d [] all = tt
+all_deeds d (e ∷ es) all = (deed_none d e all.0, all_deeds d es all.1)
+
+-- where a block stands, its grains are such as its directory's blocks may cover
+slot_at : (class : ℕ) (shared : Bool) (block : Block) (g : ℕ) → IsClass class → IsInSlot class block → block.room ≡ class_size class → in_run (grain_of block.name) (length_of block) g ≡ true → usable_by_kind (kind_of_class shared class) (g % 256) ≡ true
+slot_at class true block g is slot room of = refl
+slot_at class false block g is slot room of =
+    let at = run_of (grain_of block.name) (length_of block) g of in
+    let low = at.0 in let high = at.1 in
+    let long : length_of block ≡ class_grains class = ap (λ (n : ℕ). n / 16) room in
+    let address = slot.address in
+    let within = slot.is_start.within in
+    let most = usable_grains_le class is in
+    let lt : g % 256 < usable_grains class = omega (arith, low, high, long, address, within, most) in
+    grind (arith, nat_tests, lt)
+
+placed_usable : (f : Profile) (shared : Bool) (size align : ℕ) (route : Route) (block : Block) (g : ℕ) → route_in f size align ≡ route → IsPlaced route block → block.room ≡ room_in f size align → in_run (grain_of block.name) (length_of block) g ≡ true → usable_by_kind (kind_of_route shared route) (g % 256) ≡ true
+placed_usable f shared size align (Route.Class class) block g e placed room of =
+    slot_at class shared block g (class_known f.classes size align class (class_suits f.classes size align class e)) placed (room ∙ ap (λ (r : Route). room_by r (max size 1)) e) of
+placed_usable f shared size align Route.Bitfit block g e placed room of = refl
+placed_usable f shared size align Route.Large block g e placed room of = refl
+
+kind_known : (f : Profile) (shared : Bool) (size align : ℕ) (route : Route) → route_in f size align ≡ route → IsKind (kind_of_route shared route)
+kind_known f true size align (Route.Class class) e = tt
+kind_known f false size align (Route.Class class) e = class_known f.classes size align class (class_suits f.classes size align class e)
+kind_known f shared size align Route.Bitfit e = tt
+kind_known f shared size align Route.Large e = tt
+
+refusal_gives : (route : Route) (d : Directory) (es : List Event) → RefusalEnds route d es → AreNoGives es
+refusal_gives (Route.Class class) d es h = subst AreNoGives (sym h) tt
+refusal_gives Route.Bitfit d es h = subst AreNoGives (sym h) tt
+refusal_gives Route.Large d es h = all_deeds d es h
+
+module _ (f : Profile) (k heap size align : ℕ) (l : Whole) (steps : List Made) (valid : IsValid f) (legal : Legal f (triples k steps ++ l)) (usable : AreBlocksUsable (visible l)) where
+  abbrev wanted : Wanted
+  wanted = wanted_for f heap size align
+
+  abbrev whole : Whole
+  whole = triples k steps ++ l
+
+  give_usable : (block : Block) → (given : IsGiven k wanted (part k l) steps block) → IsUsableGive (given.before ++ visible l) block
+  give_usable block given g of d is =
+      let page : ℕ = g / 256 in
+      let shown : visible whole ≡ Event.Give k block ∷ (given.before ++ visible l) = visible_steps k steps l ∙ ap (λ (es : List Event). es ++ visible l) given.events in
+      let deed : deed_in (visible whole) page ≡ Some d = ap (λ (es : List Event). deed_in es page) shown ∙ is in
+      let word : word_after whole (Word.Deed page) ≡ deed_word_of d = deed_of f whole legal page ∙ ap word_of_deed deed in
+      let some : known_deed (part k whole) page ≡ deed_word_of wanted.directory = ap (λ (v : View). known_deed v page) (part_of_own k steps l) ∙ given.of_directory g of in
+      let known : known_deed (part k whole) page ≡ word_after whole (Word.Deed page) =
+      known_is (known_deed (part k whole) page) (word_after whole (Word.Deed page)) (deeds_known f whole legal k page) (λ none. deed_word_of-positive wanted.directory (sym some ∙ none)) in
+      let same : d ≡ wanted.directory = same_from_deed_word d wanted.directory (directory_is_of f whole legal page d deed).kind (kind_known f (is_shared f heap) size align (route_in f size align) refl) (sym word ∙ (sym known ∙ some)) in
+      ap (λ (x : Directory). usable_by_kind x.kind (g % 256)) same ∙ placed_usable f (is_shared f heap) size align (route_in f size align) block g refl given.placed given.room of
+
+  by_answer : (answer : Result Block NoRoom) → RequestEnds k wanted (part k l) steps answer → AreBlocksUsable (visible whole)
+  by_answer (Ok block) given =
+      let shown : visible whole ≡ Event.Give k block ∷ (given.before ++ visible l) = visible_steps k steps l ∙ ap (λ (es : List Event). es ++ visible l) given.events in
+      let run : Run f (Event.Give k block ∷ (given.before ++ visible l)) = subst (Run f) shown (runs f whole valid legal) in
+      subst AreBlocksUsable (sym shown)
+      (next_usable f (Event.Give k block) (given.before ++ visible l) run (give_usable block given) (all_usable f given.before (visible l) run.1 (all_preparing wanted.directory given.before given.prepared) usable))
+  by_answer (Err room) ends = steps_usable f k steps l valid legal (refusal_gives wanted.route wanted.directory (events_by k (part k l) steps) ends) usable
+
+-- ---- a reallocation
+logged_gives : (f : Profile) (k : ℕ) (c c' : Cached) (entry : Entry) (freed : List Made) (v : View) (answer : Result Block NoRoom) → MatchResult answer (λ block. TakesEntry f k c c' entry freed) (λ room. (freed ≡ []) × (c' ≡ c)) → AreNoGives (events_by k v freed)
+logged_gives f k c c' entry freed v (Ok block) takes = full_gives (nat_le 64 (length c.log)) k c.log takes.logs.kept c.noted c'.noted freed v takes.logs.emptied
+logged_gives f k c c' entry freed v (Err room) none = subst (λ (ms : List Made). AreNoGives (events_by k v ms)) (sym none.0) tt
+
+replaced_usable : (f : Profile) (k : ℕ) (r : Request) (old : Block) (b : Having) (l : Whole) (a : Answer) → b.view ≡ part k l → IsValid f → Legal f (triples k a.steps ++ l) → IsReplaced f k r old b a → AreBlocksUsable (visible l) → AreBlocksUsable (visible (triples k a.steps ++ l))
+replaced_usable f k r old b l a view valid legal h usable =
+    let whole : Legal f (triples k (h.freed ++ h.placed.steps) ++ l) = subst (λ (ms : List Made). Legal f (triples k ms ++ l)) h.steps_are legal in
+    let first : Legal f (triples k h.placed.steps ++ l) = legal_earlier f k h.freed h.placed.steps l whole in
+    let ends : RequestEnds k (wanted_by f r) (part k l) h.placed.steps h.served.answer = subst (λ (v : View). RequestEnds k (wanted_by f r) v h.placed.steps h.served.answer) view h.served.ends in
+    let given : AreBlocksUsable (visible (triples k h.placed.steps ++ l)) = by_answer f k r.heap r.size r.align l h.placed.steps valid first usable h.served.answer ends in
+    subst (λ (ms : List Made). AreBlocksUsable (visible (triples k ms ++ l))) (sym h.steps_are)
+    (subst (λ (m : Whole). AreBlocksUsable (visible m)) (triples_append k h.freed h.placed.steps l)
+    (steps_usable f k h.freed (triples k h.placed.steps ++ l) valid (subst (Legal f) (sym (triples_append k h.freed h.placed.steps l)) whole)
+    (logged_gives f k h.placed.cache a.cache (entry_of old.name) h.freed (part k (triples k h.placed.steps ++ l)) h.served.answer h.logged) given))
+
+remade_usable : (f : Profile) (k name size align : ℕ) (meant : Option (Option Block)) (p : Progress) (a : Answer) → IsValid f → Legal f (triples k a.steps ++ p.list) → IsRemadeBy f k name size align meant (having p.names (part k p.list) (p.caches k)) a → HasUsableBlocks p
+    → AreBlocksUsable (visible (triples k a.steps ++ p.list))
+remade_usable f k name size align None p a valid legal h usable = absurd h
+remade_usable f k name size align (Some None) p a valid legal h usable = subst (λ (ms : List Made). AreBlocksUsable (visible (triples k ms ++ p.list))) (sym h.0) usable
+remade_usable f k name size align (Some (Some old)) p a valid legal (inl kept) usable = subst (λ (ms : List Made). AreBlocksUsable (visible (triples k ms ++ p.list))) (sym kept.no_steps) usable
+remade_usable f k name size align (Some (Some old)) p a valid legal (inr replaced) usable = replaced_usable f k (request_for old name size align) old (having p.names (part k p.list) (p.caches k)) p.list a refl valid legal replaced usable
+
+-- ---- the acts
+operation_usable : (f : Profile) (k : ℕ) (what : What) (p : Progress) (a : Answer) → IsValid f → Legal f (triples k a.steps ++ p.list) → IsAnswered f k what (having p.names (part k p.list) (p.caches k)) a → HasUsableBlocks p → AreBlocksUsable (visible (triples k a.steps ++ p.list))
+operation_usable f k (What.Alloc name heap size align) p a valid legal h usable = by_answer f k heap size align p.list a.steps valid legal usable h.answer h.ends
+operation_usable f k (What.Free name) p a valid legal h usable = steps_usable f k a.steps p.list valid legal (named_gives f k (p.caches k) a.cache name None (standing_for p.names name) a.steps a.said (part k p.list) h.0) usable
+operation_usable f k (What.FreeSized name room) p a valid legal h usable = steps_usable f k a.steps p.list valid legal (named_gives f k (p.caches k) a.cache name (Some room) (standing_for p.names name) a.steps a.said (part k p.list) h.0) usable
+operation_usable f k (What.Raw block) p a valid legal h usable = steps_usable f k a.steps p.list valid legal (freed_gives f k (p.caches k) a.cache (entry_of block) a.steps a.said (part k p.list) h.0) usable
+operation_usable f k (What.RawSized room block) p a valid legal h usable = steps_usable f k a.steps p.list valid legal (freed_gives f k (p.caches k) a.cache (sized_entry block room) a.steps a.said (part k p.list) h.0) usable
+operation_usable f k (What.Remake name old heap size align) p a valid legal h usable = remade_usable f k name size align (standing_for p.names old) p a valid legal h usable
+operation_usable f k What.Flush p a valid legal h usable = steps_usable f k a.steps p.list valid legal (flush_gives k (p.caches k).log (p.caches k).noted a.cache.noted a.steps (part k p.list) h.0.empties) usable
+operation_usable f k What.Stop p a valid legal h usable = steps_usable f k a.steps p.list valid legal (stop_gives k (p.caches k) a.cache a.steps (part k p.list) h.0) usable
+operation_usable f k (What.Tick e) p a valid legal h usable = absurd h
+operation_usable f k What.Pass p a valid legal h usable = absurd h
+operation_usable f k (What.Idle n) p a valid legal h usable = absurd h
+
+pub act_usable : (f : Profile) (act : Act) → KeepsUsable f act
+act_usable f (Act.MarksPhase n) p p' valid before after is usable = subst HasUsableBlocks (sym is) usable
+act_usable f Act.MarksClose p p' valid before after is usable = subst HasUsableBlocks (sym is) usable
+act_usable f (Act.Wakes k) p p' valid before after is usable = subst HasUsableBlocks (sym is.1) usable
+act_usable f (Act.Operates op) p p' valid before after is usable =
+    subst HasUsableBlocks (sym is.2) (operation_usable f op.actor op.what p is.0 valid (subst (λ (q : Progress). Legal f q.list) is.2 after.legal) is.1 usable)
+act_usable f (Act.Settles k) p p' valid before after is usable = subst HasUsableBlocks (sym is) usable
+act_usable f (Act.Ticks asked) p p' valid before after is usable = subst HasUsableBlocks (sym is.1) usable
+act_usable f Act.MakesPass p p' valid before after is usable =
+    subst HasUsableBlocks (sym is.4) (steps_usable f 0 is.2 p.list valid (subst (λ (q : Progress). Legal f q.list) is.4 after.legal)
+    (subst AreNoGives (sym (is.3.events (part 0 p.list))) (unbacks_give 0 is.0 (reverse is.1))) usable)
+act_usable f Act.ReadsEpoch p p' valid before after is usable = subst HasUsableBlocks (sym is.1) usable
+act_usable f (Act.StopsIdle k n) p p' valid before after is usable = elim is [
+  | inl h ↦ subst HasUsableBlocks (sym h.4) (steps_usable f k h.1 p.list valid (subst (λ (q : Progress). Legal f q.list) h.4 after.legal) (stop_gives k (p.caches k) h.2 h.1 (part k p.list) h.3) usable)
+  | inr h ↦ subst HasUsableBlocks (sym h.1) usable
+]
+act_usable f (Act.Ends k) p p' valid before after is usable =
+    subst HasUsableBlocks (sym is.3) (steps_usable f k is.0 p.list valid (subst (λ (q : Progress). Legal f q.list) is.3 after.legal) (stop_gives k (p.caches k) is.1 is.0 (part k p.list) is.2) usable)

@@ -1,0 +1,131 @@
+-- The first state of the text is that of a replay that did nothing yet, and the text of a state that is the replay's is what is written of it.
+use Rattle.std.proofs.Common.{◌≡◌, ℕ, zero, suc, ◌+◌, ◌%◌, ◌==◌, Bool, true, false, not, List, [], ◌++◌, length, map, if◌then◌else◌, ◌-◌, codes, Option, None, Some, inl, inr, refl, ap, sym, ◌∙◌, subst}
+use Rattle.std.proofs.lemmas.Bool.{false≢true}
+use Rattle.pas_bits.proofs.Words.{none_of_zero}
+use Rattle.pas_profile.specs.Directories.{directory_read}
+use Rattle.pas_profile.specs.Profiles.{IsValid}
+use Rattle.pas_profile.specs.declared.directory.Directory.{Directory}
+use Rattle.pas_profile.specs.declared.event.Event.{Event}
+use Rattle.pas_profile.specs.declared.profile.Profile.{Profile}
+use Rattle.pas_profile.specs.declared.word.Word.TheVariants as Word
+use Rattle.pas_profile.proofs.Codecs.{read-deed_word_of, directory_from_profile}
+use Rattle.pas_machine.specs.State.{deed_in, backed_in}
+use Rattle.pas_steps.specs.Lists.{Whole, word_after, visible, Legal}
+use Rattle.pas_core.specs.Good.{word_of_deed}
+use Rattle.pas_core.specs.Rights.{parked_bit, IsRightInOnePlace}
+use Rattle.pas_core.proofs.Deeds.{deed_of, directory_is_of}
+use Rattle.pas_core.proofs.Rights.{right_in_one_place}
+use Rattle.pas_report.specs.Lines.{lines_of}
+use Rattle.pas_report.specs.Marks.{Marked, marks_after, offered_after}
+use Rattle.pas_report.specs.Reports.{machine_page, machine_pages, total_line, report_text}
+use Rattle.pas_report.specs.Rests.{AreTrueMarks}
+use Rattle.pas_report.specs.declared.record.Record.{Record}
+use Rattle.pas_trace.specs.Acts.{numbers_from}
+use Rattle.pas_answers.specs.Answers.{Progress}
+use Rattle.pas_answers.specs.Replays.{at_start, empty_cache, empty_caches}
+use Rattle.pas_one_text.specs.State.{Cache, World, no_cache, cache_in}
+use Rattle.pas_one_text.specs.Order.{opened}
+use Rattle.pas_one_text.specs.Reports.{offered_by, parked_by, marks_of, text_of}
+use Rattle.pas_same_text.specs.Same.{IsSame, IsSameCache, AreSameCaches}
+use Rattle.pas_same_text.specs.Acts.{AreBlocksUsable}
+use Rattle.pas_same_text.proofs.EntrySteps.{read_deed}
+
+-- ==== THE START
+many_numbers : (n from : ℕ) → length (map (λ k. no_cache) (numbers_from from n)) ≡ n
+many_numbers zero from = refl
+many_numbers (suc n) from = ap suc (many_numbers n (from + 1))
+
+none_used : (n from k : ℕ) → cache_in (map (λ k. no_cache) (numbers_from from n)) k ≡ no_cache
+none_used zero from k = refl
+none_used (suc n) from k = by_place (k == 1) (cache_in (map (λ k. no_cache) (numbers_from (from + 1) n)) (k - 1)) (none_used n (from + 1) (k - 1))
+  where
+    by_place : (t : Bool) (rest : Cache) → rest ≡ no_cache → (if t then no_cache else rest) ≡ no_cache
+    by_place true rest is = refl
+    by_place false rest is = is
+
+start_caches : (f : Profile) → AreSameCaches f empty_caches (opened f).caches
+start_caches f = record {
+  many = many_numbers f.threads 1;
+  each = λ k is. subst (IsSameCache empty_cache) (sym (none_used f.threads 1 k)) (record { locals = tt; log = refl; noted = refl; began = refl });
+}
+
+pub start_same : (f : Profile) → IsSame f at_start (opened f)
+start_same f = record {
+  pages = record { events = refl; live = refl; hinted = λ page. sym (none_of_zero (page % 64)); offered = λ page d of. sym (none_of_zero (page % 64)) };
+  caches = start_caches f;
+  names = refl;
+  records = refl;
+  epoch = refl;
+  read = refl;
+}
+
+is_some : {A : Type 0} → Option A → Bool
+is_some None = false
+is_some (Some x) = true
+
+pub start_usable : AreBlocksUsable []
+unfolding is_some
+start_usable = record { usable = λ address b lives g of d is. absurd (false≢true (ap is_some is)) }
+
+-- ==== THE END
+pages_told : (es : List Event) (marks other : ℕ → Marked) (n : ℕ) → ((page : ℕ) → marks page ≡ other page) → machine_pages es marks n ≡ machine_pages es other n
+pages_told es marks other zero same = refl
+pages_told es marks other (suc n) same =
+    ap (λ (text : List ℕ). text ++ machine_page es (suc n) (deed_in es (suc n)) (marks (suc n))) (pages_told es marks other n same)
+    ∙ ap (λ (m : Marked). machine_pages es other n ++ machine_page es (suc n) (deed_in es (suc n)) m) (same (suc n))
+
+module _ (f : Profile) (p : Progress) (w : World) (valid : IsValid f) (legal : Legal f p.list) (true_marks : AreTrueMarks f p.list) (same : IsSame f p w) where
+  abbrev l : Whole
+  l = p.list
+
+  deed_is : (page : ℕ) → deed_in w.events page ≡ deed_in (visible l) page
+  deed_is page = ap (λ (es : List Event). deed_in es page) same.pages.events
+
+  read_is : (page : ℕ) → directory_read (word_after l (Word.Deed page)) ≡ deed_in (visible l) page
+  read_is page = ap directory_read (deed_of f l legal page) ∙ read_deed f valid (deed_in (visible l) page) (λ d at. read-deed_word_of d (directory_from_profile f d valid (directory_is_of f l legal page d at)))
+
+  offered_told : (page : ℕ) (o : Option Directory) → deed_in (visible l) page ≡ o → offered_by w o page ≡ offered_after l page o
+  offered_told page None at = refl
+  offered_told page (Some d) at = same.pages.offered page d (directory_is_of f l legal page d at)
+
+  offered_same : (page : ℕ) → offered_by w (deed_in w.events page) page ≡ (marks_after l page).offered
+  offered_same page =
+      ap (λ (o : Option Directory). offered_by w o page) (deed_is page)
+      ∙ (offered_told page (deed_in (visible l) page) refl ∙ ap (offered_after l page) (sym (read_is page)))
+
+  no_deed_parked : (page : ℕ) → deed_in (visible l) page ≡ None → parked_bit l page ≡ false
+  no_deed_parked page none = by_place (right_in_one_place f l legal page)
+    where
+      zero_word : word_after l (Word.Deed page) ≡ 0
+      zero_word = deed_of f l legal page ∙ ap word_of_deed none
+
+      by_place : IsRightInOnePlace f l page → parked_bit l page ≡ false
+      by_place (inl nowhere) = nowhere.not_parked
+      by_place (inr (inl one)) = absurd (one.a_deed zero_word)
+      by_place (inr (inr (inl offers))) = offers.not_parked
+      by_place (inr (inr (inr parks))) = absurd (parks.a_deed zero_word)
+
+  parked_told : (page : ℕ) (o : Option Directory) → deed_in (visible l) page ≡ o → parked_by w o page ≡ parked_bit l page
+  parked_told page None at = sym (no_deed_parked page at)
+  parked_told page (Some d) at =
+      ap not (sym (ap (λ (o : Option Directory). offered_by w o page) (deed_is page ∙ at)) ∙ offered_same page)
+      ∙ sym (true_marks.offered_or_parked page (λ none. absurd (false≢true (ap is_there (sym none ∙ at)))))
+    where
+      is_there : Option Directory → Bool
+      is_there None = false
+      is_there (Some d) = true
+
+  marks_same : (page : ℕ) → marks_of w page ≡ marks_after l page
+  marks_same page =
+      ap (λ (b : Bool). let m : Marked = record { backed = b; offered = offered_by w (deed_in w.events page) page; parked = parked_by w (deed_in w.events page) page; hinted = (marks_of w page).hinted } in m)
+      (ap (λ (es : List Event). backed_in es page) same.pages.events ∙ sym (true_marks.backed page))
+      ∙ (ap (λ (o : Bool). let m : Marked = record { backed = (marks_after l page).backed; offered = o; parked = parked_by w (deed_in w.events page) page; hinted = (marks_of w page).hinted } in m) (offered_same page)
+      ∙ (ap (λ (r : Bool). let m : Marked = record { backed = (marks_after l page).backed; offered = (marks_after l page).offered; parked = r; hinted = (marks_of w page).hinted } in m)
+      (ap (λ (o : Option Directory). parked_by w o page) (deed_is page) ∙ parked_told page (deed_in (visible l) page) refl)
+      ∙ ap (λ (h : Bool). let m : Marked = record { backed = (marks_after l page).backed; offered = (marks_after l page).offered; parked = parked_bit l page; hinted = h } in m) (same.pages.hinted page)))
+
+  pub text_told : text_of f w ≡ lines_of p.records ++ report_text f (visible l) (marks_after l)
+  text_told =
+      ap (λ (rs : List Record). lines_of rs ++ report_text f w.events (marks_of w)) (sym same.records)
+      ∙ (ap (λ (es : List Event). lines_of p.records ++ report_text f es (marks_of w)) same.pages.events
+      ∙ ap (λ (pages : List ℕ). lines_of p.records ++ (codes "report\n" ++ (pages ++ total_line f (visible l)))) (pages_told (visible l) (marks_of w) (marks_after l) f.pages marks_same))
