@@ -17,7 +17,7 @@ fn joined<R: AllocGlobal>(rt: &R, parts: &[&str]) -> Result<Vec<u8>, AllocError>
     Ok(text)
 }
 
-/// Whether a check of the trace with this transcript has the status, and writes just this text.
+/// Whether a check of the trace with this transcript has the status, and writes just this text. A trace may lack its last newline, and an empty line says nothing.
 fn is_judged<R: AllocGlobal + Threads + Wait + Sync>(
     rt: &R,
     trace: &str,
@@ -25,7 +25,7 @@ fn is_judged<R: AllocGlobal + Threads + Wait + Sync>(
     status: u8,
     text: &str,
 ) -> Result<bool, AllocError> {
-    let mut input = joined(rt, &[trace, "transcript\n"])?;
+    let mut input = joined(rt, &[trace, "\ntranscript\n"])?;
     input.extend_from_slice(&joined(rt, transcript)?)?;
     let outcome = outcome_of(rt, &["check"], &input, &[], &[], ROOM)?;
     Ok(outcome.is(status, text.as_bytes()))
