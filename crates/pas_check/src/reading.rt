@@ -37,7 +37,7 @@ ghost use Rattle.pas_check.specs.Readings.{
 use crate::numbers::{byte, hex8, hex16, number, number8, number32, past_digits, skip};
 use pas_profile::limits::MOST_CLASSES;
 use pas_profile::{Address, Block, Directory, Event, Kind, Name, Route, Why, route};
-use pas_report::{Record, Said, record_line};
+use pas_report::{Line, Record, Said, push_record};
 
 /// An address and a turn, with a space before them.
 fn name(text: &[u8]) -> Name
@@ -355,12 +355,14 @@ fn can_show(item: &Record) -> bool
     }
 }
 
-/// Whether the line is this record's.
+/// Whether the line is this record's. The record's line is made where it is compared, without a copy.
 pub(crate) fn is_line(line: &[u8], item: &Record) -> bool
     requires { CanShow item.now }
     ensures { MatchBool result (line.now ≡ line_of item.now) (line.now ≢ line_of item.now) }
 {
-    record_line(item).as_bytes() == line
+    let mut wanted = Line::new();
+    push_record(&mut wanted, item);
+    wanted.as_bytes() == line
 }
 
 /// The record whose line this is, with its newline; None where it is of no record whose numbers fit their places. Takes no memory, and time in
