@@ -1,6 +1,6 @@
 use Rattle.std.proofs.Common.{◌≡◌}
 use Rattle.pas_steps.specs.Desks.{AnyView, CanCall}
-use Rattle.pas_step_bench.proofs.repeating.repeat.Given as goal
+use Rattle.pas_step_timing.proofs.repeating.repeat.Given as goal
 
 abbrev pub invariant-loop-round : goal.invariant-loop-round
 invariant-loop-round g l = let D = g.D.Desk in record {

@@ -1,8 +1,8 @@
 use Rattle.std.proofs.Common.{◌≤◌, ℕ, ◌∷◌, sym, subst, ◌∙◌}
 use Rattle.pas_steps.specs.Desks.{Seat, Standing, CanCall, CanMake, Makes, AnyView, made, triple}
 use Rattle.pas_steps.specs.declared.step.Step.{Step}
-use Rattle.pas_step_bench.specs.Repeats.{IsFreeToMake}
-use Rattle.pas_step_bench.proofs.repeating.repeat.Goals as goal
+use Rattle.pas_step_timing.specs.Repeats.{IsFreeToMake}
+use Rattle.pas_step_timing.proofs.repeating.repeat.Goals as goal
 
 can_make : (desk : Standing) (step : Step) → CanCall desk AnyView → IsFreeToMake desk.seat.profile step → CanMake desk step
 can_make desk step can free = record { of_region = free.of_region; view = can.view; whole = can.whole; stood = can.stood; allowed = free.allowed can.view }

@@ -3,8 +3,8 @@ use Rattle.pas_profile.specs.declared.profile.Profile.{Profile}
 use Rattle.pas_plain.specs.Plain.{PassStands}
 use Rattle.pas_plain.specs.declared.pass.PlainPass.{PlainPass}
 use Rattle.pas_shared.proofs.Pops.{last_is}
-use Rattle.pas_step_bench.specs.Repeats.{bench_profile}
-use Rattle.pas_step_bench.proofs.opened.plain.Goals as goal
+use Rattle.pas_step_timing.specs.Repeats.{bench_profile}
+use Rattle.pas_step_timing.proofs.opened.plain.Goals as goal
 
 pub desk-requires : goal.desk-requires
 desk-requires c =

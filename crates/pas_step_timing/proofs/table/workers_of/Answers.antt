@@ -1,7 +1,7 @@
 use Rattle.pas_shared_trials.specs.Races.{IsFreshPass}
 use Rattle.pas_shared.proofs.Pops.{all_more, first_is, others_are}
-use Rattle.pas_step_bench.specs.Repeats.{IsReady}
-use Rattle.pas_step_bench.proofs.table.workers_of.Goals as goal
+use Rattle.pas_step_timing.specs.Repeats.{IsReady}
+use Rattle.pas_step_timing.proofs.table.workers_of.Goals as goal
 
 pub loop-pass-preserved-in-Continue-1 : goal.loop-pass-preserved-in-Continue-1
 loop-pass-preserved-in-Continue-1 c =

@@ -2,7 +2,7 @@
 ghost use Rattle.std.specs.Prelude.{◌≡◌, ◌≤◌};
 ghost use Rattle.pas_profile.specs.declared.profile.Profile.{Profile};
 ghost use Rattle.pas_steps.specs.Desks.{AnyView, CanCall};
-ghost use Rattle.pas_step_bench.specs.Repeats.{IsFreeToMake};
+ghost use Rattle.pas_step_timing.specs.Repeats.{IsFreeToMake};
 
 use pas_profile::Word;
 use pas_steps::{Desk, Step};

@@ -7,7 +7,7 @@ use Rattle.pas_steps.specs.Events.{wants}
 use Rattle.pas_steps.specs.declared.step.Step.{Step}
 use Rattle.pas_shared.specs.declared.region.SharedRegion.{SharedRegion}
 use Rattle.pas_shared_trials.specs.Races.{IsFreshPass}
-use Rattle.pas_step_bench.specs.declared.sharing.Worker.{Worker}
+use Rattle.pas_step_timing.specs.declared.sharing.Worker.{Worker}
 
 -- the step is of the region, makes no event, and any view allows it
 pub record IsFreeToMake (f : Profile) (step : Step) : Type 0 where

@@ -5,7 +5,7 @@ ghost use Rattle.pas_steps.specs.Desks.{CanCall};
 ghost use Rattle.pas_rights.specs.Leaves.{MayLeave};
 ghost use Rattle.pas_shared.specs.Passes.{profile_of};
 ghost use Rattle.pas_trials.specs.Trials.{Brings};
-ghost use Rattle.pas_step_bench.specs.Repeats.{bench_profile, IsReady};
+ghost use Rattle.pas_step_timing.specs.Repeats.{bench_profile, IsReady};
 
 use pas_profile::{Directory, Kind};
 use pas_shared::{SharedPass, SharedRegion};

@@ -1,7 +1,7 @@
 use Rattle.std.proofs.Common.{◌≡◌}
 use Rattle.pas_rights.specs.Leaves.{MayLeave}
 use Rattle.pas_trials.specs.Trials.{Brings}
-use Rattle.pas_step_bench.proofs.sharing.take_often.Given as goal
+use Rattle.pas_step_timing.proofs.sharing.take_often.Given as goal
 
 -- the takes so far, after which the right is still the actor's
 abbrev pub invariant-loop-round : goal.invariant-loop-round

@@ -1,7 +1,7 @@
 use Rattle.std.proofs.Common.{◌≡◌, ◌≤◌, [], All, vec_len}
 use Rattle.std.specs.Prelude.{vec_capacity}
 use Rattle.pas_profile.specs.Rooms.{shown, size_of_room, EventRoom}
-use Rattle.pas_step_bench.proofs.opened.rooms.Given as goal
+use Rattle.pas_step_timing.proofs.opened.rooms.Given as goal
 
 abbrev pub invariant-loop-index : goal.invariant-loop-index
 invariant-loop-index l = record {

@@ -2,7 +2,7 @@
 ghost use Rattle.std.specs.Prelude.{◌≡◌, ◌≤◌, ◌<◌, All, IfOk};
 ghost use Rattle.pas_steps.specs.Desks.{AnyView, CanCall};
 ghost use Rattle.pas_shared_trials.specs.Races.{IsFreshPass};
-ghost use Rattle.pas_step_bench.specs.Repeats.{IsReady};
+ghost use Rattle.pas_step_timing.specs.Repeats.{IsReady};
 
 use crate::bare;
 use crate::opened::{THREADS, plain, shared};

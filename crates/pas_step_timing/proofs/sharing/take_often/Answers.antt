@@ -1,7 +1,7 @@
 use Rattle.std.proofs.Common.{◌∙◌, arith}
 use Rattle.pas_steps.proofs.Called.{call_step, next_step}
 use Rattle.pas_rights.specs.Leaves.{MayLeave}
-use Rattle.pas_step_bench.proofs.sharing.take_often.Goals as goal
+use Rattle.pas_step_timing.proofs.sharing.take_often.Goals as goal
 
 pub take-requires-clause-can : goal.take-requires-clause-can
 take-requires-clause-can g c = let i = c.loop-round.invariant in

@@ -6,7 +6,7 @@ use Rattle.pas_steps.specs.Views.{View}
 use Rattle.pas_steps.proofs.Called.{next_call}
 use Rattle.pas_shared.specs.Passes.{view_of}
 use Rattle.pas_trials.specs.Trials.{MayLeaveIf}
-use Rattle.pas_step_bench.proofs.sharing.work.Goals as goal
+use Rattle.pas_step_timing.proofs.sharing.work.Goals as goal
 
 may_leave : (got : Bool) (page : ℕ) (d : Directory) (v : View) → got ≡ true → MayLeaveIf got page d v → MayLeave page d v
 may_leave true page d v is may = may

@@ -6,7 +6,7 @@ ghost use Rattle.pas_plain.specs.Seats.{standing_of, region_of};
 ghost use Rattle.pas_plain.specs.Plain.{profile_of};
 ghost use Rattle.pas_shared.specs.Passes.{profile_of as the_profile_of};
 ghost use Rattle.pas_shared_trials.specs.Races.{IsFreshPass};
-ghost use Rattle.pas_step_bench.specs.Repeats.{bench_profile};
+ghost use Rattle.pas_step_timing.specs.Repeats.{bench_profile};
 
 use crate::repeating::PAGES;
 use pas_plain::{PlainDesk, PlainRegion};
