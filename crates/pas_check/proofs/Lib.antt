@@ -22,7 +22,6 @@ mod Servings
 mod Followed
 mod Chains
 mod ActsOfPlans
-mod ThreadsInOrder
 mod Pages
 mod Reportings
 mod Phases
