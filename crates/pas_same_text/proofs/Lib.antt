@@ -29,3 +29,5 @@ mod UsableBlocks
 mod WholeText
 mod AllActs
 mod SearchedPages
+mod Stamped
+mod SameIndexes

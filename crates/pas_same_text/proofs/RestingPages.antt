@@ -71,8 +71,8 @@ not-no false h = absurd (true≢false h)
 
 module _ (f : Profile) (p : Progress) (w : World) (valid : IsValid f) (between : IsBetween f p) (same : HasSame f p w) where
   pub clear_of : (k : ℕ) → k ≤ f.threads → IsClear (part k p.list)
-  clear_of zero le = between.scavenger.clear
-  clear_of (suc i) le = let some : 1 ≤ suc i = omega arith in (between.threads (suc i) (some, le)).locals.clear
+  clear_of zero le = between.rest.scavenger.clear
+  clear_of (suc i) le = let some : 1 ≤ suc i = omega arith in (between.rest.threads (suc i) (some, le)).locals.clear
 
   pub deed_now : (page : ℕ) (d : Directory) → IsDirectoryOf f d → is_of w d page ≡ true → deed_in (visible p.list) page ≡ Some d
   deed_now page d of h =
