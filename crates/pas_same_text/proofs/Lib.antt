@@ -31,3 +31,7 @@ mod AllActs
 mod SearchedPages
 mod Stamped
 mod SameIndexes
+mod SearchMarks
+mod SearchedMarks
+mod Refusals
+mod RefusedRequests

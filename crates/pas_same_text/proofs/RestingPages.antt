@@ -126,7 +126,7 @@ module _ (f : Profile) (p : Progress) (w : World) (valid : IsValid f) (between :
       (usable_at page o.number d small of word (and_first (usable_by_kind d.kind o.number) (is_free w page o.number) both) (and_second (usable_by_kind d.kind o.number) (is_free w page o.number) both))
 
   -- ---- AN OFFERED PAGE has a deed of its directory, and nobody keeps it
-  deed_from_word : (page : ℕ) (d : Directory) (o : Option Directory) → deed_in (visible p.list) page ≡ o → word_of_deed o ≡ deed_word_of d → IsKind d.kind → is_same d o ≡ true
+  pub deed_from_word : (page : ℕ) (d : Directory) (o : Option Directory) → deed_in (visible p.list) page ≡ o → word_of_deed o ≡ deed_word_of d → IsKind d.kind → is_same d o ≡ true
   deed_from_word page d None at word is = absurd (deed_word_of-positive d (sym word))
   deed_from_word page d (Some e) at word is =
       let of_own : IsDirectoryOf f e = directory_is_of f p.list between.legal page e at in
