@@ -1,7 +1,8 @@
 -- WHERE A BIT-FIT BLOCK FITS on a page: in the text exactly where it does by the free grains of the replay.
-use Rattle.std.proofs.Common.{◌≡◌, ℕ, ◌+◌, ◌*◌, ◌/◌, ◌%◌, ◌<◌, ◌≤◌, ◌==◌, nat_le, nat_lt, Bool, true, false, not, ◌&&◌, ◌||◌, List, take, refl, ap, sym, ◌∙◌, arith}
+use Rattle.std.proofs.Common.{◌≡◌, ℕ, ◌+◌, ◌*◌, ◌/◌, ◌%◌, ◌<◌, ◌≤◌, ◌==◌, nat_le, nat_lt, Bool, true, false, not, ◌&&◌, ◌||◌, List, refl, ap, sym, ◌∙◌, arith}
 use Rattle.std.proofs.lemmas.Bool.{true≢false, false≢true, eq-eqb, eqb-true, cases_Bool, and_from, false_from_ne_true}
 use Rattle.std.proofs.lemmas.Bool.Decides.{nat_tests}
+use Rattle.std.proofs.lemmas.Nat.{div_below}
 use Rattle.std.proofs.Math.Nat.{mul-mod_left, mod-add-div'}
 use Rattle.std.specs.List.{list_any, filter}
 use Rattle.pas_bits.specs.Bits.{has_bit}
@@ -44,10 +45,6 @@ page_splits align is =
     let low = is.0 in let high = is.1 in
     eqb-true (256 / (align / 16) * (align / 16)) 256
     (or_last (nat_lt align 16) (4096 % align == 0) (256 / (align / 16) * (align / 16) == 256) (passes_at splits 4097 align splits_all (omega (arith, high))) (grind (arith, low)) (eq-eqb (4096 % align) 0 is.2))
-
--- a lower multiple comes before
-below_times : (i m a : ℕ) → i * a < m * a → i < m
-below_times i m a lt = lt-from-mul i m a lt
 
 module _ (f : Profile) (p : Progress) (w : World) (valid : IsValid f) (between : IsBetween f p) (same : HasSame f p w) (room align : ℕ) (some : 1 ≤ room / 16) (is : IsAlignment align) where
   abbrev n : ℕ
@@ -93,7 +90,8 @@ module _ (f : Profile) (p : Progress) (w : World) (valid : IsValid f) (between :
       let within = fits.within in
       let times : g / step * step ≡ g = let m = mod-add-div' g step in omega (arith, m, aligned) in
       let whole : 256 / step * step ≡ 256 = page_splits align is in
-      let lt : g / step < 256 / step = below_times (g / step) (256 / step) step (omega (arith, times, whole, within, some)) in
+      let low = is.0 in
+      let lt : g / step < 256 / step = div_below g step (256 / step) (omega (arith, low)) (omega (arith, whole, within, some)) in
       in_spaced (test page) (256 / step) 0 step (g / step) lt (ap (test page) (omega (arith, times)) ∙ fits_test page g fits)
 
   pub bitfit_fits : FitsSame (NoneFits (run_for room align)) f p (lowest_place w n step)

@@ -35,3 +35,6 @@ mod SearchMarks
 mod SearchedMarks
 mod Refusals
 mod RefusedRequests
+mod SpacedPlaces
+mod BitfitFits
+mod BitfitRequests

@@ -1,5 +1,5 @@
 //! What each act owes: from a state of the text that is the replay's it leads to one that is. Each law is the contract of an empty function.
-ghost use Rattle.std.specs.Prelude.{ℕ, ◌+◌, ◌*◌, ◌<◌, ◌≡◌, List, ◌∷◌, ◌++◌, true, Ok};
+ghost use Rattle.std.specs.Prelude.{ℕ, ◌+◌, ◌*◌, ◌<◌, ◌≡◌, List, ◌∷◌, ◌++◌, true, Ok, Err};
 ghost use Rattle.pas_profile.specs.declared.name.Name.{Name};
 ghost use Rattle.pas_profile.specs.declared.profile.Profile.{Profile};
 ghost use Rattle.pas_trace.specs.Acts.{Act, acts_of};
@@ -8,7 +8,9 @@ ghost use Rattle.pas_trace.specs.declared.plan.What.TheVariants.{Alloc, Flush, F
 ghost use Rattle.pas_profile.specs.Requests.{route_in};
 ghost use Rattle.pas_profile.specs.declared.directory.Route.{Route};
 ghost use Rattle.pas_profile.specs.Directories.{number_of};
-ghost use Rattle.pas_profile.specs.Profiles.{IsValid, IsPage, IsDirectoryOf};
+ghost use Rattle.pas_profile.specs.Profiles.{IsValid, IsAdmitted, IsPage, IsDirectoryOf};
+ghost use Rattle.pas_profile.specs.declared.event.NoRoom.{NoRoom};
+ghost use Rattle.pas_search.specs.Telling.{IsTrueReason};
 ghost use Rattle.pas_profile.specs.declared.directory.Directory.{Directory};
 ghost use Rattle.pas_profile.specs.declared.event.Event.{Event};
 ghost use Rattle.pas_machine.specs.Machine.{Run};
@@ -19,7 +21,7 @@ ghost use Rattle.pas_same_text.specs.Same.{IsSame, lives_in};
 ghost use Rattle.pas_same_text.specs.Plans.{AllProved};
 ghost use Rattle.pas_same_text.specs.Searched.{IsSearch};
 ghost use Rattle.pas_search.specs.Searches.{FromOffered, ByDeed};
-ghost use Rattle.pas_one_text.specs.Searches.{searched};
+ghost use Rattle.pas_one_text.specs.Searches.{refusal, searched};
 ghost use Rattle.pas_answers.specs.Reaching.{Reaches};
 ghost use Rattle.pas_answers.specs.Replays.{IsReplay, at_start, phases_of, region_of, threads_of};
 ghost use Rattle.pas_answers.specs.Rests.{AllAtRest};
@@ -43,7 +45,7 @@ ghost use Rattle.pas_core.specs.Rights.{eligible_bit, free_of_page};
 ghost use Rattle.pas_answers.specs.Answers.{Progress};
 ghost use Rattle.pas_one_text.specs.State.{World, each};
 ghost use Rattle.pas_one_text.specs.Pages.{is_free, is_kept, is_offered, has_room};
-ghost use Rattle.pas_same_text.specs.Acts.{IsBetween, IsAtRest, StaysSame, StaysSameWhere, HasUsableBlocks, KeepsUsable, AreEndsStamped, KeepsStamped, KeepsIndexes, HasLogRoom, HasCachedSlot};
+ghost use Rattle.pas_same_text.specs.Acts.{IsBetween, IsAtRest, IsTaken, StaysSame, StaysSameWhere, HasUsableBlocks, KeepsUsable, AreEndsStamped, KeepsStamped, KeepsIndexes, HasLogRoom, HasCachedSlot};
 ghost use Rattle.pas_same_text.specs.Words.{free_bit};
 
 use pas_core::laws::Fitting;
@@ -165,4 +167,15 @@ pub fn searches_choose_the_same<W: Fitting>(wanted: &W)
     ensures offered { (f : Profile) (d : Directory) (k : ℕ) (p : Progress) (w : World) (fits : ℕ → List ℕ) (steps : List Made) (page : ℕ) → IsSearch (W.no_fit wanted.now) f d k p steps w fits → IsPage f page → FromOffered (W.no_fit wanted.now) d page steps
         → (W.no_fit wanted.now (free_of_page p.list page) → ⊥) → searched f w d fits ≡ Ok page }
     ensures deed { (f : Profile) (d : Directory) (k : ℕ) (p : Progress) (w : World) (fits : ℕ → List ℕ) (steps : List Made) (page : ℕ) → IsSearch (W.no_fit wanted.now) f d k p steps w fits → IsPage f page → ByDeed (W.no_fit wanted.now) f d page steps → searched f w d fits ≡ Ok page }
+{}
+
+/// A refusal says in the text what is true of the whole state: the lowest page of the directory that a cache keeps, or that there is none.
+pub fn refusals_are_told()
+    ensures { (f : Profile) (p : Progress) (w : World) (d : Directory) (room : NoRoom) → IsAtRest f p w → IsDirectoryOf f d → IsTrueReason f d p.list room → refusal f w d ≡ room }
+{}
+
+/// A bit-fit request that is refused changes no page: what the search took it put back, hints and offers are as they were, and nothing fits in the text either.
+pub fn refused_requests_stay_the_same()
+    ensures bitfit { (f : Profile) (line k name heap size align : ℕ) (room : NoRoom) → IsThread f k → IsAdmitted f size align heap → route_in f size align ≡ Route.Bitfit → (p p' : Progress) (w : World)
+        → (taken : IsTaken f (Act.Operates (record { line = line; actor = k; what = Alloc name heap size align })) p p' w) → taken.advances.1.answer ≡ Err room → IsSame f p' (acts_on f (Act.Operates (record { line = line; actor = k; what = Alloc name heap size align })) w) }
 {}
