@@ -32,7 +32,8 @@ use Rattle.pas_answers.specs.Reaching.{Advances, Reaches}
 use Rattle.pas_answers.specs.Indexes.{GoByIndexes}
 use Rattle.pas_answers.specs.Refusals.{AreRefusalsTrue}
 use Rattle.pas_answers.specs.Replays.{at_start, phases_of, IsReplay, region_of, threads_of}
-use Rattle.pas_answers.specs.Ways.{Way, IsOneOrder, arranged}
+use Rattle.pas_answers.specs.Rests.{RestBetween}
+use Rattle.pas_answers.specs.Ways.{Way, InOrder, OnThreads, IsOneOrder, arranged}
 use Rattle.pas_answers.proofs.Reached.{was_so}
 use Rattle.pas_answers.proofs.Parts.{Each, same_parts, legal_part, of_front, of_rest}
 use Rattle.pas_answers.proofs.Shown.{EachShown, each_both, each_arranged, piece_shown, records_shown, pass_shown, all_shown}
@@ -103,6 +104,10 @@ left_one f (StopsIdle k n) p q did = elim did [
 ]
 left_one f (Ends k) p q did = left_at f p did.3 (left_stopped f p k did.0 did.1 [] did.2 tt)
 
+-- one act leaves the part of each actor tidy, where it was
+pub act_tidy : (f : Profile) (act : Act) (p q : Progress) → Advances f act p q → Legal f q.list → Each Tidy p.list → Each Tidy q.list
+act_tidy f act p q did legal all = (left_one f act p q did (λ k. legal_part f q.list k legal)).tidy all
+
 left_by : (f : Profile) (acts : List Act) (p q : Progress) → Reaches f acts p q → Each (AreOfRegion f) q.list → Leaves p.list q.list p.records q.records
 left_by f [] p q is of = left_at f p is (λ same. leaves_all p.list p.records) of
 left_by f (act ∷ acts) p q is of =
@@ -146,10 +151,24 @@ can_be_shown {way} {plan} {whole} {records} is =
     let said = are_shown way (region_of plan) (acts_of (threads_of plan) (phases_of plan)) is.reached whole is.answers is.one_order is.legal in
     subst (λ (rs : List Record). All CanShow rs) (sym is.records_are) (all_shown (arranged way (region_of plan).threads is.reached.records) (each_arranged way (region_of plan).threads is.reached.records said))
 
+-- what is known of the acts of a replay in the order of the text besides its refusals, and on threads isn't: that they go by the indexes, with all actors at rest
+-- between them
+abbrev pub GoInOrder : (way : Way) (f : Profile) (acts : List Act) (p p' : Progress) → Reaches f acts p p' → Type 0
+GoInOrder InOrder f acts p p' is = GoByIndexes InOrder f acts p p' is × RestBetween InOrder f acts p p' is
+GoInOrder OnThreads f acts p p' is = Unit {0}
+
+by_indexes : (way : Way) (f : Profile) (acts : List Act) (p p' : Progress) (is : Reaches f acts p p') → GoInOrder way f acts p p' is → GoByIndexes way f acts p p' is
+by_indexes InOrder f acts p p' is go = go.0
+by_indexes OnThreads f acts p p' is go = tt
+
+resting : (way : Way) (f : Profile) (acts : List Act) (p p' : Progress) (is : Reaches f acts p p') → GoInOrder way f acts p p' is → RestBetween way f acts p p' is
+resting InOrder f acts p p' is go = go.1
+resting OnThreads f acts p p' is go = tt
+
 pub replays : (way : Way) (plan : Plan) (reached : Progress) (whole : Whole) (records : List Record) → IsValid (region_of plan) → (answers : Reaches (region_of plan) (acts_of (threads_of plan) (phases_of plan)) at_start reached)
     → IsOneOrder way reached.list whole → records ≡ arranged way (region_of plan).threads reached.records → Legal (region_of plan) whole → ((k : ℕ) → HasNothing (part k whole))
-    → AreRefusalsTrue way (region_of plan) (acts_of (threads_of plan) (phases_of plan)) at_start reached answers → GoByIndexes way (region_of plan) (acts_of (threads_of plan) (phases_of plan)) at_start reached answers → IsReplay way plan whole records
-replays way plan reached whole records valid answers one_order records_are legal nothing refusals indexes = record {
+    → AreRefusalsTrue way (region_of plan) (acts_of (threads_of plan) (phases_of plan)) at_start reached answers → GoInOrder way (region_of plan) (acts_of (threads_of plan) (phases_of plan)) at_start reached answers → IsReplay way plan whole records
+replays way plan reached whole records valid answers one_order records_are legal nothing refusals go = record {
   reached = reached;
   answers = answers;
   one_order = one_order;
@@ -161,5 +180,6 @@ replays way plan reached whole records valid answers one_order records_are legal
   stamps = stamps_are way (region_of plan) (acts_of (threads_of plan) (phases_of plan)) reached whole answers one_order legal valid;
   marks = true_marks (region_of plan) whole valid legal nothing;
   refusals = refusals;
-  indexes = indexes;
+  indexes = by_indexes way (region_of plan) (acts_of (threads_of plan) (phases_of plan)) at_start reached answers go;
+  rests = resting way (region_of plan) (acts_of (threads_of plan) (phases_of plan)) at_start reached answers go;
 }

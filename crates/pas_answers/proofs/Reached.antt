@@ -8,19 +8,12 @@ use Rattle.pas_steps.specs.declared.step.Made.{Made}
 use Rattle.pas_steps.specs.declared.step.Step.TheVariants.{Tick}
 use Rattle.pas_trace.specs.Acts.{Act, Operates, Settles, Ticks, MakesPass, ReadsEpoch, StopsIdle, MarksPhase, Wakes, MarksClose, Ends, operation_in, stepper_of}
 use Rattle.pas_answers.specs.Answers.{Progress, epoch_look}
-use Rattle.pas_large.specs.Doors.{Indexes}
-use Rattle.pas_answers.specs.Indexes.{indexes_after, indexes_after_all, AllAreNamedBy, ReachesBy}
 use Rattle.pas_answers.specs.Reaching.{Advances, Reaches}
 
 -- acts that were answered are followed by others
 pub reach_both : (f : Profile) (xs ys : List Act) (p q r : Progress) → Reaches f xs p q → Reaches f ys q r → Reaches f (xs ++ ys) p r
 reach_both f [] ys p q r one two = subst (λ (s : Progress). Reaches f ys s r) one two
 reach_both f (x ∷ xs) ys p q r one two = (one.0, one.1, reach_both f xs ys one.0 q r one.2 two)
-
--- .. with the runs that indexes name
-pub named_both : (f : Profile) (indexes : Indexes) (xs ys : List Act) (p q r : Progress) → (one : Reaches f xs p q) → AllAreNamedBy f indexes xs p q one → ReachesBy f (indexes_after_all f xs p q one indexes) ys q r → ReachesBy f indexes (xs ++ ys) p r
-named_both f indexes [] ys p q r one named two = subst (λ (s : Progress). ReachesBy f indexes ys s r) one two
-named_both f indexes (x ∷ xs) ys p q r one named two = let rest = named_both f (indexes_after f x p indexes) xs ys one.0 q r one.2 named.1 two in ((one.0, one.1, rest.0), (named.0, rest.1))
 
 -- ---- the list
 list_of : {p q : Progress} → q ≡ p → q.list ≡ p.list

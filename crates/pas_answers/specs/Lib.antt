@@ -3,6 +3,7 @@ pub mod Reaching
 pub mod Ways
 pub mod Indexes
 pub mod Refusals
+pub mod Rests
 pub mod Replays
 pub mod Fit
 pub mod Names

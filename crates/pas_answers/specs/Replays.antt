@@ -22,6 +22,7 @@ use Rattle.pas_answers.specs.Answers.{Caches, Progress}
 use Rattle.pas_answers.specs.Reaching.{Reaches}
 use Rattle.pas_answers.specs.Indexes.{GoByIndexes}
 use Rattle.pas_answers.specs.Refusals.{AreRefusalsTrue}
+use Rattle.pas_answers.specs.Rests.{RestBetween}
 use Rattle.pas_answers.specs.Ways.{Way, IsOneOrder, arranged}
 
 -- the phases of a plan, as lists of operations
@@ -54,7 +55,8 @@ at_start = record { names = []; caches = empty_caches; epoch = 0; list = []; rec
 -- part as that one, and its records are those, in the order of this way. The list is legal, and at its end all actors have nothing and owe nothing. Its
 -- visible events are a run of the allocator's machine, whose pages have the deeds that the threads know. The stamp of each page is the greatest epoch of
 -- an end there, and the marks of the pages are true. In the order of the text a request was refused only where nothing could serve it, for the true
--- reason; and a request for whole pages was given the run that its heap's index named exactly where that was whole.
+-- reason; a request for whole pages was given the run that its heap's index named exactly where that was whole; and all actors are at rest before the first
+-- act and after each.
 pub record IsReplay (way : Way) (plan : Plan) (whole : Whole) (records : List Record) : Type 0 where
   pub reached : Progress
   pub answers : Reaches (region_of plan) (acts_of (threads_of plan) (phases_of plan)) at_start reached
@@ -68,6 +70,7 @@ pub record IsReplay (way : Way) (plan : Plan) (whole : Whole) (records : List Re
   pub marks : AreTrueMarks (region_of plan) whole
   pub refusals : AreRefusalsTrue way (region_of plan) (acts_of (threads_of plan) (phases_of plan)) at_start reached answers
   pub indexes : GoByIndexes way (region_of plan) (acts_of (threads_of plan) (phases_of plan)) at_start reached answers
+  pub rests : RestBetween way (region_of plan) (acts_of (threads_of plan) (phases_of plan)) at_start reached answers
 
 -- the plan was replayed with these records, and the state has the words after its list
 pub record Shows (way : Way) (plan : Plan) (records : List Record) (state : State) : Type 0 where

@@ -10,7 +10,6 @@ use Rattle.pas_report.specs.declared.record.Record.{Record}
 use Rattle.pas_trace.specs.Acts.{Act, Wakes, is_active, numbers_from, active_threads, idle_threads, acts_of_op, acts_of_ops, phase_acts}
 use Rattle.pas_answers.specs.Answers.{Caches, Progress, with_records}
 use Rattle.pas_large.specs.Doors.{Indexes}
-use Rattle.pas_answers.specs.Indexes.{ReachesBy}
 use Rattle.pas_answers.specs.Reaching.{Advances}
 use Rattle.pas_plain.specs.declared.pass.PlainPass.{PlainPass}
 use Rattle.pas_answers.specs.Fit.{AreFit, cost_of_act, own_cost_of_act, unbacks_of_act}
@@ -18,8 +17,9 @@ use Rattle.pas_answers.specs.Names.{names_held}
 use Rattle.pas_bits.specs.Masks.{is_set}
 use Rattle.pas_bits.specs.declared.mask.Mask4.{Mask4}
 use Rattle.pas_plans.specs.Awake.{awake_in, idle_in}
-use Rattle.pas_replay.specs.Sessions.{own_events, ActorStands, Replay, Hand, IsAt, SoFar}
+use Rattle.pas_replay.specs.Sessions.{own_events, ActorStands, Replay, Hand, GoesBy, IsAt, SoFar}
 use Rattle.pas_plans.proofs.ActsLeft.{number_next, number_last, threads_alike}
+use Rattle.pas_replay.proofs.Going.{all_rest}
 use Rattle.pas_replay.proofs.Turning.{AsksNoIndex, free_act}
 
 -- ---- marks
@@ -52,8 +52,8 @@ after_mark {r} {more} {act} {T} {h} out' mark (taken, (p, at)) advances free non
           spare = omega (arith, long, spare, room, one);
           answers = λ q rest.
               let next = with_records p (mark ∷ []) in
-              let left = subst (λ (ix : Indexes). ReachesBy r.profile ix more next q) (sym (asks h.indexes p).0) rest in
-              at.answers q ((next, advances p, left.0), ((asks h.indexes p).1 next (advances p), left.1));
+              let left = subst (λ (ix : Indexes). GoesBy r.profile ix more next q) (sym (asks h.indexes p).0) rest in
+              at.answers q (((next, advances p, left.0.0), ((asks h.indexes p).1 next (advances p), left.0.1)), (all_rest at, left.1));
         },
       ),
     )

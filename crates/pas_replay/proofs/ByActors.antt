@@ -32,6 +32,7 @@ use Rattle.pas_replay.specs.Sessions.{Slots, IsTaken, TakesSeat, Replay, HasName
 use Rattle.pas_replay.proofs.Threads.{there_is}
 use Rattle.pas_large.specs.Doors.{Indexes}
 use Rattle.pas_replay.specs.Operating.{ActsByIndexes}
+use Rattle.pas_replay.proofs.Going.{rest_one, rest_two}
 use Rattle.pas_replay.proofs.Turning.{hand, AsksNoIndex, thread_now, later_for, thread_turn}
 
 -- ---- an act of a thread for which no name stands: it wakes, it is stopped where it is idle, it ends
@@ -47,7 +48,7 @@ pub act_turn : {r : Replay} {more : List Act} {act : Act} {desk desk1 desk2 : Pl
 act_turn {r} {more} {act} {caches = caches} {indexes = indexes} {table = table} {p = p} k there cache some within free none fit asks seat is at did few added room =
     let names = at.names in
     thread_turn k cache some within seat (there_is p.caches caches k there some within at.caches_are is) (omega (arith, none)) (λ j ne. let own = free j in omega (arith, own)) at did ((asks indexes p).1 did.reaches.0 did.reaches.1, tt) (sym (asks indexes p).0)
-    (subst (λ (ns : List Named). HasNames r.profile more table ns) (sym did.names) record { asked = names.asked; fit = fit (names_held table) names.asked names.fit; tells = names.tells; stand = names.stand; known = names.known }) at.operate.1 few added room
+    (rest_one r.profile act p did.reached did.reaches) (subst (λ (ns : List Named). HasNames r.profile more table ns) (sym did.names) record { asked = names.asked; fit = fit (names_held table) names.asked names.fit; tells = names.tells; stand = names.stand; known = names.known }) at.operate.1 few added room
 
 -- what a name stands for once another or itself was set
 pub set_stands : (f : Profile) (t : Bool) (came old new : Option Block) → new ≡ (if t then came else old) → MayStand f came → MayStand f old → MayStand f new
@@ -84,7 +85,7 @@ operate_turn {r} {more} {op} {desk1 = desk1} {desk2} {caches = caches} {indexes 
     let all = subst (λ (j : ℕ). ActsByIndexes r.profile j op indexes indexes' (named_by op.what came) (here (standing_of desk1) (cached there) out) (here (standing_of desk2) (cached cache) out') (later_for r j p more 0) p) mine acted in
     let did = all.did in
     let so = thread_turn k cache some within seat (there_is p.caches caches k there some within at.caches_are is) (omega arith) (λ j ne. let none = other_cost op k j mine ne in omega (arith, none)) at did all.named all.left
-    (subst (λ (ns : List Named). HasNames r.profile more table' ns) (sym did.names) record {
+    (rest_two r.profile op p did.reached did.reaches) (subst (λ (ns : List Named). HasNames r.profile more table' ns) (sym did.names) record {
       asked = asked_after op.what names.asked;
       fit = subst (λ (limit : ℕ). AreFit r.profile limit (asked_after op.what names.asked) more) (sym held) names.fit.2;
       tells = subst (λ (w : What). Tells table' (named_by w came ++ p.names)) (sym asks) tells;

@@ -1,5 +1,6 @@
 mod Turns
 mod Threads
+mod Going
 mod Turning
 mod ByActors
 mod ActsInOrder

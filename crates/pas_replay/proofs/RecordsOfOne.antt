@@ -97,6 +97,7 @@ replay_of_one {text} {plan} {whole} {records} is alone replay = record {
   marks = replay.marks;
   refusals = tt;
   indexes = tt;
+  rests = tt;
 }
 
 pub shows_of_one : {text : List ℕ} {plan : Plan} {records : List Record} {state : State} → IsPlanOf text plan → IsOfOneThread plan → Shows InOrder plan records state → Shows OnThreads plan records state

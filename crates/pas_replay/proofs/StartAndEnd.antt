@@ -28,13 +28,13 @@ use Rattle.pas_answers.specs.Replays.{at_start, phases_of, region_of, threads_of
 use Rattle.pas_answers.specs.Ways.{InOrder}
 use Rattle.pas_answers.proofs.Consequences.{replays}
 use Rattle.pas_large.specs.Doors.{Indexes}
-use Rattle.pas_answers.specs.Indexes.{ReachesBy}
 use Rattle.pas_answers.proofs.TrueRefusals.{all_refuse, all_take}
 use Rattle.pas_answers.specs.declared.names.Names.{Names}
 use Rattle.pas_replay.specs.Kits.{IsFresh, IsKitOf, replay_of}
-use Rattle.pas_replay.specs.Sessions.{pass_in, SeatStands, ActorStands, AreEmpty, Replay, Hand, hand_of, SoFar, owed_by}
+use Rattle.pas_replay.specs.Sessions.{pass_in, SeatStands, ActorStands, AreEmpty, Replay, Hand, hand_of, GoesBy, SoFar, owed_by}
 use Rattle.pas_replay.specs.declared.kit.PlainKit.{PlainKit}
 use Rattle.pas_replay.specs.declared.seats.Actors.{Actors}
+use Rattle.pas_replay.proofs.Going.{all_rest}
 use Rattle.pas_plans.proofs.PlanFacts.{plan_threads, plan_operate, plan_fit, plan_own, plan_scavenger, plan_total}
 use Rattle.pas_plans.proofs.Nothing.{nothing_owed, nothing, no_slots}
 
@@ -87,7 +87,7 @@ start {text} {plan} {kit} {out} read made empty room =
         caches_are = λ i d lt. let many = made.unused.many in sym (made.unused.each i d (omega (arith, lt, many)));
         records_are = empty;
         spare = omega (arith, owed, total, none, room);
-        answers = λ q reaches. subst (λ (ix : Indexes). ReachesBy (region_of plan) ix (acts_of (threads_of plan) (phases_of plan)) at_start q) made.indexes reaches;
+        answers = λ q goes. subst (λ (ix : Indexes). GoesBy (region_of plan) ix (acts_of (threads_of plan) (phases_of plan)) at_start q) made.indexes goes;
       },
     )
 
@@ -120,12 +120,13 @@ shows {plan} {region} actors table {out} {state} limit valid fit so empty profil
     let p = so.0 in
     let at = so.1 in
     let legal = subst (λ (f : Profile). Legal f p.list) at.profile_is at.stands.legal in
-    let all = at.answers p (refl, tt) in
-    let answers = all.0 in
+    let all = at.answers p ((refl, tt), all_rest at) in
+    let answers = all.0.0 in
     record {
       whole = p.list;
       replay = replays InOrder plan p p.list (records_in out) valid answers refl at.records_are legal (bare_at so empty)
-          (all_refuse (region_of plan) limit [] (acts_of (threads_of plan) (phases_of plan)) at_start p valid fit legal answers) (all.1, all_take (region_of plan) (acts_of (threads_of plan) (phases_of plan)) at_start p valid legal answers);
+          (all_refuse (region_of plan) limit [] (acts_of (threads_of plan) (phases_of plan)) at_start p valid fit legal answers)
+          ((all.0.1, all_take (region_of plan) (acts_of (threads_of plan) (phases_of plan)) at_start p valid legal answers), all.1);
       profile = profile ∙ at.profile_is;
       words = λ w of. words p.list at.stands w (subst (λ (f : Profile). IsWordOf f w) (sym at.profile_is) of);
     }

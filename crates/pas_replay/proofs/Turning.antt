@@ -26,17 +26,18 @@ use Rattle.pas_answers.specs.Calls.{owed_events}
 use Rattle.pas_answers.specs.Fit.{AreFit, AreOfThreads, costs_of, own_costs_of, own_cost_of_act, unbacks_of_act, unbacks_of}
 use Rattle.pas_answers.specs.Names.{names_held}
 use Rattle.pas_large.specs.Doors.{Indexes}
-use Rattle.pas_answers.specs.Indexes.{indexes_after, indexes_after_all, ActIsNamedBy, AllAreNamedBy, ReachesBy}
+use Rattle.pas_answers.specs.Indexes.{indexes_after, indexes_after_all, ActIsNamedBy, AllAreNamedBy}
 use Rattle.pas_answers.specs.Reaching.{Advances}
+use Rattle.pas_answers.specs.Rests.{AreAtRest, AllAtRest}
 use Rattle.pas_answers.specs.declared.names.Names.{Names}
-use Rattle.pas_answers.proofs.Reached.{named_both}
 use Rattle.pas_acts.specs.Works.{Later, Sits}
 use Rattle.pas_acts.specs.Turns.{RestsAt, Moves}
 use Rattle.pas_acts.specs.AtDesks.{here, and_for, ThreadActs, for_act, HasRoomAt, ScavengerActs}
 use Rattle.pas_acts.proofs.AtDesk.{sits_for}
-use Rattle.pas_replay.specs.Sessions.{Slots, pass_in, risen, IsTaken, MaySit, MayTakeSeat, TakesSeat, SeatStands, rests, owes, own_events, ActorStands, owed_by, AreCaches, Replay, Hand, hand_at, HasNames, IsAt}
+use Rattle.pas_replay.specs.Sessions.{Slots, pass_in, risen, IsTaken, MaySit, MayTakeSeat, TakesSeat, SeatStands, rests, owes, own_events, ActorStands, owed_by, AreCaches, Replay, Hand, hand_at, HasNames, IsAt, GoesBy}
 use Rattle.pas_replay.specs.declared.seats.Actors.{Actors}
 use Rattle.pas_replay.proofs.Turns.{risen_length, put_there, put_elsewhere}
+use Rattle.pas_replay.proofs.Going.{all_rest, rest_first, rest_one, goes_both}
 use Rattle.pas_replay.proofs.Threads.{set_caches, owed_kept, owed_moves, owed_at}
 
 -- ---- an actor sits down
@@ -132,7 +133,7 @@ AsksNoIndex f act = (indexes : Indexes) (p : Progress) → (indexes_after f act 
 -- ---- the turn
 -- Actor k did acts at the desk, after which `more` are left: it came from p to q. It sits there again, and the acts cost others nothing.
 pub record Turned (f : Profile) (k : ℕ) (acts more : List Act) (indexes indexes' : Indexes) (desk desk' : PlainDesk) (p q : Progress) : Type 0 where
-  pub reaches : (r : Progress) → ReachesBy f indexes' more q r → ReachesBy f indexes acts p r
+  pub reaches : (r : Progress) → GoesBy f indexes' more q r → GoesBy f indexes acts p r
   pub moves : Moves k (rests f p.caches k) (rests f q.caches k) (standing_of desk) (standing_of desk') p q
   pub sits : Sits f k (rests f q.caches k) (standing_of desk') (part k q.list) (owes f q.caches k (part k q.list) + own_events f k more)
   pub kept : (j : ℕ) → j ≢ k → q.caches j ≡ p.caches j
@@ -222,9 +223,9 @@ free_of f acts more none others (suc i) ne = others (suc i) ne
 pub thread_turn : {r : Replay} {first more : List Act} {desk0 desk desk' : PlainDesk} {passes0 passes : Slots} {caches : List ThreadCache} {places : ℕ} {indexes indexes' : Indexes} {table table' : Names} {out out1 out2 : Records} {p : Progress} {c : Cached} {came : List Named} {told : List Record} {extra : ℕ}
     (k : ℕ) (cache : ThreadCache) → 1 ≤ k → k ≤ length caches → TakesSeat desk0 desk passes0 passes k → p.caches k ≡ c → unbacks_of r.profile (first ++ more) ≡ unbacks_of r.profile more → ((j : ℕ) → j ≢ k → own_costs_of j (first ++ more) ≡ own_costs_of j more)
     → IsAt r (first ++ more) (hand desk0 passes0 caches places indexes table out) p → (did : ThreadActs r.profile k first came told (here (standing_of desk) c out) (here (standing_of desk') (cached cache) out1) (later_for r k p more extra) p) → AllAreNamedBy r.profile indexes first p did.reached did.reaches → indexes' ≡ indexes_after_all r.profile first p did.reached did.reaches indexes
-    → HasNames r.profile more table' did.reached.names → AreOfThreads r.threads more → length told ≤ extra → records_in out2 ≡ records_in out1 ++ told → room_of out2 ≡ room_of out1 → IsTaken desk' passes × IsAt r more (hand desk' passes (set caches (k - 1) cache) places indexes' table' out2) did.reached
-thread_turn zero cache some most seat was none others at did named after names operate few added room = absurd (omega (arith, some))
-thread_turn {r} {first} {more} {desk0} {desk} {desk'} {passes0} {passes} {caches} {places} {indexes} {indexes'} {table} {table'} {out} {out1} {out2} {p} {c} {came} {told} {extra} (suc i) cache some most seat was none others at did named after names operate few added room =
+    → (AreAtRest r.profile p.caches p.list → AreAtRest r.profile did.reached.caches did.reached.list → AllAtRest r.profile first p did.reached did.reaches) → HasNames r.profile more table' did.reached.names → AreOfThreads r.threads more → length told ≤ extra → records_in out2 ≡ records_in out1 ++ told → room_of out2 ≡ room_of out1 → IsTaken desk' passes × IsAt r more (hand desk' passes (set caches (k - 1) cache) places indexes' table' out2) did.reached
+thread_turn zero cache some most seat was none others at did named after rested names operate few added room = absurd (omega (arith, some))
+thread_turn {r} {first} {more} {desk0} {desk} {desk'} {passes0} {passes} {caches} {places} {indexes} {indexes'} {table} {table'} {out} {out1} {out2} {p} {c} {came} {told} {extra} (suc i) cache some most seat was none others at did named after rested names operate few added room =
     let f = r.profile in
     let k = suc i in
     let q = did.reached in
@@ -240,7 +241,13 @@ thread_turn {r} {first} {more} {desk0} {desk} {desk'} {passes0} {passes} {caches
     let owed = ap (λ (d : Cached). owed_events f d (part k q.list)) now in
     let longer = ap (λ (rs : List Record). length rs) added ∙ length-append (records_in out1) told in
     let spare = did.stands.spare in
-    turn k most seat at record { reaches = λ s rest. named_both f indexes first more p q s did.reaches named (subst (λ (ix : Indexes). ReachesBy f ix more q s) after rest); moves = moves; sits = sits; kept = did.caches; free = free_of f (first ++ more) more none others }
+    turn k most seat at record {
+      reaches = λ s rest. goes_both f indexes first more p q s did.reaches named (rested (all_rest at) (rest_first f more q s rest.0.0 rest.1)) (subst (λ (ix : Indexes). GoesBy f ix more q s) after rest);
+      moves = moves;
+      sits = sits;
+      kept = did.caches;
+      free = free_of f (first ++ more) more none others;
+    }
     record {
       many = length-set caches (k - 1) cache ∙ at.many;
       operate = operate;
@@ -276,7 +283,8 @@ scavenger_turn {r} {more} {act} {desk0} {desk} {desk'} {passes0} {passes} {cache
     let owed = owed_kept f p.list q.list p.caches q.caches 0 r.threads (λ j low high e. omega (arith, low, e)) kept alike in
     let spare = did.stands.spare in
     turn 0 (omega arith) seat at record {
-      reaches = λ s rest. named_both f indexes (act ∷ []) more p q s did.reaches ((asks indexes p).1 did.reaches.0 did.reaches.1, tt) (subst (λ (ix : Indexes). ReachesBy f ix more q s) (sym (asks indexes p).0) rest);
+      reaches = λ s rest. goes_both f indexes (act ∷ []) more p q s did.reaches ((asks indexes p).1 did.reaches.0 did.reaches.1, tt) (rest_one f act p q did.reaches (all_rest at) (rest_first f more q s rest.0.0 rest.1))
+          (subst (λ (ix : Indexes). GoesBy f ix more q s) (sym (asks indexes p).0) rest);
       moves = did.moves;
       sits = sits_for did.stands.sits (omega arith);
       kept = alike;

@@ -23,6 +23,7 @@ use Rattle.pas_answers.specs.Fit.{AreFit, AreOfThreads, costs_of, own_costs_of, 
 use Rattle.pas_answers.specs.Names.{names_held}
 use Rattle.pas_large.specs.Doors.{Indexes, no_ranges}
 use Rattle.pas_answers.specs.Indexes.{ReachesBy}
+use Rattle.pas_answers.specs.Rests.{AllAtRest}
 use Rattle.pas_answers.specs.Replays.{at_start}
 use Rattle.pas_answers.specs.declared.names.Names.{Names}
 use Rattle.pas_replay.specs.declared.seats.Actors.{Actors}
@@ -153,8 +154,12 @@ pub record HasNames (f : Profile) (acts : List Act) (table : Names) (names : Lis
   pub stand : AllMayStand f table
   pub known : AreKnown asked names
 
--- These acts of the replay are left, and it came as far as p: wherever they take it from here, with the runs that the indexes name, all of its acts take it
--- from the start, where the indexes held nothing. Each actor of the region stands. There is a cache for each thread. The threads are actors of the region, those operations are theirs, and beside them only the scavenger
+-- acts that take a replay from p to q, with the runs that the indexes name, all actors being at rest between them
+abbrev pub GoesBy : Profile → Indexes → List Act → Progress → Progress → Type 0
+GoesBy f indexes acts p q = (is : ReachesBy f indexes acts p q) × AllAtRest f acts p q is.0
+
+-- These acts of the replay are left, and it came as far as p: wherever they take it from here so, all of its acts take it from the start, where the indexes held
+-- nothing. Each actor of the region stands. There is a cache for each thread. The threads are actors of the region, those operations are theirs, and beside them only the scavenger
 -- made steps. There is room for what the acts may make.
 pub record IsAt (r : Replay) (acts : List Act) (h : Hand) (p : Progress) : Type 0 where
   pub profile_is : profile_of h.region ≡ r.profile
@@ -170,7 +175,7 @@ pub record IsAt (r : Replay) (acts : List Act) (h : Hand) (p : Progress) : Type 
   pub caches_are : AreCaches p.caches h.caches
   pub records_are : records_in h.out ≡ p.records
   pub spare : length (records_in h.out) + (owed_by r.profile p.list p.caches r.threads + costs_of r.profile acts) ≤ room_of h.out
-  pub answers : (q : Progress) → ReachesBy r.profile h.indexes acts p q → ReachesBy r.profile (no_ranges r.profile.heaps) r.acts at_start q
+  pub answers : (q : Progress) → GoesBy r.profile h.indexes acts p q → GoesBy r.profile (no_ranges r.profile.heaps) r.acts at_start q
 
 abbrev pub SoFar : Replay → List Act → Hand → Type 0
 SoFar r acts h = (p : Progress) × IsAt r acts h p

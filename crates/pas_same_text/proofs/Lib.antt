@@ -29,3 +29,12 @@ mod UsableBlocks
 mod WholeText
 mod AllActs
 mod SearchedPages
+mod Stamped
+mod SameIndexes
+mod SearchMarks
+mod SearchedMarks
+mod Refusals
+mod RefusedRequests
+mod SpacedPlaces
+mod BitfitFits
+mod BitfitRequests

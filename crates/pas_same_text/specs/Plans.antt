@@ -1,4 +1,4 @@
--- SEVERAL ACTS, one after the other.
+-- ACTS OF WHICH IT IS PROVED that they keep the text.
 use Rattle.std.specs.Prelude.{ℕ, ◌≡◌, true, List, [], ◌∷◌, Option, None, Some}
 use Rattle.pas_profile.specs.Requests.{route_in}
 use Rattle.pas_profile.specs.declared.directory.Route.{Route}
@@ -9,14 +9,8 @@ use Rattle.pas_trace.specs.EveryPlan.{IsThread}
 use Rattle.pas_trace.specs.declared.plan.What.{What}
 use Rattle.pas_answers.specs.Answers.{Progress, standing_for, suits}
 use Rattle.pas_answers.specs.Reaching.{Reaches}
-use Rattle.pas_same_text.specs.Acts.{IsBetween, HasCachedSlot}
+use Rattle.pas_same_text.specs.Acts.{HasCachedSlot}
 
--- before the first of these acts and after each all actors are at rest
-abbrev pub AllBetween : (f : Profile) (acts : List Act) (p p' : Progress) → Reaches f acts p p' → Type 0
-AllBetween f [] p p' is = IsBetween f p
-AllBetween f (act ∷ acts) p p' is = IsBetween f p × AllBetween f acts is.0 p' is.2
-
--- ---- acts of which it is proved that they keep the text
 -- of requests those of a class for which a slot is cached
 abbrev pub IsCachedBy : Route → ℕ → ℕ → Progress → Type 0
 IsCachedBy (Route.Class class) heap k p = HasCachedSlot heap class k p

@@ -1,0 +1,107 @@
+-- WHERE A BIT-FIT BLOCK FITS on a page: in the text exactly where it does by the free grains of the replay.
+use Rattle.std.proofs.Common.{◌≡◌, ℕ, ◌+◌, ◌*◌, ◌/◌, ◌%◌, ◌<◌, ◌≤◌, ◌==◌, nat_le, nat_lt, Bool, true, false, not, ◌&&◌, ◌||◌, List, refl, ap, sym, ◌∙◌, arith}
+use Rattle.std.proofs.lemmas.Bool.{true≢false, false≢true, eq-eqb, eqb-true, cases_Bool, and_from, false_from_ne_true}
+use Rattle.std.proofs.lemmas.Bool.Decides.{nat_tests}
+use Rattle.std.proofs.lemmas.Nat.{div_below}
+use Rattle.std.proofs.Math.Nat.{mul-mod_left, mod-add-div'}
+use Rattle.std.specs.List.{list_any, filter}
+use Rattle.pas_bits.specs.Bits.{has_bit}
+use Rattle.pas_profile.specs.Classes.{IsAlignment}
+use Rattle.pas_profile.specs.Profiles.{IsValid, IsPage}
+use Rattle.pas_profile.specs.declared.profile.Profile.{Profile}
+use Rattle.pas_profile.proofs.Sizes.{passes_below, passes_at}
+use Rattle.pas_steps.specs.Effects.{free_word_at}
+use Rattle.pas_steps.specs.Lists.{word_after}
+use Rattle.pas_core.specs.Rights.{free_of_page}
+use Rattle.pas_bitfit.specs.Allocates.{run_for}
+use Rattle.pas_bitfit.specs.Runs.{Fits, NoneFits}
+use Rattle.pas_answers.specs.Answers.{Progress}
+use Rattle.pas_one_text.specs.State.{World}
+use Rattle.pas_one_text.specs.Pages.{is_free, are_free}
+use Rattle.pas_one_text.specs.Searches.{some_of}
+use Rattle.pas_one_text.specs.Classes.{spaced}
+use Rattle.pas_one_text.specs.Runs.{lowest_place}
+use Rattle.pas_same_text.specs.Same.{HasSame}
+use Rattle.pas_same_text.specs.Acts.{IsBetween}
+use Rattle.pas_same_text.specs.Searched.{FitsSame}
+use Rattle.pas_same_text.specs.Words.{free_bit}
+use Rattle.pas_same_text.proofs.FreeGrains.{free_same}
+use Rattle.pas_same_text.proofs.GivenBack.{each_at, each_all}
+use Rattle.pas_same_text.proofs.SpacedPlaces.{some_first, some_filtered, in_spaced, from_spaced}
+use Rattle.pas_same_text.proofs.Tests.{and_first, and_second}
+
+-- ---- an alignment splits a page
+abbrev splits : ℕ → Bool
+splits a = nat_lt a 16 || not (4096 % a == 0) || (256 / (a / 16) * (a / 16) == 256)
+
+splits_all : passes_below splits 4097 ≡ true
+splits_all = refl
+
+or_last : (x y z : Bool) → (x || not y || z) ≡ true → x ≡ false → y ≡ true → z ≡ true
+or_last x y z h hx hy = grind arith
+
+pub page_splits : (align : ℕ) → IsAlignment align → 256 / (align / 16) * (align / 16) ≡ 256
+page_splits align is =
+    let low = is.0 in let high = is.1 in
+    eqb-true (256 / (align / 16) * (align / 16)) 256
+    (or_last (nat_lt align 16) (4096 % align == 0) (256 / (align / 16) * (align / 16) == 256) (passes_at splits 4097 align splits_all (omega (arith, high))) (grind (arith, low)) (eq-eqb (4096 % align) 0 is.2))
+
+module _ (f : Profile) (p : Progress) (w : World) (valid : IsValid f) (between : IsBetween f p) (same : HasSame f p w) (room align : ℕ) (some : 1 ≤ room / 16) (is : IsAlignment align) where
+  abbrev n : ℕ
+  n = room / 16
+
+  abbrev step : ℕ
+  step = align / 16
+
+  abbrev test : ℕ → ℕ → Bool
+  test page s = nat_le (s + n) 256 && are_free w page s n
+
+  -- grains by both
+  reading : (page b : ℕ) → b < 256 → is_free w page b ≡ free_of_page p.list page b
+  reading page b small =
+      let turned : 256 * page + b ≡ page * 256 + b = omega arith in
+      let bit : (256 * page + b) % 64 ≡ b % 64 = omega arith in
+      free_same f p w valid between same page b small
+      ∙ (ap (λ (g : ℕ). has_bit (word_after p.list (free_word_at g)) ((256 * page + b) % 64)) turned
+      ∙ ap (λ (x : ℕ). has_bit (word_after p.list (free_word_at (page * 256 + b))) x) bit)
+
+  test_fits : (page s : ℕ) → s % step ≡ 0 → test page s ≡ true → Fits (run_for room align) (free_of_page p.list page) s
+  test_fits page s aligned h =
+      let within : s + n ≤ 256 = let t = and_first (nat_le (s + n) 256) (are_free w page s n) h in grind (arith, nat_tests, t) in
+      record {
+        aligned = aligned;
+        within = within;
+        free = λ g lt low high. sym (reading page g lt) ∙ each_at n s g (is_free w page) (and_second (nat_le (s + n) 256) (are_free w page s n) h) low high;
+      }
+
+  fits_test : (page s : ℕ) → Fits (run_for room align) (free_of_page p.list page) s → test page s ≡ true
+  fits_test page s fits =
+      let within = fits.within in
+      and_from (nat_le (s + n) 256) (are_free w page s n) (grind (arith, nat_tests, within))
+      (each_all n s (is_free w page) (λ b low high. reading page b (omega (arith, high, within)) ∙ fits.free b (omega (arith, high, within)) low high))
+
+  some_is : (page : ℕ) → some_of (lowest_place w n step page) ≡ list_any (test page) (spaced 0 step (256 / step))
+  some_is page = some_first (filter (test page) (spaced 0 step (256 / step))) ∙ some_filtered (test page) (spaced 0 step (256 / step))
+
+  -- an aligned grain at which a block begins is one of them
+  place_there : (page g : ℕ) → Fits (run_for room align) (free_of_page p.list page) g → list_any (test page) (spaced 0 step (256 / step)) ≡ true
+  place_there page g fits =
+      let aligned = fits.aligned in
+      let within = fits.within in
+      let times : g / step * step ≡ g = let m = mod-add-div' g step in omega (arith, m, aligned) in
+      let whole : 256 / step * step ≡ 256 = page_splits align is in
+      let low = is.0 in
+      let lt : g / step < 256 / step = div_below g step (256 / step) (omega (arith, low)) (omega (arith, whole, within, some)) in
+      in_spaced (test page) (256 / step) 0 step (g / step) lt (ap (test page) (omega (arith, times)) ∙ fits_test page g fits)
+
+  pub bitfit_fits : FitsSame (NoneFits (run_for room align)) f p (lowest_place w n step)
+  bitfit_fits = record {
+    none = λ page of none. false_from_ne_true (some_of (lowest_place w n step page)) (λ h.
+        let o = from_spaced (test page) (256 / step) 0 step (sym (some_is page) ∙ h) in
+        none (0 + o.0 * step) (test_fits page (0 + o.0 * step) (ap (λ (x : ℕ). x % step) (omega arith) ∙ mul-mod_left o.0 step) o.2));
+    some = λ page of fits. some_is page ∙ by_test page fits (list_any (test page) (spaced 0 step (256 / step))) refl;
+  }
+    where
+      by_test : (page : ℕ) → (NoneFits (run_for room align) (free_of_page p.list page) → ⊥) → (t : Bool) → list_any (test page) (spaced 0 step (256 / step)) ≡ t → t ≡ true
+      by_test page fits true e = refl
+      by_test page fits false e = absurd (fits (λ g at. true≢false (sym (place_there page g at) ∙ e)))

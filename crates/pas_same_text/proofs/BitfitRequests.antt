@@ -1,0 +1,157 @@
+-- A BIT-FIT REQUEST THAT IS REFUSED: nothing fits in the text either, and no page changes.
+use Rattle.std.proofs.Common.{◌≡◌, ℕ, ◌+◌, ◌/◌, ◌<◌, ◌≤◌, Bool, true, false, ◌&&◌, if◌then◌else◌, List, [], ◌∷◌, ◌++◌, Option, None, Some, Result, Ok, Err, refl, ap, sym, ◌∙◌, subst, arith}
+use Rattle.std.proofs.lemmas.Bool.{false≢true, false_from_ne_true}
+use Rattle.std.specs.List.{find}
+use Rattle.pas_profile.specs.Directories.{number_of}
+use Rattle.pas_profile.specs.Profiles.{IsValid, IsAdmitted, IsDirectoryOf}
+use Rattle.pas_profile.specs.Requests.{route_in, room_in, is_shared, kind_of_route, directory_for}
+use Rattle.pas_profile.specs.declared.directory.Directory.{Directory}
+use Rattle.pas_profile.specs.declared.directory.Route.{Route}
+use Rattle.pas_profile.specs.declared.event.Event.{Event}
+use Rattle.pas_profile.specs.declared.event.NoRoom.{NoRoom}
+use Rattle.pas_profile.specs.declared.name.Block.{Block}
+use Rattle.pas_profile.specs.declared.profile.Profile.{Profile}
+use Rattle.pas_profile.specs.declared.word.Word.TheVariants as Word
+use Rattle.pas_machine.specs.State.{deed_in}
+use Rattle.pas_steps.specs.Desks.{triples}
+use Rattle.pas_steps.specs.Evidence.{Readings}
+use Rattle.pas_steps.specs.Lists.{Whole, part, word_after, visible, Legal}
+use Rattle.pas_steps.specs.declared.step.Made.{Made}
+use Rattle.pas_core.specs.Fits.{HasNoFit}
+use Rattle.pas_core.specs.Good.{word_of_deed}
+use Rattle.pas_core.specs.Rights.{free_of_page}
+use Rattle.pas_core.proofs.Deeds.{deed_of}
+use Rattle.pas_bitfit.specs.Allocates.{run_for}
+use Rattle.pas_bitfit.specs.Runs.{NoneFits}
+use Rattle.pas_search.specs.Kinds.{AreSearch, AreQuiet}
+use Rattle.pas_search.specs.Searches.{IsRefused}
+use Rattle.pas_search.specs.Telling.{IsTrueReason}
+use Rattle.pas_cache.specs.Contents.{Cached}
+use Rattle.pas_cache.specs.Refusals.{IsTrulyRefusedBy}
+use Rattle.pas_cache.specs.Serves.{ServesBitfit, ServesBy, IsTrueRefusal, no_fit_by, wanted_for}
+use Rattle.pas_cache.proofs.Alone.{truly_refused}
+use Rattle.pas_cache.proofs.Routes.{bitfit_room}
+use Rattle.pas_report.specs.declared.record.Said.{Said as TheSaid}
+use Rattle.pas_trace.specs.Acts.{Act}
+use Rattle.pas_trace.specs.EveryPlan.{IsThread}
+use Rattle.pas_trace.specs.declared.plan.What.TheVariants.{Alloc}
+use Rattle.pas_answers.specs.Answers.{Progress, Named, named, Answer, having, IsServed, after_answer, said_of_room, said_of_request}
+use Rattle.pas_answers.specs.Answers.{block_of as block_answered}
+use Rattle.pas_one_text.specs.State.{World}
+use Rattle.pas_one_text.specs.Pages.{page_numbers, is_none, is_unowned, is_offered}
+use Rattle.pas_one_text.specs.Searches.{some_of, page_or, refusal, refuses, searched}
+use Rattle.pas_one_text.specs.Runs.{bitfit_of, lowest_place, places, serves_bitfit}
+use Rattle.pas_one_text.specs.Order.{serves, acts_on}
+use Rattle.pas_same_text.specs.Same.{IsSame, HasSame, ArePagesSame}
+use Rattle.pas_same_text.specs.Acts.{IsBetween, IsTaken}
+use Rattle.pas_same_text.specs.Searched.{FitsSame}
+use Rattle.pas_same_text.proofs.BitfitFits.{bitfit_fits}
+use Rattle.pas_same_text.proofs.LoggedFrees.{after_with}
+use Rattle.pas_same_text.proofs.RefusedRequests.{refused_to, refused_same}
+use Rattle.pas_same_text.proofs.SearchedPages.{find_none}
+use Rattle.pas_same_text.proofs.Tests.{and_first, and_second}
+
+-- ---- where no page serves in the replay, none does in the text
+module _ (no_fit : Readings → Type 0) (f : Profile) (d : Directory) (p : Progress) (w : World) (fits : ℕ → List ℕ) (legal : Legal f p.list) (of : IsDirectoryOf f d) (pages : ArePagesSame f p.list w) (same : FitsSame no_fit f p fits) (none : HasNoFit no_fit f d p.list) where
+  unserved : (q : ℕ) → 1 ≤ q → q < 1 + f.pages → (is_offered w d q && some_of (fits q)) ≡ false
+  unserved q low high = false_from_ne_true (is_offered w d q && some_of (fits q)) (λ h. none.offered q record {
+    of_region = (low, omega (arith, high));
+    offered = sym (pages.offered q d of) ∙ and_first (is_offered w d q) (some_of (fits q)) h;
+    fits = λ unfit. false≢true (sym (same.none q (low, omega (arith, high)) unfit) ∙ and_second (is_offered w d q) (some_of (fits q)) h);
+  })
+
+  no_word : (o : Option Directory) → is_none o ≡ true → word_of_deed o ≡ 0
+  no_word None h = refl
+  no_word (Some e) h = absurd (false≢true h)
+
+  owned : (q : ℕ) → 1 ≤ q → q < 1 + f.pages → is_unowned w q ≡ false
+  owned q low high = false_from_ne_true (is_unowned w q) (λ h. none.bare q record {
+    of_region = (low, omega (arith, high));
+    no_deed = deed_of f p.list legal q ∙ (ap (λ (es : List Event). word_of_deed (deed_in es q)) (sym pages.events) ∙ no_word (deed_in w.events q) h);
+  })
+
+  pub none_searched : searched f w d fits ≡ Err (refusal f w d)
+  none_searched =
+      ap (λ (o : Option ℕ). page_or o (page_or (find (is_unowned w) (page_numbers f)) (Err (refusal f w d)))) (find_none (λ q. is_offered w d q && some_of (fits q)) f.pages 1 unserved)
+      ∙ ap (λ (o : Option ℕ). page_or o (Err (refusal f w d))) (find_none (is_unowned w) f.pages 1 owned)
+
+-- ---- the act
+module _ (f : Profile) (k name heap size align : ℕ) (p p' : Progress) (w : World) (room : NoRoom) (thread : IsThread f k) (admitted : IsAdmitted f size align heap) (route : route_in f size align ≡ Route.Bitfit) (valid : IsValid f) (before : IsBetween f p) (after : IsBetween f p') (same : IsSame f p w)
+    (a : Answer) (served : IsServed f k (record { name = name; heap = heap; size = size; align = align }) (having p.names (part k p.list) (p.caches k)) a) (reached : p' ≡ after_answer p k a) (is : served.answer ≡ Err room) where
+  abbrev c : Cached
+  c = p.caches k
+
+  abbrev bytes : ℕ
+  bytes = room_in f size align
+
+  abbrev d : Directory
+  d = bitfit_of heap
+
+  home : directory_for f heap size align ≡ d
+  home = ap (λ (r : Route). let e : Directory = record { heap = heap; kind = kind_of_route (is_shared f heap) r } in e) route
+
+  of : IsDirectoryOf f d
+  of = record { heap = admitted.of_profile; kind = tt; class = tt }
+
+  abbrev RefusedBy : Route → Type 0
+  RefusedBy r = ServesBy r f (wanted_for f heap size align) a.found c a.cache a.steps (Err room)
+
+  by_own : RefusedBy (route_in f size align)
+  by_own = subst (λ (r : Result Block NoRoom). ServesBy (route_in f size align) f (wanted_for f heap size align) a.found c a.cache a.steps r) is served.serves
+
+  bitfit : ServesBitfit f (wanted_for f heap size align) c a.cache a.steps (Err room)
+  bitfit = subst RefusedBy route by_own
+
+  steps_are : a.steps ≡ bitfit.searched
+  steps_are = bitfit.steps_are ∙ ap (λ (ms : List Made). ms ++ bitfit.searched) bitfit.outcome.1
+
+  searches : AreSearch a.steps
+  searches = subst AreSearch (sym steps_are) bitfit.searches
+
+  quiet : AreQuiet a.steps
+  quiet = subst AreQuiet (sym steps_are) bitfit.outcome.0.quiet
+
+  to : p' ≡ refused_to p k name a.steps room
+  to =
+      let said : a.said ≡ Some (said_of_room name room) = served.said_is ∙ ap (said_of_request name) is in
+      let names : a.names ≡ named name None ∷ p.names = served.names_are ∙ ap (λ (r : Result Block NoRoom). named name (block_answered r) ∷ p.names) is in
+      reached
+      ∙ (ap (λ (x : Option TheSaid). after_with p k a.steps x a.names a.cache) said
+      ∙ (ap (λ (ns : List Named). after_with p k a.steps (Some (said_of_room name room)) ns a.cache) names
+      ∙ ap (λ (x : Cached). after_with p k a.steps (Some (said_of_room name room)) (named name None ∷ p.names) x) bitfit.cache))
+
+  there : IsBetween f (refused_to p k name a.steps room)
+  there = subst (IsBetween f) to after
+
+  -- nothing could serve before, and the reason is true after
+  truly : IsTrueRefusal f (wanted_for f heap size align) c.locals p.list (triples k a.steps ++ p.list) room
+  truly = subst (λ (r : Route). IsTrulyRefusedBy r f (wanted_for f heap size align) c.locals p.list (triples k a.steps ++ p.list) room) route
+      (truly_refused f heap size align k a.found c a.cache p.list a.steps room valid admitted (before.rest.threads k thread) there.legal by_own)
+
+  reason : IsTrueReason f d (triples k a.steps ++ p.list) room
+  reason = subst (λ (e : Directory). IsTrueReason f e (triples k a.steps ++ p.list) room) home truly.reason
+
+  unfit : HasNoFit (NoneFits (run_for bytes align)) f d p.list
+  unfit = subst (λ (e : Directory). HasNoFit (NoneFits (run_for bytes align)) f e p.list) home (subst (λ (r : Route). HasNoFit (no_fit_by r bytes align) f (directory_for f heap size align) p.list) route truly.entry_fit)
+
+  old : HasSame f p w
+  old = record { events = same.pages.events; live = same.pages.live; caches = same.caches }
+
+  some : 1 ≤ bytes / 16
+  some = let low = (bitfit_room f.classes size align route).0 in omega (arith, low)
+
+  found : searched f w d (lowest_place w (bytes / 16) (align / 16)) ≡ Err (refusal f w d)
+  found = none_searched (NoneFits (run_for bytes align)) f d p w (lowest_place w (bytes / 16) (align / 16)) before.legal of same.pages (bitfit_fits f p w valid before old bytes align some admitted.aligned) unfit
+
+  text : serves f k name heap (route_in f size align) bytes align w ≡ refuses k name (refusal f w d) w
+  text = ap (λ (r : Route). serves f k name heap r bytes align w) route ∙ ap (λ (r : Result ℕ NoRoom). places k name heap bytes align r w) found
+
+  pub bitfit_refused : IsSame f p' (serves f k name heap (route_in f size align) bytes align w)
+  bitfit_refused =
+      subst (λ (x : World). IsSame f p' x) (sym text)
+      (subst (λ (q : Progress). IsSame f q (refuses k name (refusal f w d) w)) (sym to) (refused_same f k name p w d a.steps room valid thread of before there same searches quiet reason))
+
+pub refused_stays : (f : Profile) (line k name heap size align : ℕ) (room : NoRoom) → IsThread f k → IsAdmitted f size align heap → route_in f size align ≡ Route.Bitfit → (p p' : Progress) (w : World) (taken : IsTaken f (Act.Operates (record { line = line; actor = k; what = Alloc name heap size align })) p p' w)
+    → taken.advances.1.answer ≡ Err room → IsSame f p' (acts_on f (Act.Operates (record { line = line; actor = k; what = Alloc name heap size align })) w)
+refused_stays f line k name heap size align room thread admitted route p p' w taken is =
+    bitfit_refused f k name heap size align p p' w room thread admitted route taken.valid taken.before taken.after taken.same taken.advances.0 taken.advances.1 taken.advances.2 is

@@ -1,0 +1,68 @@
+-- THE REASON of a refusal: where it is true of the whole state, it is the one that the text says.
+use Rattle.std.proofs.Common.{◌≡◌, ℕ, ◌<◌, ◌==◌, Bool, true, false, ◌&&◌, List, Option, Some, inl, inr, refl, ap, sym, ◌∙◌, arith}
+use Rattle.std.proofs.lemmas.Bool.{true≢false, eq-eqb, and_from, false_from_ne_true}
+use Rattle.pas_profile.specs.Directories.{number_of, deed_word_of}
+use Rattle.pas_profile.specs.Profiles.{IsValid, IsDirectoryOf}
+use Rattle.pas_profile.specs.declared.directory.Directory.{Directory}
+use Rattle.pas_profile.specs.declared.event.Event.{Event}
+use Rattle.pas_profile.specs.declared.event.NoRoom.{NoRoom}
+use Rattle.pas_profile.specs.declared.profile.Profile.{Profile}
+use Rattle.pas_profile.specs.declared.word.Word.TheVariants as Word
+use Rattle.pas_profile.proofs.Codecs.{deed_word_of-positive, same_from_deed_word}
+use Rattle.pas_machine.specs.State.{deed_in}
+use Rattle.pas_steps.specs.Lists.{Whole, word_after, visible}
+use Rattle.pas_core.specs.Good.{word_of_deed}
+use Rattle.pas_core.specs.Rights.{IsRightInOnePlace}
+use Rattle.pas_core.proofs.Deeds.{deed_of, deed_has_page}
+use Rattle.pas_core.proofs.Rights.{right_in_one_place, right_not_offered, right_not_parked}
+use Rattle.pas_search.specs.Telling.{IsInHands, IsTrueReason}
+use Rattle.pas_answers.specs.Answers.{Progress}
+use Rattle.pas_one_text.specs.State.{World}
+use Rattle.pas_one_text.specs.Pages.{is_same, is_of, is_kept}
+use Rattle.pas_one_text.specs.Searches.{refusal_by, refusal}
+use Rattle.pas_same_text.specs.Same.{HasSame}
+use Rattle.pas_same_text.specs.Acts.{IsBetween}
+use Rattle.pas_same_text.proofs.KeptPages.{keeper, kept_by}
+use Rattle.pas_same_text.proofs.RestingPages.{deed_now, deed_from_word}
+use Rattle.pas_same_text.proofs.SearchedPages.{find_first, find_none}
+use Rattle.pas_same_text.proofs.Tests.{and_first, and_second}
+
+module _ (f : Profile) (p : Progress) (w : World) (valid : IsValid f) (between : IsBetween f p) (same : HasSame f p w) (d : Directory) (of : IsDirectoryOf f d) where
+  abbrev l : Whole
+  l = p.list
+
+  abbrev is_held : ℕ → Bool
+  is_held q = is_of w d q && is_kept w q
+
+  -- a page of the directory that is neither offered nor parked is kept, and one that is kept is so
+  hands_kept : (q : ℕ) → IsInHands f d l q → is_held q ≡ true
+  hands_kept q h = and_from (is_of w d q) (is_kept w q) own (by_place (right_in_one_place f l between.legal q))
+    where
+      own : is_of w d q ≡ true
+      own = ap (λ (es : List Event). is_same d (deed_in es q)) same.events ∙ deed_from_word f p w valid between same q d (deed_in (visible l) q) refl (sym (deed_of f l between.legal q) ∙ h.of_directory) of.kind
+
+      by_place : IsRightInOnePlace f l q → is_kept w q ≡ true
+      by_place (inl none) = absurd (deed_word_of-positive d (sym h.of_directory ∙ none.no_deed))
+      by_place (inr (inl one)) = kept_by f p w valid between same one.actor q (one.holder one.actor ∙ eq-eqb one.actor one.actor refl)
+      by_place (inr (inr (inl o))) =
+          let is : o.directory ≡ d = same_from_deed_word o.directory d o.of_profile.kind of.kind (sym o.deed ∙ h.of_directory) in
+          absurd (true≢false (sym (o.offered (number_of d) ∙ eq-eqb (number_of o.directory) (number_of d) (ap number_of is)) ∙ h.not_offered))
+      by_place (inr (inr (inr parks))) = absurd (true≢false (sym parks.parked ∙ h.not_parked))
+
+  kept_hands : (q : ℕ) → is_held q ≡ true → IsInHands f d l q
+  kept_hands q h =
+      let deed : deed_in (visible l) q ≡ Some d = deed_now f p w valid between same q d of (and_first (is_of w d q) (is_kept w q) h) in
+      let word : word_after l (Word.Deed q) ≡ deed_word_of d = deed_of f l between.legal q ∙ ap word_of_deed deed in
+      let k = keeper f p w valid between same q (and_second (is_of w d q) (is_kept w q) h) in
+      record {
+        of_region = deed_has_page f l between.legal q (λ none. deed_word_of-positive d (sym word ∙ none));
+        of_directory = word;
+        not_offered = right_not_offered f l between.legal k.0 (number_of d) q k.1;
+        not_parked = right_not_parked f l between.legal k.0 q k.1;
+      }
+
+  pub refusal_told : (room : NoRoom) → IsTrueReason f d l room → refusal f w d ≡ room
+  refusal_told NoRoom.NoSpace none = ap refusal_by (find_none is_held f.pages 1 (λ q low high. false_from_ne_true (is_held q) (λ h. none q (kept_hands q h))))
+  refusal_told (NoRoom.Held page) held =
+      let low = held.0.of_region.0 in let high = held.0.of_region.1 in
+      ap refusal_by (find_first is_held f.pages 1 page low (omega (arith, high)) (hands_kept page held.0) (λ q above below. false_from_ne_true (is_held q) (λ h. held.1 q below (kept_hands q h))))

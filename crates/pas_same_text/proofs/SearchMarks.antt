@@ -1,0 +1,179 @@
+-- WHAT A SEARCH DOES to hints and offers, where no other actor makes a step: it hints no page but one that was hinted, and offers none but one that was
+-- offered; the page on which it may make a deed, and which it may back, is apart.
+use Rattle.std.proofs.Common.{◌≡◌, ◌≢◌, ℕ, ◌+◌, ◌*◌, ◌/◌, ◌%◌, ◌<◌, ◌==◌, Bool, true, false, ◌&&◌, if◌then◌else◌, List, [], ◌∷◌, ◌++◌, Option, None, Some, ◌⊎◌, inl, inr, refl, ap, sym, ◌∙◌, subst, arith}
+use Rattle.std.proofs.lemmas.Bool.{true≢false, false≢true, eqb-true, eqb-false, false_from_ne_true}
+use Rattle.pas_bits.specs.Bits.{has_bit}
+use Rattle.pas_profile.specs.Directories.{number_of, deed_word_of, deed_word_numbered}
+use Rattle.pas_profile.specs.Profiles.{IsValid, IsDirectoryOf}
+use Rattle.pas_profile.specs.declared.directory.Directory.{Directory}
+use Rattle.pas_profile.specs.declared.event.Event.{Event}
+use Rattle.pas_profile.specs.declared.profile.Profile.{Profile}
+use Rattle.pas_profile.specs.declared.word.Word.TheVariants as Word
+use Rattle.pas_machine.specs.State.{backed_in, deed_in}
+use Rattle.pas_steps.specs.Desks.{triples}
+use Rattle.pas_steps.specs.Effects.{target, in_mask, free_word_at}
+use Rattle.pas_steps.specs.Events.{event_of, with_event}
+use Rattle.pas_steps.specs.Evidence.{GetsRight, GetsHere}
+use Rattle.pas_steps.specs.Kinds.{kind_of, is_in, lending}
+use Rattle.pas_steps.specs.Lists.{Whole, part, word_after, visible, Legal}
+use Rattle.pas_steps.specs.Past.{Once, Always}
+use Rattle.pas_steps.specs.Views.{Move, Stays, Gets, Puts, grain_move, held_after, holds, epoch_of}
+use Rattle.pas_steps.specs.declared.step.Made.{Made}
+use Rattle.pas_steps.specs.declared.step.Step.{Step}
+use Rattle.pas_steps.specs.declared.step.Step.TheVariants.{Look, Deed, Back, Take, Put, Give, End, EndSized, TakeRight, Offer, Hint}
+use Rattle.pas_steps.proofs.Past.{since_once}
+use Rattle.pas_core.specs.Good.{word_of_deed, word_of_backed}
+use Rattle.pas_core.specs.Hints.{IsEmptyBacked}
+use Rattle.pas_core.specs.Rights.{eligible_bit}
+use Rattle.pas_core.proofs.Deeds.{deed_of, number_told, backed_of}
+use Rattle.pas_core.proofs.Grains.{free_moved, free_step}
+use Rattle.pas_core.proofs.MachineRuns.{one_backed}
+use Rattle.pas_core.proofs.OneActor.{LendsNone}
+use Rattle.pas_core.proofs.Rights.{offered_has_deed}
+use Rattle.pas_rights.specs.Looks.{ReadsBacked, ReadsAllFree, TakesNone, ReadsEmpty}
+use Rattle.pas_search.specs.Kinds.{IsReturnOf, ReturnsDuly, IsQuiet, IsDeedOrBack, EventsAt}
+use Rattle.pas_same_text.specs.Words.{free_bit}
+use Rattle.pas_same_text.proofs.GivingBack.{HintsPage, offer_one}
+
+-- ---- A GRAIN THAT ISN'T FREE stays so: the steps put only what they took, and they took only what was free
+take_moves : (x y bit held : Bool) → (x ≡ true → y ≡ bit) → bit ≡ false → held ≡ false → (free_moved (if x && y then Gets else Stays) bit ≡ false) × (held_after (if x && y then Gets else Stays) held ≡ false)
+take_moves true true bit held same used none = absurd (true≢false (same refl ∙ used))
+take_moves true false bit held same used none = (used, none)
+take_moves false y bit held same used none = (used, none)
+
+put_moves : (x bit held : Bool) → (x ≡ true → held ≡ true) → bit ≡ false → held ≡ false → (free_moved (if x then Puts else Stays) bit ≡ false) × (held_after (if x then Puts else Stays) held ≡ false)
+put_moves true bit held took used none = absurd (true≢false (sym (took refl) ∙ none))
+put_moves false bit held took used none = (used, none)
+
+step_moves : (s : Step) (a g : ℕ) (bit held : Bool) → is_in lending (kind_of s) ≡ false → ((page word mask : ℕ) → s ≡ Take page word mask → in_mask page word mask g ≡ true → has_bit a (g % 64) ≡ bit)
+    → ((page word mask : ℕ) → s ≡ Put page word mask → in_mask page word mask g ≡ true → held ≡ true) → bit ≡ false → held ≡ false → (free_moved (grain_move s a g) bit ≡ false) × (held_after (grain_move s a g) held ≡ false)
+step_moves (Take page word mask) a g bit held lends reads took used none = take_moves (in_mask page word mask g) (has_bit a (g % 64)) bit held (λ here. reads page word mask refl here) used none
+step_moves (Put page word mask) a g bit held lends reads took used none = put_moves (in_mask page word mask g) bit held (λ here. took page word mask refl here) used none
+step_moves (Give block) a g bit held lends reads took used none = absurd (true≢false lends)
+step_moves (End name guess) a g bit held lends reads took used none = absurd (true≢false lends)
+step_moves (EndSized name room) a g bit held lends reads took used none = absurd (true≢false lends)
+step_moves s a g bit held lends reads took used none = (used, none)
+
+mask_word : (page word mask g : ℕ) → in_mask page word mask g ≡ true → Word.Free page word ≡ free_word_at g
+mask_word page word mask g h = at (word == g / 64 % 4) (page == g / 256) refl refl h
+  where
+    at : (x y : Bool) → (word == g / 64 % 4) ≡ x → (page == g / 256) ≡ y → (x && y && has_bit mask (g % 64)) ≡ true → Word.Free page word ≡ free_word_at g
+    at true true x y h = ap (λ (q : ℕ). Word.Free q word) (eqb-true page (g / 256) y) ∙ ap (λ (u : ℕ). Word.Free (g / 256) u) (eqb-true word (g / 64 % 4) x)
+    at true false x y h = absurd (false≢true h)
+    at false t x y h = absurd (false≢true h)
+
+module _ (f : Profile) (k : ℕ) (l : Whole) where
+  pub stays_used : (g : ℕ) (xs : List Made) → Legal f (triples k xs ++ l) → LendsNone xs → Always ReturnsDuly xs → free_bit l g ≡ false → (free_bit (triples k xs ++ l) g ≡ false) × (holds xs g ≡ false)
+  stays_used g [] legal lends due used = (used, refl)
+  stays_used g (m ∷ xs) legal lends due used =
+      let before = stays_used g xs legal.1 lends.1 due.1 used in
+      let moved = step_moves m.step m.answer g (free_bit (triples k xs ++ l) g) (holds xs g) lends.0
+          (λ page word mask is here. ap (λ (n : ℕ). has_bit n (g % 64)) (legal.0.answer_is ∙ (ap (λ (s : Step). word_after (triples k xs ++ l) (target s)) is ∙ ap (word_after (triples k xs ++ l)) (mask_word page word mask g here))))
+          (λ page word mask is here. due.0.1.1 page word mask g is here) before.0 before.1 in
+      (free_step f (triples k xs ++ l) (epoch_of (part k (triples k xs ++ l))) m.step m.answer g legal.0.of_region legal.0.answer_is ∙ moved.0, moved.1)
+
+  -- a grain that was read as free was so before the search
+  pub read_free : (page word b g : ℕ) (xs : List Made) → Legal f (triples k xs ++ l) → LendsNone xs → Always ReturnsDuly xs → b < 64 → free_word_at g ≡ Word.Free page word → g % 64 ≡ b → Once (ReadsAllFree page word) xs → free_bit l g ≡ true
+  read_free page word b g [] legal lends due small at bit h = absurd h
+  read_free page word b g (m ∷ xs) legal lends due small at bit (inr h) = read_free page word b g xs legal.1 lends.1 due.1 small at bit h
+  read_free page word b g (m ∷ xs) legal lends due small at bit (inl h) = by_bit (free_bit l g) refl
+    where
+      read : free_bit (triples k xs ++ l) g ≡ true
+      read =
+          let answer : m.answer ≡ word_after (triples k xs ++ l) (free_word_at g) = legal.0.answer_is ∙ (ap (λ (s : Step). word_after (triples k xs ++ l) (target s)) h.0 ∙ ap (word_after (triples k xs ++ l)) (sym at)) in
+          ap (λ (n : ℕ). has_bit n (g % 64)) (sym answer) ∙ (ap (has_bit m.answer) bit ∙ h.1 b small)
+
+      by_bit : (t : Bool) → free_bit l g ≡ t → free_bit l g ≡ true
+      by_bit true is = is
+      by_bit false is = absurd (false≢true (sym (stays_used g xs legal.1 lends.1 due.1 is).0 ∙ read))
+
+  -- ---- THE BACKED WORD of another page than that one stays
+  other_event : (d : Directory) (page q : ℕ) (e : Option Event) (s : Step) (epoch a : ℕ) → page ≢ q → event_of k epoch s a ≡ e → (e ≡ None) ⊎ IsDeedOrBack d page s → (es : List Event) → backed_in (with_event e es) q ≡ backed_in es q
+  other_event d page q None s epoch a ne is at es = refl
+  other_event d page q (Some e) s epoch a ne is (inl none) es = absurd (let bad : Some e ≡ None = none in cc)
+  other_event d page q (Some e) s epoch a ne is (inr own) es = of_own s own is
+    where
+      is_there : Option Event → Bool
+      is_there None = false
+      is_there (Some x) = true
+
+      other_back : page ≢ q → (page == q) ≡ false
+      other_back ne = false_from_ne_true (page == q) (λ same. ne (eqb-true page q same))
+
+      deed_event : (t : Bool) → (if t then Some (Event.Deed k page d) else None) ≡ Some e → backed_in (e ∷ es) q ≡ backed_in es q
+      deed_event true is = let same : Event.Deed k page d ≡ e = cc in subst (λ (x : Event). backed_in (x ∷ es) q ≡ backed_in es q) same refl
+      deed_event false is = absurd (let bad : None ≡ Some e = is in cc)
+
+      back_event : (t : Bool) → (if t then Some (Event.Back k page) else None) ≡ Some e → backed_in (e ∷ es) q ≡ backed_in es q
+      back_event true is =
+          let same : Event.Back k page ≡ e = cc in
+          subst (λ (x : Event). backed_in (x ∷ es) q ≡ backed_in es q) same (ap (λ (t : Bool). if t then true else backed_in es q) (other_back ne))
+      back_event false is = absurd (let bad : None ≡ Some e = is in cc)
+
+      of_own : (s : Step) → IsDeedOrBack d page s → event_of k epoch s a ≡ Some e → backed_in (e ∷ es) q ≡ backed_in es q
+      of_own s IsDeedOrBack.Deeds is = deed_event (a == 0) is
+      of_own s IsDeedOrBack.Backs is = back_event (a == 0) is
+
+  quiet_or : (d : Directory) (page : ℕ) (m : Made) (epoch : ℕ) → IsQuiet m ⊎ IsDeedOrBack d page m.step → (event_of k epoch m.step m.answer ≡ None) ⊎ IsDeedOrBack d page m.step
+  quiet_or d page m epoch (inl quiet) = inl (quiet k epoch)
+  quiet_or d page m epoch (inr own) = inr own
+
+  pub backed_same : (d : Directory) (page q : ℕ) (xs : List Made) → page ≢ q → EventsAt d page xs → backed_in (visible (triples k xs ++ l)) q ≡ backed_in (visible l) q
+  backed_same d page q [] ne at = refl
+  backed_same d page q (m ∷ xs) ne at =
+      let epoch : ℕ = epoch_of (part k (triples k xs ++ l)) in
+      other_event d page q (event_of k epoch m.step m.answer) m.step epoch m.answer ne refl (quiet_or d page m epoch at.0) (visible (triples k xs ++ l)) ∙ backed_same d page q xs ne at.1
+
+  read_backed : (d : Directory) (page q : ℕ) (xs : List Made) → page ≢ q → Legal f (triples k xs ++ l) → Legal f l → EventsAt d page xs → Once (ReadsBacked q) xs → word_after l (Word.Backed q) ≡ 1
+  read_backed d page q [] ne legal first at h = absurd h
+  read_backed d page q (m ∷ xs) ne legal first at (inr h) = read_backed d page q xs ne legal.1 first at.1 h
+  read_backed d page q (m ∷ xs) ne legal first at (inl h) =
+      let now : word_after (triples k xs ++ l) (Word.Backed q) ≡ 1 = sym (legal.0.answer_is ∙ ap (λ (s : Step). word_after (triples k xs ++ l) (target s)) h.0) ∙ h.1 in
+      backed_of f l first q ∙ (ap word_of_backed (sym (backed_same d page q xs ne at.1)) ∙ (sym (backed_of f (triples k xs ++ l) legal.1 q) ∙ now))
+
+  -- A PAGE THAT THE SEARCH HINTS was backed and empty before it
+  pub hint_was : (d : Directory) (page q : ℕ) (xs : List Made) → page ≢ q → Legal f (triples k xs ++ l) → Legal f l → LendsNone xs → Always ReturnsDuly xs → EventsAt d page xs → HintsPage q xs → IsEmptyBacked l q
+  hint_was d page q [] ne legal first lends due at h = absurd h
+  hint_was d page q (m ∷ xs) ne legal first lends due at (inr h) = hint_was d page q xs ne legal.1 first lends.1 due.1 at.1 h
+  hint_was d page q (m ∷ xs) ne legal first lends due at (inl h) =
+      let e : ReadsEmpty q xs = due.0.1.0 q h in record {
+        backed = read_backed d page q xs ne legal.1 first at.1 (since_once (ReadsBacked q) (TakesNone q) xs e.backed);
+        free = λ g of. read_free q (g / 64 % 4) (g % 64) g xs legal.1 lends.1 due.1 (omega arith) (ap (λ (p : ℕ). Word.Free p (g / 64 % 4)) of) refl (since_once (ReadsAllFree q (g / 64 % 4)) (TakesNone q) xs (e.free (g / 64 % 4) (omega arith)));
+      }
+
+  -- ---- A PAGE THAT THE SEARCH OFFERS, or whose right it got by a claim, was offered before it
+  abbrev pub WasOffered : ℕ → Type 0
+  WasOffered q = (n : ℕ) × (eligible_bit l n q ≡ true)
+
+  deed_quiet : (d d' : Directory) (page q a epoch : ℕ) → page ≢ q → a ≡ 0 → (event_of k epoch (Deed q d') a ≡ None) ⊎ IsDeedOrBack d page (Deed q d') → ⊥
+  deed_quiet d d' page q a epoch ne zero (inl none) = let bad : Some (Event.Deed k q d') ≡ None = sym (ap (λ (n : ℕ). if n == 0 then Some (Event.Deed k q d') else None) zero) ∙ none in cc
+  deed_quiet d d' page q a epoch ne zero (inr own) = of_own (Deed q d') own refl
+    where
+      of_own : (s : Step) → IsDeedOrBack d page s → s ≡ Deed q d' → ⊥
+      of_own s IsDeedOrBack.Deeds is = ne (let same : page ≡ q = cc in same)
+      of_own s IsDeedOrBack.Backs is = let bad : Back page ≡ Deed q d' = is in cc
+
+  got_by : (d : Directory) (page q : ℕ) (w : Whole) (s : Step) (a epoch : ℕ) → page ≢ q → a ≡ word_after w (target s) → (event_of k epoch s a ≡ None) ⊎ IsDeedOrBack d page s → GetsRight q s a → (n : ℕ) × (eligible_bit w n q ≡ true)
+  got_by d page q w s a epoch ne answer at (GetsRight.Claims d' a' set) = (number_of d', ap (λ (n : ℕ). has_bit n (q % 64)) (sym answer) ∙ set)
+  got_by d page q w s a epoch ne answer at (GetsRight.Deeds d' a' zero) = absurd (deed_quiet d d' page q a epoch ne zero at)
+
+  pub was_offered : (d : Directory) (page q : ℕ) (xs : List Made) → page ≢ q → Legal f (triples k xs ++ l) → Always ReturnsDuly xs → EventsAt d page xs → (Once (GetsHere q) xs → WasOffered q) × ((n : ℕ) → eligible_bit (triples k xs ++ l) n q ≡ true → WasOffered q)
+  was_offered d page q [] ne legal due at = (λ got. absurd got, λ n bit. (n, bit))
+  was_offered d page q (m ∷ xs) ne legal due at =
+      let before = was_offered d page q xs ne legal.1 due.1 at.1 in
+      let epoch : ℕ = epoch_of (part k (triples k xs ++ l)) in (
+        λ got. elim got [
+          | inl here ↦ (let o = got_by d page q (triples k xs ++ l) m.step m.answer epoch ne legal.0.answer_is (quiet_or d page m epoch at.0) here in before.1 o.0 o.1)
+          | inr later ↦ before.0 later
+        ],
+        λ n bit. elim (offer_one epoch m.step n q (word_after (triples k xs ++ l) (Word.Eligible n (q / 64))) bit) [
+          | inl was ↦ before.1 n was
+          | inr o ↦ before.0 (due.0.0 q (subst (IsReturnOf q) (sym o.1) (IsReturnOf.Offers o.0)))
+        ],
+      )
+
+-- the bit is that of the page's own directory
+pub own_bit : (f : Profile) (l : Whole) (d : Directory) (n q : ℕ) → Legal f l → IsDirectoryOf f d → deed_in (visible l) q ≡ Some d → eligible_bit l n q ≡ true → eligible_bit l (number_of d) q ≡ true
+own_bit f l d n q legal of deed bit =
+    let word : deed_word_of d ≡ deed_word_numbered n = sym (ap word_of_deed deed) ∙ (sym (deed_of f l legal q) ∙ offered_has_deed f l legal n q bit) in
+    ap (λ (m : ℕ). eligible_bit l m q) (number_told d n of.kind word) ∙ bit
