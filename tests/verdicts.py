@@ -217,7 +217,7 @@ def main():
     parser.add_argument("--jobs", type=int, default=1)
     parser.add_argument("--lines", type=int, default=MOST_BYTES)
     parser.add_argument("--only", action="store_true")
-    wanted = parser.parse_args()
+    wanted = parser.parse_intermixed_args()
     examples = [] if wanted.only else [path for path in sorted(EXAMPLES.glob("*.trace")) if not path.with_suffix(".transcript").read_bytes().startswith(b"line ")]
     faults, total = [], Counter()
     with ProcessPoolExecutor(wanted.jobs) as pool:
