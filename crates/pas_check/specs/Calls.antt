@@ -1,5 +1,6 @@
 -- What the private functions of the checker promise of a line.
-use Rattle.std.specs.Prelude.{ℕ, ◌^◌, ◌<◌, ◌/◌, ◌%◌, ◌≡◌, ◌⊎◌, ◌==◌, if◌then◌else◌, Bool, true, false, List, [], ◌∷◌, ◌++◌, Option, None, Some}
+use Rattle.std.specs.Prelude.{ℕ, ◌^◌, ◌<◌, ◌/◌, ◌%◌, ◌≡◌, ◌⊎◌, ◌==◌, if◌then◌else◌, Bool, true, false, List, [], ◌∷◌, ◌++◌, Option, None, Some, IfSome}
+use Rattle.pas_report.specs.Lines.{line_of, line_of_event}
 use Rattle.pas_report.specs.declared.record.Record.{Record}
 use Rattle.pas_report.specs.declared.record.Said.{Said}
 use Rattle.pas_profile.specs.declared.directory.Directory.{Directory}
@@ -20,6 +21,7 @@ use Rattle.pas_trace.specs.declared.item.Request.{Request}
 use Rattle.pas_check.specs.Begins.{begun_from, entries_due, past_outcomes, replacing}
 use Rattle.pas_check.specs.Bounds.{FitsNext, FitsRequest, IsKept, IsSmall}
 use Rattle.pas_check.specs.Leading.{Fails, Leads}
+use Rattle.pas_check.specs.Ranges.{Fits, FitsEvent}
 use Rattle.pas_check.specs.States.{Due, Examines, Serves, Stand, with_due, with_name, with_one}
 use Rattle.pas_check.specs.Takes.{IsFor, IsRefusal, MayCome, MayRefuse, TakesEntry, TakesGive, TakesOutcome, TakesPreparing, TakesRefusal, after_outcome, directory_of}
 use Rattle.pas_check.specs.declared.cutting.Cursor.{Cursor}
@@ -33,6 +35,16 @@ event_in (Record.Event e) = Some e
 event_in (Record.Said k said) = None
 event_in (Record.Phase n) = None
 event_in Record.Close = None
+
+-- what was read of a line: the record that has this line, where there is one whose numbers fit their places
+pub record IsRead (line : List ℕ) (found : Option Record) : Type 0 where
+  pub some : IfSome found (λ r. line ≡ line_of r)
+  pub only : (r : Record) → Fits r → line ≡ line_of r → found ≡ Some r
+
+-- .. and its event
+pub record IsEventRead (line : List ℕ) (found : Option Event) : Type 0 where
+  pub some : IfSome found (λ e. line ≡ line_of_event e)
+  pub only : (e : Event) → FitsEvent e → line ≡ line_of_event e → found ≡ Some e
 
 -- the machine took the event, which may come next; or it may not, and the machine is as it was
 abbrev pub IsStepped : Machine → Machine → Event → Bool → Type 0

@@ -7,10 +7,8 @@ ghost use Rattle.pas_profile.specs.Blocks.{address_of};
 ghost use Rattle.pas_machine.specs.Machine.{IsLive, IsPlace};
 ghost use Rattle.pas_machine.specs.Machines.{profile_of, StandsFor};
 ghost use Rattle.pas_machine.specs.Places.{IsLiveBlock};
-ghost use Rattle.pas_report.specs.Lines.{line_of_event};
-ghost use Rattle.pas_check.specs.Calls.{event_in, IsHeedless, IsStepped, Differs, MayAnswer, EntryTaken, PreparingTaken};
+ghost use Rattle.pas_check.specs.Calls.{event_in, IsEventRead, IsHeedless, IsRead, IsStepped, Differs, MayAnswer, EntryTaken, PreparingTaken};
 ghost use Rattle.pas_check.specs.Takes.{IsPreparing};
-ghost use Rattle.pas_check.specs.Ranges.{FitsEvent};
 
 use crate::entry::Entry;
 use crate::reading::read_record;
@@ -40,15 +38,21 @@ fn event_of(item: &Record) -> Option<Event>
     }
 }
 
-/// The event whose line this is; None where it is of none.
-pub(crate) fn read_event(line: &[u8]) -> Option<Event>
-    ensures some { IfSome result (λ e. line.now ≡ line_of_event e) }
-    ensures only { (e : TheEvent) → FitsEvent e → line.now ≡ line_of_event e → result ≡ Some e }
+/// The event of what was read of a line; None where that is none.
+pub(crate) fn event_read(found: &Option<Record>) -> Option<Event>
+    ensures { (line : List ℕ) → IsRead line found.now → IsEventRead line result }
 {
-    let Some(item) = read_record(line) else {
+    let Some(item) = found else {
         return None;
     };
-    event_of(&item)
+    event_of(item)
+}
+
+/// The event whose line this is; None where it is of none.
+fn read_event(line: &[u8]) -> Option<Event>
+    ensures { IsEventRead line.now result }
+{
+    event_read(&read_record(line))
 }
 
 /// Whether the event is the end of the entry's name in this epoch by the actor, or a refusal of it for a reason that the entry may have.
@@ -159,19 +163,19 @@ fn prepares(event: &Event, actor: u8, directory: Directory) -> bool
     }
 }
 
-/// Takes the line of a deed of the directory, or of a back, by the actor, and says whether this is one.
+/// Takes the line of which this was read where it is that of a deed of the directory, or of a back, by the actor, and says whether it is.
 pub(crate) fn take_preparing(
     machine: &mut Machine,
-    line: &[u8],
+    found: &Option<Record>,
     actor: u8,
     directory: Directory,
 ) -> Result<bool, NoMemory>
     requires valid { IsValid (profile_of machine.old) }
     requires kind { IsKind directory.kind }
     ensures profile { profile_of machine.new ≡ profile_of machine.old }
-    ensures taken { IfOk result (λ taken. PreparingTaken machine.old machine.new actor directory line.now taken) }
+    ensures taken { IfOk result (λ taken. (line : List ℕ) → IsRead line found.now → PreparingTaken machine.old machine.new actor directory line taken) }
 {
-    let Some(event) = read_event(line) else {
+    let Some(event) = event_read(found) else {
         return Ok(false);
     };
     if !prepares(&event, actor, directory) {
