@@ -13,7 +13,7 @@ ghost use Rattle.pas_trace.specs.declared.item.Wish.{Wish};
 
 use crate::counts::{Counts, MOST_OPERATIONS, MOST_RECORDS};
 use crate::fault::{ReadFault, Reason, TraceFault};
-use crate::fronts::front_item;
+use crate::fronts::{allocation_line, free_line};
 use crate::gathered::Gathered;
 use crate::header::{Header, read_header};
 use crate::item::{Item, Request, Wish};
@@ -450,15 +450,20 @@ impl Reader {
         }
     }
 
-    /// Reads the first line of a text, and answers the text after it, or None where the text has no line. Lines of the commonest kinds
-    /// are read in one pass over their bytes.
+    /// Reads the first line of a text, and answers the text after it, or None where the text has no line. Lines of the two
+    /// commonest kinds are read in one pass over their bytes, and each is taken where its kind is known, so that the code
+    /// that checks it asks for the kind no more.
     #[inline(always)]
     fn read_line<'a>(&mut self, text: &'a [u8]) -> Result<Option<&'a [u8]>, ReadFault>
         requires tells { (items : List Item) × Tells self.old items }
         requires line { self.old.line < 2 ^ 25 }
         ensures { (items : List Item) → Tells self.old items → MatchResult result (λ o. MatchOption o ((lines_of text.now ≡ []) × (self.new ≡ self.old)) (λ rest. IsFirstTaken self.old items text.now rest.now self.new (Ok tt))) (λ fault. (rest : List ℕ) × IsFirstTaken self.old items text.now rest self.new (Err fault)) }
     {
-        if let Some((item, rest)) = front_item(text) {
+        if let Some((item, rest)) = allocation_line(text) {
+            self.take_item(item)?;
+            return Ok(Some(rest));
+        }
+        if let Some((item, rest)) = free_line(text) {
             self.take_item(item)?;
             return Ok(Some(rest));
         }
