@@ -27,3 +27,4 @@ mod Pages
 mod Reportings
 mod Phases
 mod Wholes
+mod WithoutDeeds
