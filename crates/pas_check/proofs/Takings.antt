@@ -9,7 +9,7 @@ use Rattle.pas_profile.specs.declared.directory.Directory.{Directory}
 use Rattle.pas_profile.specs.declared.event.Event.{Event}
 use Rattle.pas_profile.specs.declared.event.Why.{Why}
 use Rattle.pas_profile.specs.Blocks.{address_of}
-use Rattle.pas_machine.specs.Machine.{Run, Admits, IsPlace}
+use Rattle.pas_machine.specs.Machine.{Admits, IsPlace}
 use Rattle.pas_machine.specs.Machines.{profile_of, StandsFor}
 use Rattle.pas_machine.specs.State.{deed_in, backed_in}
 use Rattle.pas_machine.specs.Reasons.{IsFirst}

@@ -1,4 +1,4 @@
-use Rattle.std.proofs.Common.{◌≡◌, ◌+◌, ◌-◌, ◌≤◌, List, Bool, eqb, length, take, drop, false, ap, sym, ◌∙◌, arith}
+use Rattle.std.proofs.Common.{eqb, drop, ap, sym, ◌∙◌, arith}
 use Rattle.std.specs.List.{concat, starts_with}
 use Rattle.std.proofs.lemmas.Bool.{false≢true}
 use Rattle.std.proofs.lemmas.Bool.Decides.{Decides-eqb}

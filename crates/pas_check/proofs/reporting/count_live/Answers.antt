@@ -1,5 +1,4 @@
-use Rattle.std.proofs.Common.{◌≡◌, ◌+◌, ◌*◌, ap, arith}
-use Rattle.pas_profile.specs.declared.profile.Profile.{Profile}
+use Rattle.std.proofs.Common.{arith}
 use Rattle.pas_check.proofs.WithoutDeeds.{live_more}
 use Rattle.pas_check.proofs.reporting.count_live.Goals as goal
 

@@ -1,4 +1,4 @@
-use Rattle.std.proofs.Common.{◌≡◌, ◌+◌, ◌*◌, ap, ◌∙◌, arith}
+use Rattle.std.proofs.Common.{◌+◌, ◌*◌, ◌∙◌, arith}
 use Rattle.pas_machine.specs.State.{gives_in}
 use Rattle.pas_report.proofs.Counting.{sum_more}
 use Rattle.pas_check.proofs.Kept.{gives_few}

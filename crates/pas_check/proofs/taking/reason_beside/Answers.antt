@@ -1,4 +1,4 @@
-use Rattle.std.proofs.Common.{◌≡◌, ap, refl, sym, ◌∙◌, arith}
+use Rattle.std.proofs.Common.{ap, refl, sym, ◌∙◌, arith}
 use Rattle.pas_profile.specs.declared.name.Block.{Block}
 use Rattle.pas_check.proofs.Entries.{ended_before, may_end, not_yet, other_room}
 use Rattle.pas_check.proofs.taking.reason_beside.Goals as goal
