@@ -29,6 +29,7 @@ from judge import Judge, Lines, Trace, lines_of
 
 MOST_SECONDS = 60
 MOST_BYTES = 16_777_216
+FEW_LINES = 200
 EXAMPLES = pathlib.Path(__file__).resolve().parent.parent / "examples"
 WORDS = ["deed", "back", "unback", "give", "freed", "ended", "no-block", "size-differs", "outside", "unaligned", "no-space", "held", "kept", "skipped",
          "tick", "pass", "bare", "young", "in-use", "not-offered", "stopped", "phase", "close", "report", "page", "heap", "class", "shared", "bitfit",
@@ -134,13 +135,21 @@ class EditedLines(Lines):
         self.lines[edit.at:end + 1] = lines_of("".join(edit.lines) + "".join(self.lines[end:end + 1]))
 
 
-def judged(trace, text, edits):
-    """The verdict on the transcript, and on it after each edit, by the second reading."""
-    lines = EditedLines(text, edits)
+def verdict_on(trace, lines):
+    """What the second reading says of lines."""
     try:
-        verdict = Judge(Trace(trace), lines).verdict()
+        return Judge(trace, lines).verdict()
     except Exception as error:
-        verdict = f"the second reading failed: {error!r}"
+        return f"the second reading failed: {error!r}"
+
+
+def judged(trace, text, edits):
+    """The verdict on the transcript, and on it after each edit, by the second reading: a few lines are read again for each."""
+    parts, trace = lines_of(text), Trace(trace)
+    if len(parts) <= FEW_LINES:
+        return verdict_on(trace, Lines(text)), {edit: verdict_on(trace, Lines("".join((*parts[:edit.at], *edit.lines, *parts[edit.at + edit.count:])))) for edit in edits}
+    lines = EditedLines(text, edits)
+    verdict = verdict_on(trace, lines)
     if lines.sink is not None:
         os.write(lines.sink, verdict.encode())
         os._exit(0)

@@ -26,3 +26,4 @@ mod Pages
 mod Reportings
 mod Phases
 mod Wholes
+mod WithoutDeeds

@@ -356,7 +356,7 @@ fn can_show(item: &Record) -> bool
 }
 
 /// Whether the line is this record's. The record's line is made where it is compared, without a copy.
-fn is_line(line: &[u8], item: &Record) -> bool
+pub(crate) fn is_line(line: &[u8], item: &Record) -> bool
     requires { CanShow item.now }
     ensures { MatchBool result (line.now ≡ line_of item.now) (line.now ≢ line_of item.now) }
 {

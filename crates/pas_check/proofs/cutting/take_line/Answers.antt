@@ -1,4 +1,4 @@
-use Rattle.std.proofs.Common.{◌≡◌, ◌+◌, ◌-◌, ◌≤◌, List, Bool, eqb, length, take, drop, false, ap, sym, ◌∙◌, arith}
+use Rattle.std.proofs.Common.{eqb, drop, ap, sym, ◌∙◌, arith}
 use Rattle.std.specs.List.{concat, starts_with}
 use Rattle.std.proofs.lemmas.Bool.{false≢true}
 use Rattle.std.proofs.lemmas.Bool.Decides.{Decides-eqb}
@@ -20,8 +20,7 @@ returns-clause-taken c =
     let some = line_some c.args.wanted.now c.requires.line in
     let lines = c.requires.within.lines in
     let bytes = c.requires.within.bytes in
-    let fits = c.starts_with.ensures.bound c.if-not-starts_with.false in
-    (
+    let fits = c.starts_with.ensures.bound c.if-not-starts_with.false in (
       cut_here c.args.text.now c.args.wanted.now c.args.cursor.now.bytes (starts.0 c.if-not-starts_with.false) c.requires.line,
       record { bytes = omega (arith, bytes, fits); lines = omega (arith, lines, some) },
     )

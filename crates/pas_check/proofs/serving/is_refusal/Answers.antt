@@ -10,6 +10,6 @@ returns-in_default c = λ line is. refusal_unread c.args.machine.now c.args.acto
 
 pub returns : goal.returns
 returns c = λ line is.
-    refusal_seen c.args.machine.now c.args.actor c.args.wanted.now line (omega arith) c.in-Some.item.now
+    refusal_seen c.args.machine.now c.args.actor c.args.wanted.now line (omega arith) c.in-Some.item
     (subst (λ o. IfSome o (λ r. line ≡ line_of r)) c.in-Some.is is.some)
-    (λ r fits has. same_Some c.in-Some.item.now r (sym c.in-Some.is ∙ is.only r fits has)) c.refuses.result c.refuses.ensures
+    (λ r fits has. same_Some c.in-Some.item r (sym c.in-Some.is ∙ is.only r fits has)) c.refuses.result c.refuses.ensures

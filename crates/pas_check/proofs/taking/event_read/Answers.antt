@@ -14,6 +14,6 @@ returns-in_default c = λ line is. record {
 
 pub returns : goal.returns
 returns c = λ line is. record {
-  some = event_some c.in-Some.item.now _ line c.event_of.ensures (subst (λ o. IfSome o (λ r. line ≡ line_of r)) c.in-Some.is is.some);
-  only = λ e fits same. event_only c.in-Some.item.now _ e c.event_of.ensures (sym c.in-Some.is ∙ is.only (Record.Event e) fits same);
+  some = event_some c.in-Some.item _ line c.event_of.ensures (subst (λ o. IfSome o (λ r. line ≡ line_of r)) c.in-Some.is is.some);
+  only = λ e fits same. event_only c.in-Some.item _ e c.event_of.ensures (sym c.in-Some.is ∙ is.only (Record.Event e) fits same);
 }
