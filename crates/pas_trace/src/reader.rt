@@ -489,6 +489,36 @@ impl Reader {
         Ok(())
     }
 
+    /// The same, out of line.
+    #[inline(never)]
+    fn take_rare(&mut self, item: Item) -> Result<(), ReadFault>
+        requires tells { (items : List Item) × Tells self.old items }
+        requires line { self.old.line < 2 ^ 25 }
+        ensures { (items : List Item) (line : List ℕ) → Tells self.old items → item_of_line self.old.header.version self.old.started line ≡ Ok item → IsTaken self.old items line self.new result }
+    {
+        self.take_item(item)
+    }
+
+    /// Takes what a line says. The two commonest kinds have code of their own, which no longer asks for the kind.
+    #[inline(always)]
+    fn take_by_kind(&mut self, item: &Item) -> Result<(), ReadFault>
+        requires tells { (items : List Item) × Tells self.old items }
+        requires line { self.old.line < 2 ^ 25 }
+        ensures { (items : List Item) (line : List ℕ) → Tells self.old items → item_of_line self.old.header.version self.old.started line ≡ Ok item.now → IsTaken self.old items line self.new result }
+    {
+        match item {
+            Item::Operates {
+                wish: Wish::Asks { .. },
+                ..
+            } => self.take_item(*item),
+            Item::Operates {
+                wish: Wish::Frees { .. },
+                ..
+            } => self.take_item(*item),
+            _ => self.take_rare(*item),
+        }
+    }
+
     /// Takes what lines say, one after another.
     #[inline(never)]
     fn take_items(&mut self, items: &[Item]) -> Result<(), ReadFault>
@@ -499,7 +529,7 @@ impl Reader {
         ensures few { OnOk result (self.new.line ≤ self.old.line + length items.now) }
     {
         for item in items {
-            self.take_item(*item)?;
+            self.take_by_kind(item)?;
         }
         Ok(())
     }
