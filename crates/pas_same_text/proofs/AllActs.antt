@@ -1,5 +1,5 @@
 -- ACTS ONE AFTER THE OTHER keep the text, and a replay of them comes to what is written of it.
-use Rattle.std.proofs.Common.{◌≡◌, ℕ, List, [], ◌∷◌, ◌++◌, refl, sym, subst}
+use Rattle.std.proofs.Common.{◌≡◌, ℕ, List, [], ◌∷◌, ◌++◌, refl, ap, sym, ◌∙◌, subst}
 use Rattle.pas_profile.specs.Profiles.{IsValid, IsAdmitted}
 use Rattle.pas_profile.specs.Requests.{route_in}
 use Rattle.pas_profile.specs.declared.directory.Route.{Route}

@@ -111,6 +111,7 @@ module _ (k : ℕ) (d : Directory) (page : ℕ) where
   is_there (Some x) = true
 
   deed_there : (o : Option Directory) → (if page == page then Some d else o) ≡ None → ⊥
+  unfolding is_there
   deed_there o none = false≢true (sym (ap is_there none) ∙ ap (λ (t : Bool). is_there (if t then Some d else o)) (eq-eqb page page refl))
 
   none_before : (f : Profile) (es base : List Event) → AllAtPage k d page es → Run f (es ++ base) → deed_in (es ++ base) page ≡ None → es ≡ []

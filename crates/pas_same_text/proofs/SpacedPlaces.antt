@@ -11,13 +11,13 @@ pub some_first : (xs : List ℕ) → some_of (take 1 xs) ≡ some_of xs
 some_first [] = refl
 some_first (x ∷ xs) = refl
 
+some_next : (x : ℕ) (xs : List ℕ) (t any : Bool) → some_of xs ≡ any → some_of (if t then x ∷ xs else xs) ≡ (t || any)
+some_next x xs true any rest = refl
+some_next x xs false any rest = rest
+
 pub some_filtered : (test : ℕ → Bool) (xs : List ℕ) → some_of (filter test xs) ≡ list_any test xs
 some_filtered test [] = refl
-some_filtered test (x ∷ xs) = at (test x)
-  where
-    at : (t : Bool) → some_of (if t then x ∷ filter test xs else filter test xs) ≡ (t || list_any test xs)
-    at true = refl
-    at false = some_filtered test xs
+some_filtered test (x ∷ xs) = some_next x (filter test xs) (test x) (list_any test xs) (some_filtered test xs)
 
 -- the i-th of them
 or_first : (x y : Bool) → x ≡ true → (x || y) ≡ true
