@@ -1,6 +1,6 @@
 -- ACTS ONE AFTER THE OTHER keep the text, and a replay of them comes to what is written of it.
-use Rattle.std.proofs.Common.{◌≡◌, ℕ, List, [], ◌∷◌, ◌++◌, refl, sym, subst}
-use Rattle.pas_profile.specs.Profiles.{IsValid}
+use Rattle.std.proofs.Common.{◌≡◌, ℕ, List, [], ◌∷◌, ◌++◌, refl, ap, sym, ◌∙◌, subst}
+use Rattle.pas_profile.specs.Profiles.{IsValid, IsAdmitted}
 use Rattle.pas_profile.specs.Requests.{route_in}
 use Rattle.pas_profile.specs.declared.directory.Route.{Route}
 use Rattle.pas_profile.specs.declared.profile.Profile.{Profile}
@@ -26,23 +26,24 @@ use Rattle.pas_one_text.specs.Order.{acts_on, opened, replayed}
 use Rattle.pas_one_text.specs.Reports.{text_of}
 use Rattle.pas_same_text.specs.Same.{IsSame}
 use Rattle.pas_same_text.specs.Acts.{IsBetween, IsTaken, HasUsableBlocks}
-use Rattle.pas_same_text.specs.Plans.{AllProved, IsCachedBy, IsProvedWhat, IsProvedAct}
+use Rattle.pas_same_text.specs.Plans.{AllProved, IsServedSo, IsProvedWhat, IsProvedAct}
 use Rattle.pas_same_text.proofs.BackActs.{flush_act, stop_act, end_act, idle_act, raw_act, raw_sized_act, free_act, free_sized_act, remake_act}
+use Rattle.pas_same_text.proofs.BitfitRequests.{bitfit_same}
 use Rattle.pas_same_text.proofs.CachedSlots.{cached_same}
 use Rattle.pas_same_text.proofs.SmallActs.{phase_same, close_same, wake_same, reading_same, tick_same, settling_same}
 use Rattle.pas_same_text.proofs.UsableBlocks.{act_usable}
 use Rattle.pas_same_text.proofs.WholeText.{start_same, start_usable, text_told}
 
 -- ---- one act
-request_stays : (f : Profile) (line k name heap size align : ℕ) (route : Route) → IsThread f k → route_in f size align ≡ route → (p p' : Progress) (w : World) → IsCachedBy route heap k p
+request_stays : (f : Profile) (line k name heap size align : ℕ) (route : Route) → IsThread f k → IsAdmitted f size align heap → route_in f size align ≡ route → (p p' : Progress) (w : World) → IsServedSo route heap k p
     → IsTaken f (Act.Operates (record { line = line; actor = k; what = What.Alloc name heap size align })) p p' w → IsSame f p' (acts_on f (Act.Operates (record { line = line; actor = k; what = What.Alloc name heap size align })) w)
-request_stays f line k name heap size align (Route.Class class) is e p p' w cached taken = cached_same f line k name heap size align class is e p p' w cached taken
-request_stays f line k name heap size align Route.Bitfit is e p p' w cached taken = absurd cached
-request_stays f line k name heap size align Route.Large is e p p' w cached taken = absurd cached
+request_stays f line k name heap size align (Route.Class class) is admitted e p p' w cached taken = cached_same f line k name heap size align class is e p p' w cached taken
+request_stays f line k name heap size align Route.Bitfit is admitted e p p' w so taken = bitfit_same f line k name heap size align is admitted e p p' w taken
+request_stays f line k name heap size align Route.Large is admitted e p p' w none taken = absurd none
 
 operation_stays : (f : Profile) (line k : ℕ) (what : What) → IsThread f k → (p p' : Progress) (w : World) → IsProvedWhat f k what p → HasUsableBlocks p
     → IsTaken f (Act.Operates (record { line = line; actor = k; what = what })) p p' w → IsSame f p' (acts_on f (Act.Operates (record { line = line; actor = k; what = what })) w)
-operation_stays f line k (What.Alloc name heap size align) is p p' w proved usable taken = request_stays f line k name heap size align (route_in f size align) is refl p p' w proved taken
+operation_stays f line k (What.Alloc name heap size align) is p p' w proved usable taken = request_stays f line k name heap size align (route_in f size align) is proved.0 refl p p' w proved.1 taken
 operation_stays f line k (What.Free name) is p p' w proved usable taken = free_act f line k name is p p' w usable taken
 operation_stays f line k (What.FreeSized name room) is p p' w proved usable taken = free_sized_act f line k name room is p p' w usable taken
 operation_stays f line k (What.Raw block) is p p' w proved usable taken = raw_act f line k block is p p' w usable taken

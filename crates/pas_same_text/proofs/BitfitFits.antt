@@ -1,9 +1,9 @@
 -- WHERE A BIT-FIT BLOCK FITS on a page: in the text exactly where it does by the free grains of the replay.
-use Rattle.std.proofs.Common.{◌≡◌, ℕ, ◌+◌, ◌*◌, ◌/◌, ◌%◌, ◌<◌, ◌≤◌, ◌==◌, nat_le, nat_lt, Bool, true, false, not, ◌&&◌, ◌||◌, List, refl, ap, sym, ◌∙◌, arith}
+use Rattle.std.proofs.Common.{◌≡◌, ℕ, suc, ◌+◌, ◌*◌, ◌/◌, ◌%◌, ◌<◌, ◌≤◌, ◌==◌, nat_le, nat_lt, Bool, true, false, not, ◌&&◌, ◌||◌, List, [], ◌∷◌, refl, ap, sym, ◌∙◌, arith}
 use Rattle.std.proofs.lemmas.Bool.{true≢false, false≢true, eq-eqb, eqb-true, cases_Bool, and_from, false_from_ne_true}
 use Rattle.std.proofs.lemmas.Bool.Decides.{nat_tests}
-use Rattle.std.proofs.lemmas.Nat.{div_below}
-use Rattle.std.proofs.Math.Nat.{mul-mod_left, mod-add-div'}
+use Rattle.std.proofs.lemmas.Nat.{div_below, mul-le}
+use Rattle.std.proofs.Math.Nat.{mul-mod_left, mod-add-div', suc-mul}
 use Rattle.std.specs.List.{list_any, filter}
 use Rattle.pas_bits.specs.Bits.{has_bit}
 use Rattle.pas_profile.specs.Classes.{IsAlignment}
@@ -11,10 +11,11 @@ use Rattle.pas_profile.specs.Profiles.{IsValid, IsPage}
 use Rattle.pas_profile.specs.declared.profile.Profile.{Profile}
 use Rattle.pas_profile.proofs.Sizes.{passes_below, passes_at}
 use Rattle.pas_steps.specs.Effects.{free_word_at}
+use Rattle.pas_steps.specs.Evidence.{Readings}
 use Rattle.pas_steps.specs.Lists.{word_after}
 use Rattle.pas_core.specs.Rights.{free_of_page}
 use Rattle.pas_bitfit.specs.Allocates.{run_for}
-use Rattle.pas_bitfit.specs.Runs.{Fits, NoneFits}
+use Rattle.pas_bitfit.specs.Runs.{Fits, NoneFits, IsLowestFit}
 use Rattle.pas_answers.specs.Answers.{Progress}
 use Rattle.pas_one_text.specs.State.{World}
 use Rattle.pas_one_text.specs.Pages.{is_free, are_free}
@@ -27,7 +28,7 @@ use Rattle.pas_same_text.specs.Searched.{FitsSame}
 use Rattle.pas_same_text.specs.Words.{free_bit}
 use Rattle.pas_same_text.proofs.FreeGrains.{free_same}
 use Rattle.pas_same_text.proofs.GivenBack.{each_at, each_all}
-use Rattle.pas_same_text.proofs.SpacedPlaces.{some_first, some_filtered, in_spaced, from_spaced}
+use Rattle.pas_same_text.proofs.SpacedPlaces.{some_first, some_filtered, in_spaced, from_spaced, first_spaced}
 use Rattle.pas_same_text.proofs.Tests.{and_first, and_second}
 
 -- ---- an alignment splits a page
@@ -105,3 +106,22 @@ module _ (f : Profile) (p : Progress) (w : World) (valid : IsValid f) (between :
       by_test : (page : ℕ) → (NoneFits (run_for room align) (free_of_page p.list page) → ⊥) → (t : Bool) → list_any (test page) (spaced 0 step (256 / step)) ≡ t → t ≡ true
       by_test page fits true e = refl
       by_test page fits false e = absurd (fits (λ g at. true≢false (sym (place_there page g at) ∙ e)))
+
+  -- THE PLACE: where the lowest run among some readings is free, and what is free was read as free, it is the one of the text
+  pub lowest_is : (page first : ℕ) (r : Readings) → IsLowestFit (run_for room align) r first → ((b : ℕ) → b < 256 → free_of_page p.list page b ≡ true → r b ≡ true) → Fits (run_for room align) (free_of_page p.list page) first → lowest_place w n step page ≡ first ∷ []
+  lowest_is page first r lowest more fits =
+      let aligned = fits.aligned in
+      let within = fits.within in
+      let times : first / step * step ≡ first = let m = mod-add-div' first step in omega (arith, m, aligned) in
+      let whole : 256 / step * step ≡ 256 = page_splits align is in
+      let low = is.0 in
+      let lt : first / step < 256 / step = div_below first step (256 / step) (omega (arith, low)) (omega (arith, whole, within, some)) in
+      first_spaced (test page) (256 / step) 0 step (first / step) lt (ap (test page) (omega (arith, times)) ∙ fits_test page first fits) (λ j small. lower j small times) ∙ ap (λ (x : ℕ). x ∷ []) (omega (arith, times))
+    where
+      lower : (j : ℕ) → j < first / step → first / step * step ≡ first → test page (0 + j * step) ≡ false
+      lower j small times = false_from_ne_true (test page (0 + j * step)) (λ h.
+          let low = is.0 in
+          let this : Fits (run_for room align) (free_of_page p.list page) (0 + j * step) = test_fits page (0 + j * step) (ap (λ (x : ℕ). x % step) (omega arith) ∙ mul-mod_left j step) h in
+          let next : suc j * step ≤ first / step * step = mul-le (suc j) step (first / step) step (omega (arith, small)) (omega arith) in
+          let m = suc-mul j step in
+          lowest.lowest (0 + j * step) (omega (arith, next, m, times, low)) (record { aligned = this.aligned; within = this.within; free = λ b lt from to. more b lt (this.free b lt from to) }))

@@ -1,4 +1,4 @@
--- A BIT-FIT REQUEST THAT IS REFUSED: nothing fits in the text either, and no page changes.
+-- A BIT-FIT REQUEST. One that is refused changes no page, and nothing fits in the text either.
 use Rattle.std.proofs.Common.{◌≡◌, ℕ, ◌+◌, ◌/◌, ◌<◌, ◌≤◌, Bool, true, false, ◌&&◌, if◌then◌else◌, List, [], ◌∷◌, ◌++◌, Option, None, Some, Result, Ok, Err, refl, ap, sym, ◌∙◌, subst, arith}
 use Rattle.std.proofs.lemmas.Bool.{false≢true, false_from_ne_true}
 use Rattle.std.specs.List.{find}
@@ -41,11 +41,12 @@ use Rattle.pas_one_text.specs.State.{World}
 use Rattle.pas_one_text.specs.Pages.{page_numbers, is_none, is_unowned, is_offered}
 use Rattle.pas_one_text.specs.Searches.{some_of, page_or, refusal, refuses, searched}
 use Rattle.pas_one_text.specs.Runs.{bitfit_of, lowest_place, places, serves_bitfit}
-use Rattle.pas_one_text.specs.Order.{serves, acts_on}
+use Rattle.pas_one_text.specs.Order.{serves}
 use Rattle.pas_same_text.specs.Same.{IsSame, HasSame, ArePagesSame}
-use Rattle.pas_same_text.specs.Acts.{IsBetween, IsTaken}
+use Rattle.pas_same_text.specs.Acts.{IsBetween, StaysSame}
 use Rattle.pas_same_text.specs.Searched.{FitsSame}
 use Rattle.pas_same_text.proofs.BitfitFits.{bitfit_fits}
+use Rattle.pas_same_text.proofs.BitfitGiven.{bitfit_served}
 use Rattle.pas_same_text.proofs.LoggedFrees.{after_with}
 use Rattle.pas_same_text.proofs.RefusedRequests.{refused_to, refused_same}
 use Rattle.pas_same_text.proofs.SearchedPages.{find_none}
@@ -146,12 +147,21 @@ module _ (f : Profile) (k name heap size align : ℕ) (p p' : Progress) (w : Wor
   text : serves f k name heap (route_in f size align) bytes align w ≡ refuses k name (refusal f w d) w
   text = ap (λ (r : Route). serves f k name heap r bytes align w) route ∙ ap (λ (r : Result ℕ NoRoom). places k name heap bytes align r w) found
 
-  pub bitfit_refused : IsSame f p' (serves f k name heap (route_in f size align) bytes align w)
+  bitfit_refused : IsSame f p' (serves f k name heap (route_in f size align) bytes align w)
   bitfit_refused =
       subst (λ (x : World). IsSame f p' x) (sym text)
       (subst (λ (q : Progress). IsSame f q (refuses k name (refusal f w d) w)) (sym to) (refused_same f k name p w d a.steps room valid thread of before there same searches quiet reason))
 
-pub refused_stays : (f : Profile) (line k name heap size align : ℕ) (room : NoRoom) → IsThread f k → IsAdmitted f size align heap → route_in f size align ≡ Route.Bitfit → (p p' : Progress) (w : World) (taken : IsTaken f (Act.Operates (record { line = line; actor = k; what = Alloc name heap size align })) p p' w)
-    → taken.advances.1.answer ≡ Err room → IsSame f p' (acts_on f (Act.Operates (record { line = line; actor = k; what = Alloc name heap size align })) w)
-refused_stays f line k name heap size align room thread admitted route p p' w taken is =
-    bitfit_refused f k name heap size align p p' w room thread admitted route taken.valid taken.before taken.after taken.same taken.advances.0 taken.advances.1 taken.advances.2 is
+-- ---- ANY BIT-FIT REQUEST
+module _ (f : Profile) (k name heap size align : ℕ) (p p' : Progress) (w : World) (thread : IsThread f k) (admitted : IsAdmitted f size align heap) (route : route_in f size align ≡ Route.Bitfit) (valid : IsValid f) (before : IsBetween f p) (after : IsBetween f p') (same : IsSame f p w)
+    (a : Answer) (served : IsServed f k (record { name = name; heap = heap; size = size; align = align }) (having p.names (part k p.list) (p.caches k)) a) (reached : p' ≡ after_answer p k a) where
+  answered : (answer : Result Block NoRoom) → served.answer ≡ answer → IsSame f p' (serves f k name heap (route_in f size align) (room_in f size align) align w)
+  answered (Ok block) is = bitfit_served f k name heap size align p p' w block thread admitted route valid before after same a served reached is
+  answered (Err room) is = bitfit_refused f k name heap size align p p' w room thread admitted route valid before after same a served reached is
+
+  pub bitfit_answered : IsSame f p' (serves f k name heap (route_in f size align) (room_in f size align) align w)
+  bitfit_answered = answered served.answer refl
+
+pub bitfit_same : (f : Profile) (line k name heap size align : ℕ) → IsThread f k → IsAdmitted f size align heap → route_in f size align ≡ Route.Bitfit → StaysSame f (Act.Operates (record { line = line; actor = k; what = Alloc name heap size align }))
+bitfit_same f line k name heap size align thread admitted route p p' w taken =
+    bitfit_answered f k name heap size align p p' w thread admitted route taken.valid taken.before taken.after taken.same taken.advances.0 taken.advances.1 taken.advances.2

@@ -70,7 +70,7 @@ is_mark q s = false
 abbrev pub IsMarked : ℕ → List Made → Type 0
 IsMarked q = Once (λ m before. is_mark q m.step ≡ true)
 
-once_parts : (P : Made → Type 0) (ys xs : List Made) → Once (λ m before. P m) (ys ++ xs) → Once (λ m before. P m) ys ⊎ Once (λ m before. P m) xs
+pub once_parts : (P : Made → Type 0) (ys xs : List Made) → Once (λ m before. P m) (ys ++ xs) → Once (λ m before. P m) ys ⊎ Once (λ m before. P m) xs
 once_parts P [] xs h = inr h
 once_parts P (y ∷ ys) xs (inl h) = inl (inl h)
 once_parts P (y ∷ ys) xs (inr h) = elim (once_parts P ys xs h) [ inl first ↦ inl (inr first) | inr later ↦ inr later ]

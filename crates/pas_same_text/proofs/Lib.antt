@@ -37,4 +37,6 @@ mod Refusals
 mod RefusedRequests
 mod SpacedPlaces
 mod BitfitFits
+mod ReadyPages
+mod BitfitGiven
 mod BitfitRequests

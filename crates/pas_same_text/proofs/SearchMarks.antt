@@ -1,7 +1,8 @@
 -- WHAT A SEARCH DOES to hints and offers, where no other actor makes a step: it hints no page but one that was hinted, and offers none but one that was
 -- offered; the page on which it may make a deed, and which it may back, is apart.
-use Rattle.std.proofs.Common.{◌≡◌, ◌≢◌, ℕ, ◌+◌, ◌*◌, ◌/◌, ◌%◌, ◌<◌, ◌==◌, Bool, true, false, ◌&&◌, if◌then◌else◌, List, [], ◌∷◌, ◌++◌, Option, None, Some, ◌⊎◌, inl, inr, refl, ap, sym, ◌∙◌, subst, arith}
-use Rattle.std.proofs.lemmas.Bool.{true≢false, false≢true, eqb-true, eqb-false, false_from_ne_true}
+use Rattle.std.proofs.Common.{◌≡◌, ◌≢◌, ℕ, ◌+◌, ◌*◌, ◌/◌, ◌%◌, ◌<◌, ◌==◌, Bool, true, false, ◌&&◌, ◌||◌, if◌then◌else◌, List, [], ◌∷◌, ◌++◌, Option, None, Some, ◌⊎◌, inl, inr, refl, ap, sym, ◌∙◌, subst, arith}
+use Rattle.std.proofs.lemmas.Bool.{true≢false, false≢true, eqb-true, false_from_ne_true}
+use Rattle.std.proofs.lemmas.Option.{same_Some}
 use Rattle.pas_bits.specs.Bits.{has_bit}
 use Rattle.pas_profile.specs.Directories.{number_of, deed_word_of, deed_word_numbered}
 use Rattle.pas_profile.specs.Profiles.{IsValid, IsDirectoryOf}
@@ -13,7 +14,7 @@ use Rattle.pas_machine.specs.State.{backed_in, deed_in}
 use Rattle.pas_steps.specs.Desks.{triples}
 use Rattle.pas_steps.specs.Effects.{target, in_mask, free_word_at}
 use Rattle.pas_steps.specs.Events.{event_of, with_event}
-use Rattle.pas_steps.specs.Evidence.{GetsRight, GetsHere}
+use Rattle.pas_steps.specs.Evidence.{Readings, ReadsFree, ShowsHere, GetsRight, GetsHere}
 use Rattle.pas_steps.specs.Kinds.{kind_of, is_in, lending}
 use Rattle.pas_steps.specs.Lists.{Whole, part, word_after, visible, Legal}
 use Rattle.pas_steps.specs.Past.{Once, Always}
@@ -72,6 +73,50 @@ module _ (f : Profile) (k : ℕ) (l : Whole) where
           (λ page word mask is here. due.0.1.1 page word mask g is here) before.0 before.1 in
       (free_step f (triples k xs ++ l) (epoch_of (part k (triples k xs ++ l))) m.step m.answer g legal.0.of_region legal.0.answer_is ∙ moved.0, moved.1)
 
+  -- ---- A GRAIN THAT WAS FREE before the search was read as free: it is free, or the call holds it
+  free_moves : (s : Step) (a g : ℕ) (bit held : Bool) → is_in lending (kind_of s) ≡ false → (bit || held) ≡ true → (free_moved (grain_move s a g) bit || held_after (grain_move s a g) held) ≡ true
+  free_moves (Take page word mask) a g bit held lends h = at (in_mask page word mask g && has_bit a (g % 64))
+    where
+      at : (t : Bool) → (free_moved (if t then Gets else Stays) bit || held_after (if t then Gets else Stays) held) ≡ true
+      at true = refl
+      at false = h
+  free_moves (Put page word mask) a g bit held lends h = at (in_mask page word mask g)
+    where
+      at : (t : Bool) → (free_moved (if t then Puts else Stays) bit || held_after (if t then Puts else Stays) held) ≡ true
+      at true = refl
+      at false = h
+  free_moves (Give block) a g bit held lends h = absurd (true≢false lends)
+  free_moves (End name guess) a g bit held lends h = absurd (true≢false lends)
+  free_moves (EndSized name room) a g bit held lends h = absurd (true≢false lends)
+  free_moves s a g bit held lends h = h
+
+  stays_free : (g : ℕ) (xs : List Made) → Legal f (triples k xs ++ l) → LendsNone xs → free_bit l g ≡ true → (free_bit (triples k xs ++ l) g || holds xs g) ≡ true
+  stays_free g [] legal lends free = ap (λ (t : Bool). t || false) free
+  stays_free g (m ∷ xs) legal lends free =
+      ap (λ (t : Bool). t || held_after (grain_move m.step m.answer g) (holds xs g)) (free_step f (triples k xs ++ l) (epoch_of (part k (triples k xs ++ l))) m.step m.answer g legal.0.of_region legal.0.answer_is)
+      ∙ free_moves m.step m.answer g (free_bit (triples k xs ++ l) g) (holds xs g) lends.0 (stays_free g xs legal.1 lends.1 free)
+
+  word_read : (page word : ℕ) (s : Step) (v : Whole) → ReadsFree page word s → word_after v (target s) ≡ word_after v (Word.Free page word)
+  word_read page word s v ReadsFree.Looks = refl
+  word_read page word s v (ReadsFree.Takes mask) = refl
+
+  pub free_shown : (page b : ℕ) (r : Readings) (xs : List Made) → Legal f (triples k xs ++ l) → LendsNone xs → b < 256 → free_bit l (page * 256 + b) ≡ true → Once (ShowsHere page (b / 64) r) xs → r b ≡ true
+  free_shown page b r [] legal lends small free h = absurd h
+  free_shown page b r (m ∷ xs) legal lends small free (inr h) = free_shown page b r xs legal.1 lends.1 small free h
+  free_shown page b r (m ∷ xs) legal lends small free (inl s) =
+      let g : ℕ = page * 256 + b in
+      let whole : 64 * (b / 64) + b % 64 ≡ b = omega arith in
+      let at_page : g / 256 ≡ page = omega (arith, small) in
+      let at_word : g / 64 % 4 ≡ b / 64 = omega (arith, small) in
+      let at_bit : b % 64 ≡ g % 64 = omega arith in
+      let word : free_word_at g ≡ Word.Free page (b / 64) = ap (λ (q : ℕ). Word.Free q (g / 64 % 4)) at_page ∙ ap (λ (u : ℕ). Word.Free page u) at_word in
+      let answer : m.answer ≡ word_after (triples k xs ++ l) (free_word_at g) = legal.0.answer_is ∙ (word_read page (b / 64) m.step (triples k xs ++ l) s.0 ∙ ap (word_after (triples k xs ++ l)) (sym word)) in
+      ap r (sym whole)
+      ∙ (s.2 (b % 64) (omega arith)
+      ∙ (ap (λ (x : ℕ). has_bit m.answer (b % 64) || holds xs (page * 256 + x)) whole
+      ∙ (ap (λ (x : ℕ). has_bit m.answer x || holds xs g) at_bit
+      ∙ (ap (λ (x : ℕ). has_bit x (g % 64) || holds xs g) answer ∙ stays_free g xs legal.1 lends.1 free))))
+
   -- a grain that was read as free was so before the search
   pub read_free : (page word b g : ℕ) (xs : List Made) → Legal f (triples k xs ++ l) → LendsNone xs → Always ReturnsDuly xs → b < 64 → free_word_at g ≡ Word.Free page word → g % 64 ≡ b → Once (ReadsAllFree page word) xs → free_bit l g ≡ true
   read_free page word b g [] legal lends due small at bit h = absurd h
@@ -93,21 +138,15 @@ module _ (f : Profile) (k : ℕ) (l : Whole) where
   other_event d page q (Some e) s epoch a ne is (inl none) es = absurd (let bad : Some e ≡ None = none in cc)
   other_event d page q (Some e) s epoch a ne is (inr own) es = of_own s own is
     where
-      is_there : Option Event → Bool
-      is_there None = false
-      is_there (Some x) = true
-
       other_back : page ≢ q → (page == q) ≡ false
       other_back ne = false_from_ne_true (page == q) (λ same. ne (eqb-true page q same))
 
       deed_event : (t : Bool) → (if t then Some (Event.Deed k page d) else None) ≡ Some e → backed_in (e ∷ es) q ≡ backed_in es q
-      deed_event true is = let same : Event.Deed k page d ≡ e = cc in subst (λ (x : Event). backed_in (x ∷ es) q ≡ backed_in es q) same refl
+      deed_event true is = subst (λ (x : Event). backed_in (x ∷ es) q ≡ backed_in es q) (same_Some (Event.Deed k page d) e is) refl
       deed_event false is = absurd (let bad : None ≡ Some e = is in cc)
 
       back_event : (t : Bool) → (if t then Some (Event.Back k page) else None) ≡ Some e → backed_in (e ∷ es) q ≡ backed_in es q
-      back_event true is =
-          let same : Event.Back k page ≡ e = cc in
-          subst (λ (x : Event). backed_in (x ∷ es) q ≡ backed_in es q) same (ap (λ (t : Bool). if t then true else backed_in es q) (other_back ne))
+      back_event true is = subst (λ (x : Event). backed_in (x ∷ es) q ≡ backed_in es q) (same_Some (Event.Back k page) e is) (ap (λ (t : Bool). if t then true else backed_in es q) (other_back ne))
       back_event false is = absurd (let bad : None ≡ Some e = is in cc)
 
       of_own : (s : Step) → IsDeedOrBack d page s → event_of k epoch s a ≡ Some e → backed_in (e ∷ es) q ≡ backed_in es q
@@ -142,9 +181,6 @@ module _ (f : Profile) (k : ℕ) (l : Whole) where
       }
 
   -- ---- A PAGE THAT THE SEARCH OFFERS, or whose right it got by a claim, was offered before it
-  abbrev pub WasOffered : ℕ → Type 0
-  WasOffered q = (n : ℕ) × (eligible_bit l n q ≡ true)
-
   deed_quiet : (d d' : Directory) (page q a epoch : ℕ) → page ≢ q → a ≡ 0 → (event_of k epoch (Deed q d') a ≡ None) ⊎ IsDeedOrBack d page (Deed q d') → ⊥
   deed_quiet d d' page q a epoch ne zero (inl none) = let bad : Some (Event.Deed k q d') ≡ None = sym (ap (λ (n : ℕ). if n == 0 then Some (Event.Deed k q d') else None) zero) ∙ none in cc
   deed_quiet d d' page q a epoch ne zero (inr own) = of_own (Deed q d') own refl
@@ -157,13 +193,13 @@ module _ (f : Profile) (k : ℕ) (l : Whole) where
   got_by d page q w s a epoch ne answer at (GetsRight.Claims d' a' set) = (number_of d', ap (λ (n : ℕ). has_bit n (q % 64)) (sym answer) ∙ set)
   got_by d page q w s a epoch ne answer at (GetsRight.Deeds d' a' zero) = absurd (deed_quiet d d' page q a epoch ne zero at)
 
-  pub was_offered : (d : Directory) (page q : ℕ) (xs : List Made) → page ≢ q → Legal f (triples k xs ++ l) → Always ReturnsDuly xs → EventsAt d page xs → (Once (GetsHere q) xs → WasOffered q) × ((n : ℕ) → eligible_bit (triples k xs ++ l) n q ≡ true → WasOffered q)
+  pub was_offered : (d : Directory) (page q : ℕ) (xs : List Made) → page ≢ q → Legal f (triples k xs ++ l) → Always ReturnsDuly xs → EventsAt d page xs → (Once (GetsHere q) xs → (n : ℕ) × (eligible_bit l n q ≡ true)) × ((m : ℕ) → eligible_bit (triples k xs ++ l) m q ≡ true → (n : ℕ) × (eligible_bit l n q ≡ true))
   was_offered d page q [] ne legal due at = (λ got. absurd got, λ n bit. (n, bit))
   was_offered d page q (m ∷ xs) ne legal due at =
       let before = was_offered d page q xs ne legal.1 due.1 at.1 in
       let epoch : ℕ = epoch_of (part k (triples k xs ++ l)) in (
         λ got. elim got [
-          | inl here ↦ (let o = got_by d page q (triples k xs ++ l) m.step m.answer epoch ne legal.0.answer_is (quiet_or d page m epoch at.0) here in before.1 o.0 o.1)
+          | inl here ↦ let o = got_by d page q (triples k xs ++ l) m.step m.answer epoch ne legal.0.answer_is (quiet_or d page m epoch at.0) here in before.1 o.0 o.1
           | inr later ↦ before.0 later
         ],
         λ n bit. elim (offer_one epoch m.step n q (word_after (triples k xs ++ l) (Word.Eligible n (q / 64))) bit) [

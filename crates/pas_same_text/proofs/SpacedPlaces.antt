@@ -11,13 +11,13 @@ pub some_first : (xs : List ℕ) → some_of (take 1 xs) ≡ some_of xs
 some_first [] = refl
 some_first (x ∷ xs) = refl
 
+some_next : (x : ℕ) (xs : List ℕ) (t any : Bool) → some_of xs ≡ any → some_of (if t then x ∷ xs else xs) ≡ (t || any)
+some_next x xs true any rest = refl
+some_next x xs false any rest = rest
+
 pub some_filtered : (test : ℕ → Bool) (xs : List ℕ) → some_of (filter test xs) ≡ list_any test xs
 some_filtered test [] = refl
-some_filtered test (x ∷ xs) = at (test x)
-  where
-    at : (t : Bool) → some_of (if t then x ∷ filter test xs else filter test xs) ≡ (t || list_any test xs)
-    at true = refl
-    at false = some_filtered test xs
+some_filtered test (x ∷ xs) = some_next x (filter test xs) (test x) (list_any test xs) (some_filtered test xs)
 
 -- the i-th of them
 or_first : (x y : Bool) → x ≡ true → (x || y) ≡ true
@@ -41,9 +41,23 @@ pub from_spaced : (test : ℕ → Bool) (n from step : ℕ) → list_any test (s
 from_spaced test zero from step h = absurd (false≢true h)
 from_spaced test (suc n) from step h = elim (or_cases (test from) (list_any test (spaced (from + step) step n)) h) [
   | inl here ↦ (0, omega arith, ap test (omega arith) ∙ here)
-  | inr later ↦ (
-    let o = from_spaced test n (from + step) step later in
-    let lt = o.1 in
-    (suc o.0, omega (arith, lt), ap test (let m = suc-mul o.0 step in omega (arith, m)) ∙ o.2)
-  )
+  | inr later ↦
+      let o = from_spaced test n (from + step) step later in
+      let lt = o.1 in
+      let m = suc-mul o.0 step in
+      (suc o.0, omega (arith, lt), ap test (omega (arith, m)) ∙ o.2)
 ]
+
+-- the first that passes, where the i-th does and none before it
+pub first_spaced : (test : ℕ → Bool) (n from step i : ℕ) → i < n → test (from + i * step) ≡ true → ((j : ℕ) → j < i → test (from + j * step) ≡ false) → take 1 (filter test (spaced from step n)) ≡ (from + i * step) ∷ []
+first_spaced test zero from step i lt h before = absurd (omega (arith, lt))
+first_spaced test (suc n) from step zero lt h before =
+    ap (λ (t : Bool). take 1 (if t then from ∷ filter test (spaced (from + step) step n) else filter test (spaced (from + step) step n))) (ap test (omega arith) ∙ h)
+    ∙ ap (λ (x : ℕ). x ∷ []) (omega arith)
+first_spaced test (suc n) from step (suc i) lt h before =
+    ap (λ (t : Bool). take 1 (if t then from ∷ filter test (spaced (from + step) step n) else filter test (spaced (from + step) step n))) (ap test (omega arith) ∙ before 0 (omega arith))
+    ∙ (first_spaced test n (from + step) step i (omega (arith, lt)) (ap test (later i) ∙ h) (λ j small. ap test (later j) ∙ before (suc j) (omega (arith, small)))
+    ∙ ap (λ (x : ℕ). x ∷ []) (later i))
+  where
+    later : (j : ℕ) → from + step + j * step ≡ from + suc j * step
+    later j = let m = suc-mul j step in omega (arith, m)

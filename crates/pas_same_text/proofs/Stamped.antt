@@ -1,5 +1,5 @@
 -- Between two acts each page where a block ended is stamped, so its stamp is the greatest epoch of an end there.
-use Rattle.std.proofs.Common.{◌≡◌, ℕ, ◌==◌, Bool, true, false, if◌then◌else◌, [], ◌∷◌, ap, subst}
+use Rattle.std.proofs.Common.{◌≡◌, ℕ, ◌==◌, Bool, true, false, if◌then◌else◌, [], ◌∷◌, refl, ap, subst}
 use Rattle.std.proofs.lemmas.Bool.{eqb-true}
 use Rattle.pas_profile.specs.Profiles.{IsValid}
 use Rattle.pas_profile.specs.declared.profile.Profile.{Profile}

@@ -1,5 +1,5 @@
 //! What each act owes: from a state of the text that is the replay's it leads to one that is. Each law is the contract of an empty function.
-ghost use Rattle.std.specs.Prelude.{ℕ, ◌+◌, ◌*◌, ◌<◌, ◌≡◌, List, ◌∷◌, ◌++◌, true, Ok, Err};
+ghost use Rattle.std.specs.Prelude.{ℕ, ◌+◌, ◌*◌, ◌<◌, ◌≡◌, List, [], ◌∷◌, ◌++◌, true, Ok};
 ghost use Rattle.pas_profile.specs.declared.name.Name.{Name};
 ghost use Rattle.pas_profile.specs.declared.profile.Profile.{Profile};
 ghost use Rattle.pas_trace.specs.Acts.{Act, acts_of};
@@ -45,7 +45,7 @@ ghost use Rattle.pas_core.specs.Rights.{eligible_bit, free_of_page};
 ghost use Rattle.pas_answers.specs.Answers.{Progress};
 ghost use Rattle.pas_one_text.specs.State.{World, each};
 ghost use Rattle.pas_one_text.specs.Pages.{is_free, is_kept, is_offered, has_room};
-ghost use Rattle.pas_same_text.specs.Acts.{IsBetween, IsAtRest, IsTaken, StaysSame, StaysSameWhere, HasUsableBlocks, KeepsUsable, AreEndsStamped, KeepsStamped, KeepsIndexes, HasLogRoom, HasCachedSlot};
+ghost use Rattle.pas_same_text.specs.Acts.{IsBetween, IsAtRest, StaysSame, StaysSameWhere, HasUsableBlocks, KeepsUsable, AreEndsStamped, KeepsStamped, KeepsIndexes, HasLogRoom, HasCachedSlot};
 ghost use Rattle.pas_same_text.specs.Words.{free_bit};
 
 use pas_core::laws::Fitting;
@@ -148,7 +148,7 @@ pub fn indexes_stay_the_same()
 {}
 
 /// Acts one after the other keep the text, where all actors are at rest between them: all acts but a pass, and of requests those of a class for which a slot is
-/// cached. Before the first act the text's state is the replay's.
+/// cached and bit-fit ones. Before the first act the text's state is the replay's.
 pub fn acts_stay_the_same()
     ensures start { (f : Profile) → IsSame f at_start (opened f) }
     ensures acts { (f : Profile) (acts : List Act) (p p' : Progress) (is : Reaches f acts p p') (w : World) → IsValid f → Legal f p'.list → AllAtRest f acts p p' is → AllProved f acts p p' is → HasUsableBlocks p → IsSame f p w → IsSame f p' (each (acts_on f) acts w) }
@@ -174,8 +174,7 @@ pub fn refusals_are_told()
     ensures { (f : Profile) (p : Progress) (w : World) (d : Directory) (room : NoRoom) → IsAtRest f p w → IsDirectoryOf f d → IsTrueReason f d p.list room → refusal f w d ≡ room }
 {}
 
-/// A bit-fit request that is refused changes no page: what the search took it put back, hints and offers are as they were, and nothing fits in the text either.
-pub fn refused_requests_stay_the_same()
-    ensures bitfit { (f : Profile) (line k name heap size align : ℕ) (room : NoRoom) → IsThread f k → IsAdmitted f size align heap → route_in f size align ≡ Route.Bitfit → (p p' : Progress) (w : World)
-        → (taken : IsTaken f (Act.Operates (record { line = line; actor = k; what = Alloc name heap size align })) p p' w) → taken.advances.1.answer ≡ Err room → IsSame f p' (acts_on f (Act.Operates (record { line = line; actor = k; what = Alloc name heap size align })) w) }
+/// A bit-fit request gives the lowest place of the page that is searched for, which gets a deed and memory where it has none; or it is refused, and changes no page.
+pub fn bitfit_requests_stay_the_same()
+    ensures { (f : Profile) (line k name heap size align : ℕ) → IsThread f k → IsAdmitted f size align heap → route_in f size align ≡ Route.Bitfit → StaysSame f (Act.Operates (record { line = line; actor = k; what = Alloc name heap size align })) }
 {}

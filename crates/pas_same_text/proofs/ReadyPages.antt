@@ -1,0 +1,167 @@
+-- A PAGE IS MADE READY for a block: the events of a search before a give are those of the text, by the machine's rules alone.
+use Rattle.std.proofs.Common.{◌≡◌, ◌≢◌, ℕ, ◌==◌, Bool, true, false, if◌then◌else◌, List, [], ◌∷◌, ◌++◌, map, Option, None, Some, ◌⊎◌, inl, inr, refl, ap, sym, ◌∙◌, subst}
+use Rattle.std.proofs.lemmas.Bool.{true≢false, false≢true, eq-eqb, eqb-true, false_from_ne_true}
+use Rattle.std.proofs.lemmas.Option.{same_Some}
+use Rattle.pas_profile.specs.declared.directory.Directory.{Directory}
+use Rattle.pas_profile.specs.declared.event.Event.{Event}
+use Rattle.pas_profile.specs.declared.profile.Profile.{Profile}
+use Rattle.pas_machine.specs.Machine.{Admits, Run}
+use Rattle.pas_machine.specs.State.{deed_in, backed_in}
+use Rattle.pas_steps.specs.Events.{event_of, with_event, events_by}
+use Rattle.pas_steps.specs.Views.{View, epoch_of}
+use Rattle.pas_steps.specs.declared.step.Made.{Made}
+use Rattle.pas_steps.specs.declared.step.Step.{Step}
+use Rattle.pas_search.specs.Kinds.{IsQuiet, IsDeedOrBack, EventsAt}
+use Rattle.pas_report.specs.declared.record.Record.{Record}
+use Rattle.pas_one_text.specs.State.{World, shows, live_after}
+use Rattle.pas_one_text.specs.Pages.{is_none, is_unowned}
+use Rattle.pas_one_text.specs.Searches.{deeds, backs, readies}
+use Rattle.pas_same_text.specs.Same.{lives_in}
+
+-- ---- events that are shown
+abbrev pub shown : List Event → World → World
+shown [] w = w
+shown (e ∷ es) w = shows e (shown es w)
+
+pub shown_events : (es : List Event) (w : World) → (shown es w).events ≡ es ++ w.events
+shown_events [] w = refl
+shown_events (e ∷ es) w = ap (λ (xs : List Event). e ∷ xs) (shown_events es w)
+
+pub shown_records : (es : List Event) (w : World) → (shown es w).records ≡ map Record.Event es ++ w.records
+shown_records [] w = refl
+shown_records (e ∷ es) w = ap (λ (rs : List Record). Record.Event e ∷ rs) (shown_records es w)
+
+pub shown_lives : (es : List Event) (w : World) → w.live ≡ lives_in w.events → (shown es w).live ≡ lives_in (shown es w).events
+shown_lives [] w is = is
+shown_lives (e ∷ es) w is = ap (live_after e) (shown_lives es w is)
+
+-- what else a state has
+pub record HasRest (w v : World) : Type 0 where
+  pub names : v.names ≡ w.names
+  pub caches : v.caches ≡ w.caches
+  pub hinted : v.hinted ≡ w.hinted
+  pub epoch : v.epoch ≡ w.epoch
+  pub read : v.read ≡ w.read
+
+pub shown_rest : (es : List Event) (w : World) → HasRest w (shown es w)
+shown_rest [] w = record { names = refl; caches = refl; hinted = refl; epoch = refl; read = refl }
+shown_rest (e ∷ es) w = let r = shown_rest es w in record { names = r.names; caches = r.caches; hinted = r.hinted; epoch = r.epoch; read = r.read }
+
+-- ---- events at one page
+-- its deed by actor k, or its backing
+pub data IsAtPage (k : ℕ) (d : Directory) (page : ℕ) : Event → Type 0 where
+  Deeds : IsAtPage k d page (Event.Deed k page d)
+  Backs : IsAtPage k d page (Event.Back k page)
+
+abbrev pub AllAtPage : ℕ → Directory → ℕ → List Event → Type 0
+AllAtPage k d page [] = Unit {0}
+AllAtPage k d page (e ∷ es) = IsAtPage k d page e × AllAtPage k d page es
+
+module _ (k : ℕ) (d : Directory) (page : ℕ) where
+
+  -- those of a search are
+  next_at : (epoch a : ℕ) (s : Step) (o : Option Event) (es : List Event) → event_of k epoch s a ≡ o → (event_of k epoch s a ≡ None) ⊎ IsDeedOrBack d page s → AllAtPage k d page es → AllAtPage k d page (with_event o es)
+  next_at epoch a s None es is at all = all
+  next_at epoch a s (Some e) es is (inl none) all = absurd (let bad : Some e ≡ None = sym is ∙ none in cc)
+  next_at epoch a s (Some e) es is (inr own) all = (of_own s own is, all)
+    where
+      deed_event : (t : Bool) → (if t then Some (Event.Deed k page d) else None) ≡ Some e → IsAtPage k d page e
+      deed_event true is = subst (IsAtPage k d page) (same_Some (Event.Deed k page d) e is) IsAtPage.Deeds
+      deed_event false is = absurd (let bad : None ≡ Some e = is in cc)
+
+      back_event : (t : Bool) → (if t then Some (Event.Back k page) else None) ≡ Some e → IsAtPage k d page e
+      back_event true is = subst (IsAtPage k d page) (same_Some (Event.Back k page) e is) IsAtPage.Backs
+      back_event false is = absurd (let bad : None ≡ Some e = is in cc)
+
+      of_own : (s : Step) → IsDeedOrBack d page s → event_of k epoch s a ≡ Some e → IsAtPage k d page e
+      of_own s IsDeedOrBack.Deeds is = deed_event (a == 0) is
+      of_own s IsDeedOrBack.Backs is = back_event (a == 0) is
+
+  quiet_or : (m : Made) (epoch : ℕ) → IsQuiet m ⊎ IsDeedOrBack d page m.step → (event_of k epoch m.step m.answer ≡ None) ⊎ IsDeedOrBack d page m.step
+  quiet_or m epoch (inl quiet) = inl (quiet k epoch)
+  quiet_or m epoch (inr own) = inr own
+
+  pub search_at : (v : View) (xs : List Made) → EventsAt d page xs → AllAtPage k d page (events_by k v xs)
+  search_at v [] at = tt
+  search_at v (m ∷ xs) at =
+      let epoch : ℕ = epoch_of (xs ++ v) in
+      next_at epoch m.answer m.step (event_of k epoch m.step m.answer) (events_by k v xs) refl (quiet_or m epoch at.0) (search_at v xs at.1)
+
+  -- they give and end no block
+  pub same_live : (es : List Event) (w : World) → AllAtPage k d page es → (shown es w).live ≡ w.live
+  same_live [] w all = refl
+  same_live (e ∷ es) w all = at e all.0 ∙ same_live es w all.1
+    where
+      at : (e : Event) → IsAtPage k d page e → live_after e (shown es w).live ≡ (shown es w).live
+      at e IsAtPage.Deeds = refl
+      at e IsAtPage.Backs = refl
+
+  -- they leave the other pages' deeds
+  pub deed_beside : (q : ℕ) (es base : List Event) → page ≢ q → AllAtPage k d page es → deed_in (es ++ base) q ≡ deed_in base q
+  deed_beside q [] base ne all = refl
+  deed_beside q (e ∷ es) base ne all = at e all.0 ∙ deed_beside q es base ne all.1
+    where
+      at : (e : Event) → IsAtPage k d page e → deed_in (e ∷ (es ++ base)) q ≡ deed_in (es ++ base) q
+      at e IsAtPage.Deeds = ap (λ (t : Bool). if t then Some d else deed_in (es ++ base) q) (false_from_ne_true (page == q) (λ same. ne (eqb-true page q same)))
+      at e IsAtPage.Backs = refl
+
+  -- ---- none but those that are due
+  is_there : Option Directory → Bool
+  is_there None = false
+  is_there (Some x) = true
+
+  deed_there : (o : Option Directory) → (if page == page then Some d else o) ≡ None → ⊥
+  unfolding is_there
+  deed_there o none = false≢true (sym (ap is_there none) ∙ ap (λ (t : Bool). is_there (if t then Some d else o)) (eq-eqb page page refl))
+
+  none_before : (f : Profile) (es base : List Event) → AllAtPage k d page es → Run f (es ++ base) → deed_in (es ++ base) page ≡ None → es ≡ []
+  none_before f [] base all run none = refl
+  none_before f (e ∷ es) base all run none = absurd (at e all.0 run.0 none)
+    where
+      at : (e : Event) → IsAtPage k d page e → Admits f (es ++ base) e → deed_in (e ∷ (es ++ base)) page ≡ None → ⊥
+      at e IsAtPage.Deeds may none = deed_there (deed_in (es ++ base) page) none
+      at e IsAtPage.Backs may none = may.1 none
+
+  unowned : (w : World) → deed_in w.events page ≡ None → deeds k d page w ≡ shows (Event.Deed k page d) w
+  unowned w none = ap (λ (o : Option Directory). if is_none o then shows (Event.Deed k page d) w else w) none
+
+  owned : (w : World) → deed_in w.events page ≢ None → deeds k d page w ≡ w
+  owned w some = at (deed_in w.events page) some
+    where
+      at : (o : Option Directory) → o ≢ None → (if is_none o then shows (Event.Deed k page d) w else w) ≡ w
+      at None some = absurd (some refl)
+      at (Some e) some = refl
+
+  was_backed : (w : World) → backed_in w.events page ≡ true → backs k page w ≡ w
+  was_backed w is = ap (λ (t : Bool). if t then w else shows (Event.Back k page) w) is
+
+  unbacked : (w : World) → backed_in w.events page ≡ false → backs k page w ≡ shows (Event.Back k page) w
+  unbacked w is = ap (λ (t : Bool). if t then w else shows (Event.Back k page) w) is
+
+  -- before the backing there is the deed alone, or nothing
+  back_there : (es : List Event) → backed_in (Event.Back k page ∷ es) page ≡ false → ⊥
+  back_there es none = true≢false (sym (ap (λ (t : Bool). if t then true else backed_in es page) (eq-eqb page page refl)) ∙ none)
+
+  deeded : (f : Profile) (es : List Event) (w : World) → AllAtPage k d page es → Run f (es ++ w.events) → deed_in (es ++ w.events) page ≢ None → backed_in (es ++ w.events) page ≡ false → deeds k d page w ≡ shown es w
+  deeded f [] w all run some none = owned w some
+  deeded f (e ∷ es) w all run some none = at e all.0 run.0 none
+    where
+      at : (e : Event) → IsAtPage k d page e → Admits f (es ++ w.events) e → backed_in (e ∷ (es ++ w.events)) page ≡ false → deeds k d page w ≡ shown (e ∷ es) w
+      at e IsAtPage.Deeds may none =
+          let empty : es ≡ [] = none_before f es w.events all.1 run.1 may.2 in
+          unowned w (ap (λ (xs : List Event). deed_in (xs ++ w.events) page) (sym empty) ∙ may.2) ∙ ap (λ (xs : List Event). shows (Event.Deed k page d) (shown xs w)) (sym empty)
+      at e IsAtPage.Backs may none = absurd (back_there (es ++ w.events) none)
+
+  -- THE PAGE IS READY: it got a deed and memory exactly where it had none
+  pub readied : (f : Profile) (es : List Event) (w : World) → AllAtPage k d page es → Run f (es ++ w.events) → deed_in (es ++ w.events) page ≢ None → backed_in (es ++ w.events) page ≡ true → readies k d page w ≡ shown es w
+  readied f [] w all run some backed = ap (backs k page) (owned w some) ∙ was_backed w backed
+  readied f (e ∷ es) w all run some backed = at e all.0 run.0 backed
+    where
+      at : (e : Event) → IsAtPage k d page e → Admits f (es ++ w.events) e → backed_in (e ∷ (es ++ w.events)) page ≡ true → readies k d page w ≡ shown (e ∷ es) w
+      at e IsAtPage.Deeds may backed =
+          let empty : es ≡ [] = none_before f es w.events all.1 run.1 may.2 in
+          let none : deed_in w.events page ≡ None = ap (λ (xs : List Event). deed_in (xs ++ w.events) page) (sym empty) ∙ may.2 in
+          let still : backed_in w.events page ≡ true = ap (λ (xs : List Event). backed_in (xs ++ w.events) page) (sym empty) ∙ backed in
+          ap (backs k page) (unowned w none) ∙ (was_backed (shows (Event.Deed k page d) w) still ∙ ap (λ (xs : List Event). shows (Event.Deed k page d) (shown xs w)) (sym empty))
+      at e IsAtPage.Backs may backed =
+          ap (backs k page) (deeded f es w all.1 run.1 may.1 may.2) ∙ unbacked (shown es w) (ap (λ (xs : List Event). backed_in xs page) (shown_events es w) ∙ may.2)
