@@ -506,15 +506,31 @@ impl Reader {
         requires line { self.old.line < 2 ^ 25 }
         ensures { (items : List Item) (line : List ℕ) → Tells self.old items → item_of_line self.old.header.version self.old.started line ≡ Ok item.now → IsTaken self.old items line self.new result }
     {
-        match item {
+        match *item {
             Item::Operates {
-                wish: Wish::Asks { .. },
-                ..
-            } => self.take_item(*item),
+                thread,
+                wish: Wish::Asks {
+                    name,
+                    heap,
+                    size,
+                    align,
+                },
+            } => {
+                let wish = Wish::Asks {
+                    name,
+                    heap,
+                    size,
+                    align,
+                };
+                self.take_item(Item::Operates { thread, wish })
+            }
             Item::Operates {
-                wish: Wish::Frees { .. },
-                ..
-            } => self.take_item(*item),
+                thread,
+                wish: Wish::Frees { name },
+            } => {
+                let wish = Wish::Frees { name };
+                self.take_item(Item::Operates { thread, wish })
+            }
             _ => self.take_rare(*item),
         }
     }
