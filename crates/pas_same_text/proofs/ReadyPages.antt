@@ -58,7 +58,6 @@ AllAtPage k d page [] = Unit {0}
 AllAtPage k d page (e ∷ es) = IsAtPage k d page e × AllAtPage k d page es
 
 module _ (k : ℕ) (d : Directory) (page : ℕ) where
-
   -- those of a search are
   next_at : (epoch a : ℕ) (s : Step) (o : Option Event) (es : List Event) → event_of k epoch s a ≡ o → (event_of k epoch s a ≡ None) ⊎ IsDeedOrBack d page s → AllAtPage k d page es → AllAtPage k d page (with_event o es)
   next_at epoch a s None es is at all = all

@@ -69,8 +69,8 @@ module _ (f : Profile) (k : ℕ) (l : Whole) where
   stays_used g (m ∷ xs) legal lends due used =
       let before = stays_used g xs legal.1 lends.1 due.1 used in
       let moved = step_moves m.step m.answer g (free_bit (triples k xs ++ l) g) (holds xs g) lends.0
-          (λ page word mask is here. ap (λ (n : ℕ). has_bit n (g % 64)) (legal.0.answer_is ∙ (ap (λ (s : Step). word_after (triples k xs ++ l) (target s)) is ∙ ap (word_after (triples k xs ++ l)) (mask_word page word mask g here))))
-          (λ page word mask is here. due.0.1.1 page word mask g is here) before.0 before.1 in
+      (λ page word mask is here. ap (λ (n : ℕ). has_bit n (g % 64)) (legal.0.answer_is ∙ (ap (λ (s : Step). word_after (triples k xs ++ l) (target s)) is ∙ ap (word_after (triples k xs ++ l)) (mask_word page word mask g here))))
+      (λ page word mask is here. due.0.1.1 page word mask g is here) before.0 before.1 in
       (free_step f (triples k xs ++ l) (epoch_of (part k (triples k xs ++ l))) m.step m.answer g legal.0.of_region legal.0.answer_is ∙ moved.0, moved.1)
 
   -- ---- A GRAIN THAT WAS FREE before the search was read as free: it is free, or the call holds it
