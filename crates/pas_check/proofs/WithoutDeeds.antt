@@ -17,14 +17,14 @@ use Rattle.pas_machine.proofs.LiveBlocks.{all_counted}
 use Rattle.pas_report.proofs.Counting.{grains_counted, sum_same}
 use Rattle.pas_report.specs.Reports.{live_on}
 use Rattle.pas_check.specs.Shown.{given_on}
-use Rattle.pas_check.proofs.OneNext.{has_first}
+use Rattle.pas_bits.proofs.Runs.{first_of_run}
 
 -- ---- a block is given only where there is a deed
 deed_under : (f : Profile) (es : List Event) (block : Block) → MayGive f es block → deed_in es (address_of block.name / 4096) ≢ None
 deed_under f es block may none =
     let some : 0 < block.room = may.some in
     let whole : block.room % 16 ≡ 0 = may.whole in
-    let bears = may.bears (grain_of block.name) (has_first (grain_of block.name) (length_of block) (omega (arith, some, whole))) in
+    let bears = may.bears (grain_of block.name) (first_of_run (grain_of block.name) (length_of block) (omega (arith, some, whole))) in
     let here : address_of block.name / 4096 ≡ grain_of block.name / 256 = omega arith in
     none-some bears.directory (sym none ∙ ap (deed_in es) here ∙ bears.deed)
 
