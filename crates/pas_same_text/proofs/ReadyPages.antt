@@ -14,7 +14,7 @@ use Rattle.pas_steps.specs.declared.step.Step.{Step}
 use Rattle.pas_search.specs.Kinds.{IsQuiet, IsDeedOrBack, EventsAt}
 use Rattle.pas_report.specs.declared.record.Record.{Record}
 use Rattle.pas_one_text.specs.State.{World, shows, live_after}
-use Rattle.pas_one_text.specs.Pages.{is_none, is_unowned}
+use Rattle.pas_one_text.specs.Pages.{is_none}
 use Rattle.pas_one_text.specs.Searches.{deeds, backs, readies}
 use Rattle.pas_same_text.specs.Same.{lives_in}
 
@@ -58,7 +58,6 @@ AllAtPage k d page [] = Unit {0}
 AllAtPage k d page (e ∷ es) = IsAtPage k d page e × AllAtPage k d page es
 
 module _ (k : ℕ) (d : Directory) (page : ℕ) where
-
   -- those of a search are
   next_at : (epoch a : ℕ) (s : Step) (o : Option Event) (es : List Event) → event_of k epoch s a ≡ o → (event_of k epoch s a ≡ None) ⊎ IsDeedOrBack d page s → AllAtPage k d page es → AllAtPage k d page (with_event o es)
   next_at epoch a s None es is at all = all
