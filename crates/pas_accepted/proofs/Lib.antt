@@ -1,6 +1,5 @@
 mod Going
 mod Pieces
-mod NamesOfBlocks
 mod LogEntries
 mod Telling
 mod FlushKinds

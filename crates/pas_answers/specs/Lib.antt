@@ -1,4 +1,3 @@
-pub mod Named
 pub mod Answers
 pub mod Reaching
 pub mod Ways

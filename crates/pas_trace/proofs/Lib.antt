@@ -20,3 +20,4 @@ pub mod OperationsOfItems
 pub mod EveryPlan
 pub mod EveryPhase
 pub mod OperationCounts
+pub mod ThreadsInOrder
