@@ -1,13 +1,13 @@
 -- WHERE A BIT-FIT BLOCK FITS on a page: in the text exactly where it does by the free grains of the replay.
-use Rattle.std.proofs.Common.{◌≡◌, ℕ, suc, ◌+◌, ◌*◌, ◌/◌, ◌%◌, ◌<◌, ◌≤◌, ◌==◌, nat_le, nat_lt, Bool, true, false, not, ◌&&◌, ◌||◌, List, [], ◌∷◌, refl, ap, sym, ◌∙◌, arith}
-use Rattle.std.proofs.lemmas.Bool.{true≢false, false≢true, eq-eqb, eqb-true, cases_Bool, and_from, false_from_ne_true}
+use Rattle.std.proofs.Common.{◌≡◌, ℕ, suc, ◌+◌, ◌*◌, ◌/◌, ◌%◌, ◌<◌, ◌≤◌, ◌==◌, nat_le, nat_lt, Bool, true, false, not, ◌&&◌, ◌||◌, [], ◌∷◌, refl, ap, sym, ◌∙◌, arith}
+use Rattle.std.proofs.lemmas.Bool.{true≢false, eq-eqb, eqb-true, and_from, false_from_ne_true}
 use Rattle.std.proofs.lemmas.Bool.Decides.{nat_tests}
 use Rattle.std.proofs.lemmas.Nat.{div_below, mul-le}
 use Rattle.std.proofs.Math.Nat.{mul-mod_left, mod-add-div', suc-mul}
 use Rattle.std.specs.List.{list_any, filter}
 use Rattle.pas_bits.specs.Bits.{has_bit}
 use Rattle.pas_profile.specs.Classes.{IsAlignment}
-use Rattle.pas_profile.specs.Profiles.{IsValid, IsPage}
+use Rattle.pas_profile.specs.Profiles.{IsValid}
 use Rattle.pas_profile.specs.declared.profile.Profile.{Profile}
 use Rattle.pas_profile.proofs.Sizes.{passes_below, passes_at}
 use Rattle.pas_steps.specs.Effects.{free_word_at}
@@ -25,7 +25,6 @@ use Rattle.pas_one_text.specs.Runs.{lowest_place}
 use Rattle.pas_same_text.specs.Same.{HasSame}
 use Rattle.pas_same_text.specs.Acts.{IsBetween}
 use Rattle.pas_same_text.specs.Searched.{FitsSame}
-use Rattle.pas_same_text.specs.Words.{free_bit}
 use Rattle.pas_same_text.proofs.FreeGrains.{free_same}
 use Rattle.pas_same_text.proofs.GivenBack.{each_at, each_all}
 use Rattle.pas_same_text.proofs.SpacedPlaces.{some_first, some_filtered, in_spaced, from_spaced, first_spaced}

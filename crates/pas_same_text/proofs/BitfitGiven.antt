@@ -1,5 +1,5 @@
 -- A BIT-FIT REQUEST THAT IS SERVED: the page that was searched for gets a deed and memory where it has none, and the lowest place on it is given.
-use Rattle.std.proofs.Common.{◌≡◌, ◌≢◌, ℕ, ◌+◌, ◌*◌, ◌/◌, ◌%◌, ◌<◌, ◌≤◌, ◌==◌, Bool, true, false, not, ◌&&◌, ◌||◌, if◌then◌else◌, List, [], ◌∷◌, ◌++◌, Option, None, Some, Result, Ok, Err, ◌⊎◌, inl, inr, refl, ap, sym, ◌∙◌, subst, arith, append_assoc}
+use Rattle.std.proofs.Common.{◌≡◌, ◌≢◌, ℕ, ◌+◌, ◌*◌, ◌/◌, ◌%◌, ◌<◌, ◌≤◌, ◌==◌, Bool, true, false, not, ◌&&◌, ◌||◌, if◌then◌else◌, List, [], ◌∷◌, ◌++◌, Option, None, Some, Result, Ok, ◌⊎◌, inl, inr, refl, ap, sym, ◌∙◌, subst, arith, append_assoc}
 use Rattle.std.proofs.lemmas.Bool.{true≢false, false≢true, eq-eqb, false_from_ne_true}
 use Rattle.std.specs.List.{flat_map, filter}
 use Rattle.pas_bits.specs.Bits.{has_bit}
@@ -17,8 +17,8 @@ use Rattle.pas_profile.specs.declared.name.Block.{Block}
 use Rattle.pas_profile.specs.declared.profile.Profile.{Profile}
 use Rattle.pas_profile.specs.declared.word.Word.TheVariants as Word
 use Rattle.pas_profile.proofs.Codecs.{deed_word_of-positive, same_from_deed_word}
-use Rattle.pas_machine.specs.Machine.{Run, MayGive, Bears}
-use Rattle.pas_machine.specs.State.{Live, live_in, deed_in, backed_in, gives_in}
+use Rattle.pas_machine.specs.Machine.{Run, Bears}
+use Rattle.pas_machine.specs.State.{Live, live_in, deed_in, gives_in}
 use Rattle.pas_steps.specs.Agreement.{Agreed}
 use Rattle.pas_steps.specs.Calls.{Kept, Gained}
 use Rattle.pas_steps.specs.Calls.{now as has_now}
@@ -47,10 +47,10 @@ use Rattle.pas_rights.specs.Gives.{give_steps}
 use Rattle.pas_rights.specs.Looks.{ReadsAllFree}
 use Rattle.pas_rights.proofs.Hints.{leave_due}
 use Rattle.pas_rights.proofs.Orders.{leave_returns}
-use Rattle.pas_search.specs.Kinds.{IsReturnOf, KeepsMarks, AreSearch, searching}
+use Rattle.pas_search.specs.Kinds.{IsReturnOf, KeepsMarks, searching}
 use Rattle.pas_search.specs.Searches.{MaySearch}
 use Rattle.pas_choice.specs.Allocates.{IsGiven}
-use Rattle.pas_bitfit.specs.Allocates.{run_for, IsAllocated}
+use Rattle.pas_bitfit.specs.Allocates.{run_for}
 use Rattle.pas_bitfit.specs.Runs.{Fits, NoneFits, IsLowestFit, fewer_runs, run_at}
 use Rattle.pas_bitfit.specs.Runs.{runs as run_choice}
 use Rattle.pas_cache.specs.Contents.{Cached}
@@ -64,11 +64,11 @@ use Rattle.pas_answers.specs.Answers.{Progress, Named, named, Answer, having, Is
 use Rattle.pas_answers.specs.Answers.{block_of as block_answered}
 use Rattle.pas_answers.specs.Answers.{with_cache as with_cached}
 use Rattle.pas_one_text.specs.State.{World, Local, Cache}
-use Rattle.pas_one_text.specs.Pages.{is_covered, is_free_of, is_free, is_cached, blocks_on, locals_on, is_offered, has_room}
+use Rattle.pas_one_text.specs.Pages.{is_covered, is_free_of, is_free, is_cached, locals_on, is_offered}
 use Rattle.pas_one_text.specs.Searches.{searched, readies, address_on, gives}
 use Rattle.pas_one_text.specs.Runs.{bitfit_of, lowest_place, gives_place, places}
 use Rattle.pas_one_text.specs.Order.{serves}
-use Rattle.pas_same_text.specs.Same.{IsSame, HasSame, AreSameCaches, lives_in}
+use Rattle.pas_same_text.specs.Same.{IsSame, HasSame, AreSameCaches}
 use Rattle.pas_same_text.specs.Acts.{IsBetween}
 use Rattle.pas_same_text.specs.Searched.{IsSearch}
 use Rattle.pas_same_text.specs.Words.{free_bit}

@@ -1,8 +1,7 @@
 -- A BIT-FIT REQUEST. One that is refused changes no page, and nothing fits in the text either.
-use Rattle.std.proofs.Common.{◌≡◌, ℕ, ◌+◌, ◌/◌, ◌<◌, ◌≤◌, Bool, true, false, ◌&&◌, if◌then◌else◌, List, [], ◌∷◌, ◌++◌, Option, None, Some, Result, Ok, Err, refl, ap, sym, ◌∙◌, subst, arith}
+use Rattle.std.proofs.Common.{◌≡◌, ℕ, ◌+◌, ◌/◌, ◌<◌, ◌≤◌, true, false, ◌&&◌, List, ◌∷◌, ◌++◌, Option, None, Some, Result, Ok, Err, refl, ap, sym, ◌∙◌, subst, arith}
 use Rattle.std.proofs.lemmas.Bool.{false≢true, false_from_ne_true}
 use Rattle.std.specs.List.{find}
-use Rattle.pas_profile.specs.Directories.{number_of}
 use Rattle.pas_profile.specs.Profiles.{IsValid, IsAdmitted, IsDirectoryOf}
 use Rattle.pas_profile.specs.Requests.{route_in, room_in, is_shared, kind_of_route, directory_for}
 use Rattle.pas_profile.specs.declared.directory.Directory.{Directory}
@@ -11,20 +10,17 @@ use Rattle.pas_profile.specs.declared.event.Event.{Event}
 use Rattle.pas_profile.specs.declared.event.NoRoom.{NoRoom}
 use Rattle.pas_profile.specs.declared.name.Block.{Block}
 use Rattle.pas_profile.specs.declared.profile.Profile.{Profile}
-use Rattle.pas_profile.specs.declared.word.Word.TheVariants as Word
 use Rattle.pas_machine.specs.State.{deed_in}
 use Rattle.pas_steps.specs.Desks.{triples}
 use Rattle.pas_steps.specs.Evidence.{Readings}
-use Rattle.pas_steps.specs.Lists.{Whole, part, word_after, visible, Legal}
+use Rattle.pas_steps.specs.Lists.{part, Legal}
 use Rattle.pas_steps.specs.declared.step.Made.{Made}
 use Rattle.pas_core.specs.Fits.{HasNoFit}
 use Rattle.pas_core.specs.Good.{word_of_deed}
-use Rattle.pas_core.specs.Rights.{free_of_page}
 use Rattle.pas_core.proofs.Deeds.{deed_of}
 use Rattle.pas_bitfit.specs.Allocates.{run_for}
 use Rattle.pas_bitfit.specs.Runs.{NoneFits}
 use Rattle.pas_search.specs.Kinds.{AreSearch, AreQuiet}
-use Rattle.pas_search.specs.Searches.{IsRefused}
 use Rattle.pas_search.specs.Telling.{IsTrueReason}
 use Rattle.pas_cache.specs.Contents.{Cached}
 use Rattle.pas_cache.specs.Refusals.{IsTrulyRefusedBy}
@@ -40,7 +36,7 @@ use Rattle.pas_answers.specs.Answers.{block_of as block_answered}
 use Rattle.pas_one_text.specs.State.{World}
 use Rattle.pas_one_text.specs.Pages.{page_numbers, is_none, is_unowned, is_offered}
 use Rattle.pas_one_text.specs.Searches.{some_of, page_or, refusal, refuses, searched}
-use Rattle.pas_one_text.specs.Runs.{bitfit_of, lowest_place, places, serves_bitfit}
+use Rattle.pas_one_text.specs.Runs.{bitfit_of, lowest_place, places}
 use Rattle.pas_one_text.specs.Order.{serves}
 use Rattle.pas_same_text.specs.Same.{IsSame, HasSame, ArePagesSame}
 use Rattle.pas_same_text.specs.Acts.{IsBetween, StaysSame}

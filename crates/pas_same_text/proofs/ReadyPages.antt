@@ -14,7 +14,7 @@ use Rattle.pas_steps.specs.declared.step.Step.{Step}
 use Rattle.pas_search.specs.Kinds.{IsQuiet, IsDeedOrBack, EventsAt}
 use Rattle.pas_report.specs.declared.record.Record.{Record}
 use Rattle.pas_one_text.specs.State.{World, shows, live_after}
-use Rattle.pas_one_text.specs.Pages.{is_none, is_unowned}
+use Rattle.pas_one_text.specs.Pages.{is_none}
 use Rattle.pas_one_text.specs.Searches.{deeds, backs, readies}
 use Rattle.pas_same_text.specs.Same.{lives_in}
 

@@ -1,5 +1,5 @@
 -- THE REASON of a refusal: where it is true of the whole state, it is the one that the text says.
-use Rattle.std.proofs.Common.{◌≡◌, ℕ, ◌<◌, ◌==◌, Bool, true, false, ◌&&◌, List, Option, Some, inl, inr, refl, ap, sym, ◌∙◌, arith}
+use Rattle.std.proofs.Common.{◌≡◌, ℕ, Bool, true, ◌&&◌, List, Some, inl, inr, refl, ap, sym, ◌∙◌, arith}
 use Rattle.std.proofs.lemmas.Bool.{true≢false, eq-eqb, and_from, false_from_ne_true}
 use Rattle.pas_profile.specs.Directories.{number_of, deed_word_of}
 use Rattle.pas_profile.specs.Profiles.{IsValid, IsDirectoryOf}

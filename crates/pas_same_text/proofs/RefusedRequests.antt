@@ -1,13 +1,12 @@
 -- A REQUEST THAT IS REFUSED after a search: no page changes, and the reason is that of the text.
-use Rattle.std.proofs.Common.{◌≡◌, ◌≢◌, ℕ, suc, ◌<◌, List, [], ◌∷◌, ◌++◌, Option, None, Some, ◌⊎◌, inl, refl, ap, sym, ◌∙◌, subst, arith}
+use Rattle.std.proofs.Common.{◌≡◌, ◌≢◌, ℕ, suc, List, [], ◌∷◌, ◌++◌, None, Some, ◌⊎◌, inl, refl, ap, sym, ◌∙◌, subst, arith}
 use Rattle.pas_profile.specs.Profiles.{IsValid, IsDirectoryOf}
 use Rattle.pas_profile.specs.declared.directory.Directory.{Directory}
 use Rattle.pas_profile.specs.declared.event.Event.{Event}
 use Rattle.pas_profile.specs.declared.event.NoRoom.{NoRoom}
 use Rattle.pas_profile.specs.declared.profile.Profile.{Profile}
-use Rattle.pas_steps.specs.Desks.{triples}
 use Rattle.pas_steps.specs.Events.{events_by}
-use Rattle.pas_steps.specs.Lists.{Whole, part, visible}
+use Rattle.pas_steps.specs.Lists.{part, visible}
 use Rattle.pas_steps.specs.declared.step.Made.{Made}
 use Rattle.pas_steps.proofs.Apart.{only_within}
 use Rattle.pas_steps.proofs.Past.{always_map}

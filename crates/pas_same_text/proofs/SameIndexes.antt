@@ -1,5 +1,5 @@
 -- THE INDEXES: each act changes those of the text as it changes those of a replay.
-use Rattle.std.proofs.Common.{◌≡◌, ℕ, zero, suc, ◌+◌, ◌*◌, ◌%◌, ◌/◌, ◌==◌, nat_le, nat_lt, Bool, true, false, not, ◌&&◌, if◌then◌else◌, List, [], ◌∷◌, ◌++◌, length, map, replicate, Option, None, Some, Result, Ok, Err, refl, ap, sym, ◌∙◌, subst}
+use Rattle.std.proofs.Common.{◌≡◌, ℕ, zero, suc, ◌+◌, ◌*◌, ◌%◌, ◌/◌, ◌==◌, nat_le, nat_lt, Bool, true, false, ◌&&◌, if◌then◌else◌, List, [], ◌∷◌, length, map, Option, None, Some, Result, Ok, Err, refl, ap, ◌∙◌}
 use Rattle.pas_profile.specs.Blocks.{address_of}
 use Rattle.pas_profile.specs.Requests.{route_in, room_in, class_home, is_shared}
 use Rattle.pas_profile.specs.declared.directory.Directory.{Directory}
@@ -13,7 +13,7 @@ use Rattle.pas_profile.specs.declared.name.Block.{Block}
 use Rattle.pas_profile.specs.declared.name.Name.{Name}
 use Rattle.pas_profile.specs.declared.profile.Profile.{Profile}
 use Rattle.pas_machine.specs.State.{backed_in}
-use Rattle.pas_large.specs.Doors.{Indexes, no_ranges, cut_in, added_in}
+use Rattle.pas_large.specs.Doors.{Indexes, no_ranges}
 use Rattle.pas_large_index.specs.declared.span.Span.{Span}
 use Rattle.pas_free_log.specs.Logs.{entry_of, sized_entry}
 use Rattle.pas_free_log.specs.declared.log.Entry.{Entry}
@@ -21,20 +21,19 @@ use Rattle.pas_free_log.specs.declared.noting.EndedRun.{EndedRun}
 use Rattle.pas_report.specs.declared.record.Record.{Record}
 use Rattle.pas_report.specs.declared.record.Said.{Said}
 use Rattle.pas_trace.specs.Acts.{Act, numbers_from}
-use Rattle.pas_trace.specs.EveryPlan.{IsThread}
 use Rattle.pas_trace.specs.declared.plan.What.{What}
 use Rattle.pas_answers.specs.Answers.{Progress, Named, standing_for, suits, request_for}
 use Rattle.pas_answers.specs.Indexes.{unless_suited, request_made, request_by, after_request, after_operation, with_noted, indexes_after}
 use Rattle.pas_answers.specs.Calls.{block_behind}
-use Rattle.pas_one_text.specs.State.{World, Local, each, shows, says, names_it, block_at, cache_of, locals_of, log_of, noted_of, set_log, set_locals, set_noted}
+use Rattle.pas_one_text.specs.State.{World, Local, each, shows, says, block_at, cache_of, locals_of, log_of, noted_of, set_log, set_locals, set_noted}
 use Rattle.pas_one_text.specs.Pages.{page_numbers, is_empty, is_unowned, is_hinted, hints, minds}
 use Rattle.pas_one_text.specs.Searches.{some_of, searched, deeds, backs, readies}
-use Rattle.pas_one_text.specs.Indexes.{notes, indexes_run, settles, loses_named, named_first}
-use Rattle.pas_one_text.specs.Classes.{slots_for, gives_up, gives_up_first, gives_first, local_on, takes_page, fetches, makes_place, serves_class_by, serves_class, others, is_for}
-use Rattle.pas_one_text.specs.Runs.{bitfit_of, large_of, lowest_place, gives_place, places, serves_bitfit, gives_pages, serves_run, run_or, named_run, lowest_run, serves_pages}
-use Rattle.pas_one_text.specs.Frees.{pages_of, reason, is_other_room, ends_block, rejects, ends_if, takes_effect, ends, flushes, stops, adds, logs, refuses_free, frees, frees_what}
+use Rattle.pas_one_text.specs.Indexes.{notes, indexes_run, loses_named}
+use Rattle.pas_one_text.specs.Classes.{slots_for, gives_up, gives_up_first, gives_first, local_on, takes_page, fetches, makes_place, serves_class_by, others, is_for}
+use Rattle.pas_one_text.specs.Runs.{bitfit_of, large_of, lowest_place, gives_place, places, serves_run, run_or, named_run, lowest_run}
+use Rattle.pas_one_text.specs.Frees.{pages_of, reason, is_other_room, ends_block, rejects, ends_if, takes_effect, ends, flushes, stops, logs, refuses_free, frees, frees_what}
 use Rattle.pas_one_text.specs.Order.{serves, keeps_block, logs_replaced, replaces, remakes, operates, acts_on, opened}
-use Rattle.pas_one_text.specs.Passes.{outcome_of, hint_after, line_after, comes_to, examines, passes, stops_idle}
+use Rattle.pas_one_text.specs.Passes.{outcome_of, comes_to, examines, passes}
 use Rattle.std.specs.List.{find, filter}
 use Rattle.pas_same_text.specs.Acts.{IsTaken, HandsOnOwn, KeepsIndexes}
 

@@ -5,7 +5,7 @@ use Rattle.std.proofs.lemmas.Bool.{true≢false, false≢true, eqb-true, false_f
 use Rattle.std.proofs.lemmas.Option.{same_Some}
 use Rattle.pas_bits.specs.Bits.{has_bit}
 use Rattle.pas_profile.specs.Directories.{number_of, deed_word_of, deed_word_numbered}
-use Rattle.pas_profile.specs.Profiles.{IsValid, IsDirectoryOf}
+use Rattle.pas_profile.specs.Profiles.{IsDirectoryOf}
 use Rattle.pas_profile.specs.declared.directory.Directory.{Directory}
 use Rattle.pas_profile.specs.declared.event.Event.{Event}
 use Rattle.pas_profile.specs.declared.profile.Profile.{Profile}
@@ -18,17 +18,16 @@ use Rattle.pas_steps.specs.Evidence.{Readings, ReadsFree, ShowsHere, GetsRight, 
 use Rattle.pas_steps.specs.Kinds.{kind_of, is_in, lending}
 use Rattle.pas_steps.specs.Lists.{Whole, part, word_after, visible, Legal}
 use Rattle.pas_steps.specs.Past.{Once, Always}
-use Rattle.pas_steps.specs.Views.{Move, Stays, Gets, Puts, grain_move, held_after, holds, epoch_of}
+use Rattle.pas_steps.specs.Views.{Stays, Gets, Puts, grain_move, held_after, holds, epoch_of}
 use Rattle.pas_steps.specs.declared.step.Made.{Made}
 use Rattle.pas_steps.specs.declared.step.Step.{Step}
-use Rattle.pas_steps.specs.declared.step.Step.TheVariants.{Look, Deed, Back, Take, Put, Give, End, EndSized, TakeRight, Offer, Hint}
+use Rattle.pas_steps.specs.declared.step.Step.TheVariants.{Deed, Back, Take, Put, Give, End, EndSized}
 use Rattle.pas_steps.proofs.Past.{since_once}
 use Rattle.pas_core.specs.Good.{word_of_deed, word_of_backed}
 use Rattle.pas_core.specs.Hints.{IsEmptyBacked}
 use Rattle.pas_core.specs.Rights.{eligible_bit}
 use Rattle.pas_core.proofs.Deeds.{deed_of, number_told, backed_of}
 use Rattle.pas_core.proofs.Grains.{free_moved, free_step}
-use Rattle.pas_core.proofs.MachineRuns.{one_backed}
 use Rattle.pas_core.proofs.OneActor.{LendsNone}
 use Rattle.pas_core.proofs.Rights.{offered_has_deed}
 use Rattle.pas_rights.specs.Looks.{ReadsBacked, ReadsAllFree, TakesNone, ReadsEmpty}

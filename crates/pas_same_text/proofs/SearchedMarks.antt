@@ -1,5 +1,5 @@
 -- THE MARKS of pages after a request that searched, from one state where all actors are at rest to another: of each page but the one that serves.
-use Rattle.std.proofs.Common.{◌≡◌, ◌≢◌, ℕ, ◌+◌, ◌<◌, ◌==◌, Bool, true, List, [], ◌∷◌, ◌++◌, Some, ◌⊎◌, inl, inr, refl, ap, sym, ◌∙◌, subst}
+use Rattle.std.proofs.Common.{◌≡◌, ◌≢◌, ℕ, ◌<◌, ◌==◌, true, List, [], ◌∷◌, ◌++◌, Some, ◌⊎◌, inl, inr, refl, ap, sym, ◌∙◌, subst}
 use Rattle.std.proofs.lemmas.Bool.{cases_eq}
 use Rattle.std.specs.List.{list_any}
 use Rattle.pas_profile.specs.Directories.{number_of}
@@ -17,13 +17,13 @@ use Rattle.pas_steps.specs.declared.step.Made.{Made}
 use Rattle.pas_steps.proofs.Sets.{same_truth}
 use Rattle.pas_core.specs.Rights.{empty_bit, eligible_bit}
 use Rattle.pas_core.proofs.Offers.{hinted_at_rest}
-use Rattle.pas_core.proofs.OneActor.{LendsNone, lends_none, legal_before, legal_earlier}
+use Rattle.pas_core.proofs.OneActor.{LendsNone, lends_none, legal_earlier}
 use Rattle.pas_core.proofs.Rights.{right_in_one_place}
 use Rattle.pas_search.specs.Kinds.{IsReturnOf, ReturnsDuly, EventsAt, AreSearch, searching}
 use Rattle.pas_cache.specs.Kinds.{allocating}
 use Rattle.pas_answers.specs.Answers.{Progress}
 use Rattle.pas_one_text.specs.State.{World}
-use Rattle.pas_one_text.specs.Pages.{is_free, is_hinted, is_offered, has_room}
+use Rattle.pas_one_text.specs.Pages.{is_free, is_hinted, is_offered}
 use Rattle.pas_same_text.specs.Same.{HasSame, ArePagesSame}
 use Rattle.pas_same_text.specs.Acts.{IsBetween}
 use Rattle.pas_same_text.proofs.GivenPages.{room_grows, had_room}

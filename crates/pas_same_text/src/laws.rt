@@ -169,7 +169,7 @@ pub fn searches_choose_the_same<W: Fitting>(wanted: &W)
     ensures deed { (f : Profile) (d : Directory) (k : ℕ) (p : Progress) (w : World) (fits : ℕ → List ℕ) (steps : List Made) (page : ℕ) → IsSearch (W.no_fit wanted.now) f d k p steps w fits → IsPage f page → ByDeed (W.no_fit wanted.now) f d page steps → searched f w d fits ≡ Ok page }
 {}
 
-/// A refusal says in the text what is true of the whole state: the lowest page of the directory that a cache keeps, or that there is none.
+/// A refusal says in the text what is true of the whole state: the lowest page of the directory that is in a cache's hands, or that there is none.
 pub fn refusals_are_told()
     ensures { (f : Profile) (p : Progress) (w : World) (d : Directory) (room : NoRoom) → IsAtRest f p w → IsDirectoryOf f d → IsTrueReason f d p.list room → refusal f w d ≡ room }
 {}
