@@ -55,6 +55,8 @@ LINES = [
     (r"(\d+) held (\d+) name (\d+)", "held_of"),
     (r"(\d+) skipped name (\d+)", "skipped_of"),
     (r"(\d+) kept (0x\w+) turn (\d+) name (\d+)", "kept_of"),
+    (r"(\d+) guarded (\d+) (\d+) name (\d+)", "guarded_of"),
+    (r"(\d+) lowered (\d+) (\d+)", "lowered_of"),
     (r"0 tick (\d+)", "tick_of"),
     (r"0 pass (\d+)", "pass_of"),
     (r"0 bare page (\d+)", "bare_of"),
@@ -153,16 +155,17 @@ class Trace:
         "scavenger": (26, 22, 2, 10, 6, 12, 16, 6, 6),
         "threads": (36, 24, 3, 8, 8, 6, 6, 14, 16),
         "ranges": (40, 30, 0, 14, 6, 1, 2, 10, 8),
+        "guards": (30, 30, 2, 14, 4, 4, 6, 2, 6),
     }
     # the sorts that the seeds up to 1,000 choose from, and how often each comes; the seeds from there to 2,000 are of whole pages,
-    # and the later ones of the second and third version of the format
+    # those from there to 3,000 of the second and third version of the format, and the later ones have guards
     CHANCES = {"even": 4, "requests": 4, "frees": 4, "scavenger": 4, "threads": 4, "log": 1, "caches": 1, "drain": 6, "kept": 6}
     ACTS = ("request", "free", "raw", "flush", "stop", "tick", "pass", "idle", "phase")
 
     def __init__(self, seed: int):
         self.dice = random.Random(seed)
         dice = self.dice
-        self.sort = "ranges" if 1000 < seed <= 2000 else dice.choices(list(self.CHANCES), list(self.CHANCES.values()))[0]
+        self.sort = "guards" if seed > 3000 else "ranges" if 1000 < seed <= 2000 else dice.choices(list(self.CHANCES), list(self.CHANCES.values()))[0]
         self.pages = dice.choices((1, 2, 3, 4, 5, 8, 12, 16), (8, 10, 8, 8, 4, 2, 1, 1))[0]
         self.threads = dice.choice((1, 1, 2, 2, 3, 4))
         self.heaps = dice.choice((1, 1, 2, 3))
@@ -172,12 +175,16 @@ class Trace:
             self.pages, self.threads = min(self.pages, 3), max(self.threads, 2)
         if self.sort == "ranges":
             self.pages, self.heaps, self.threads = dice.choice((8, 10, 12, 16)), dice.choice((1, 1, 1, 2)), 2
-        self.version = dice.choice((2, 3)) if seed > 2000 else 1
+        if self.sort == "guards":
+            self.pages, self.heaps, self.threads = dice.choice((5, 6, 7, 8, 10)), dice.choice((1, 1, 1, 2)), dice.choice((1, 1, 2, 3))
+        self.version = 4 if seed > 3000 else dice.choice((2, 3)) if seed > 2000 else 1
         self.lines = ["pas %d pages %d threads %d heaps %d age %d" % (self.version, self.pages, self.threads, self.heaps, dice.choice((1, 1, 2, 3)))]
         shares = {"caches": 1.0, "kept": 0.2}.get(self.sort, dice.choice((0.0, 0.3, 0.6)))
         for heap in range(self.heaps):
             if dice.random() < shares:
                 self.lines.append("shared %d" % heap)
+        if self.sort == "guards":
+            self.lines.append("guard %d" % dice.choice((1, 2, 2, 2, 3)))
         self.names = 0
         self.sizes: dict[int, tuple[int, int]] = {}  # size and alignment of each name
         self.epoch = 0
@@ -188,7 +195,8 @@ class Trace:
 
     def fill(self) -> None:
         """What the sort begins with, and then operations by its weights."""
-        begin = {"log": self.fill_log, "caches": self.fill_caches, "drain": self.fill_drained, "kept": self.fill_kept, "ranges": self.fill_ranges}
+        begin = {"log": self.fill_log, "caches": self.fill_caches, "drain": self.fill_drained, "kept": self.fill_kept, "ranges": self.fill_ranges,
+                 "guards": self.fill_guards}
         few = self.sort in begin
         if few:
             begin[self.sort]()
@@ -251,6 +259,28 @@ class Trace:
             else:
                 getattr(self, act)()
 
+    def fill_guards(self) -> None:
+        """Blocks of whole pages, some of them guarded, that end and get other sizes, and pages that lose their memory between them."""
+        for act in self.dice.choices(("whole", "small", "free", "flush", "move", "age"), (40, 2, 30, 26, 4, 5), k=self.dice.randint(12, 20)):
+            if act == "whole":
+                self.ask(self.thread(), self.dice.randrange(self.heaps), 4096 * self.dice.choice((1, 1, 1, 2)), 16)
+            elif act == "small":
+                self.ask(self.thread(), self.dice.randrange(self.heaps), self.dice.choice((16, 600)), 16)
+            elif act == "age":
+                self.epoch += 3
+                self.lines += ["tick %d" % self.epoch, "pass"]
+            else:
+                getattr(self, act)()
+
+    def move(self) -> None:
+        """Another size for a block of an earlier request."""
+        k = self.thread()
+        if names := self.own[k] + self.old:
+            self.names += 1
+            self.sizes[self.names] = (self.dice.choice((16, 3000, 4096, 8192)), 16)
+            self.lines.append("m %d %d %d %d 16" % (k, self.names, self.dice.choice(names), self.sizes[self.names][0]))
+            self.own[k].append(self.names)
+
     def lag(self) -> None:
         """Some frees of one thread, and a phase in which it is idle and stopped, while another one ends blocks and asks for pages."""
         k, other = self.dice.sample(sorted(self.own), 2)
@@ -277,7 +307,7 @@ class Trace:
         dice = self.dice
         sort = dice.random()
         if sort < 0.55:
-            return dice.choice((0, 1, 16, 24, 100, 256, 512, 513, 640, 700, 768, 896, 1000, 1024) if self.version == 3 else (0, 1, 16, 24, 48, 100, 128, 200, 256, 300, 320, 400, 448, 500, 512, 512))
+            return dice.choice((0, 1, 16, 24, 100, 256, 512, 513, 640, 700, 768, 896, 1000, 1024) if self.version >= 3 else (0, 1, 16, 24, 48, 100, 128, 200, 256, 300, 320, 400, 448, 500, 512, 512))
         if sort < 0.8:
             return dice.choice((513, 600, 800, 1000, 1024, 1500, 2000, 2048))
         return min(dice.choice((2049, 4096, 4096, 5000, 8192, 12000, 16384)), 4096 * self.pages)
