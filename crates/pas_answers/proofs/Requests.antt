@@ -1,7 +1,7 @@
 -- What a request promises.
-use Rattle.std.proofs.Common.{◌≡◌, ◌≢◌, ℕ, ◌+◌, ◌-◌, ◌<◌, ◌≤◌, ◌++◌, Bool, List, [], ◌∷◌, length, Option, Some, None, Result, Ok, Err, inl, inr, refl, ap, sym, ◌∙◌, subst, arith}
-use Rattle.std.specs.Prelude.{◌*◌, ◌/◌, ◌%◌, max, MatchResult}
-use Rattle.std.proofs.lemmas.Bool.{cases_lt}
+use Rattle.std.proofs.Common.{◌≡◌, ◌≢◌, ℕ, ◌+◌, ◌-◌, ◌<◌, ◌≤◌, ◌++◌, Bool, true, List, [], ◌∷◌, length, Option, Some, None, Result, Ok, Err, inl, inr, refl, ap, sym, ◌∙◌, subst, arith, lt-ltb}
+use Rattle.std.specs.Prelude.{◌*◌, ◌/◌, ◌%◌, max, nat_le, nat_lt, MatchResult}
+use Rattle.std.proofs.lemmas.Bool.{cases_lt, and_from, le-leb}
 use Rattle.std.proofs.Math.Nat.{mul-mod_left, mod-add-div', mul_assoc}
 use Rattle.std.specs.List.{AllByRecursion}
 use Rattle.std.proofs.lemmas.Option.{same_Some}
@@ -11,7 +11,7 @@ use Rattle.pas_profile.specs.Classes.{IsAlignment}
 use Rattle.pas_profile.specs.Profiles.{IsValid, IsAdmitted, IsPage, IsDirectoryOf}
 use Rattle.pas_profile.specs.Routes.{room_by, IsRouteOf}
 use Rattle.pas_profile.proofs.ClassFacts.{route_is, class_known, class_size_whole}
-use Rattle.pas_bits.proofs.Runs.{first_of_run}
+use Rattle.pas_bits.specs.Runs.{in_run}
 use Rattle.pas_bitfit.proofs.Aligned.{sixteens}
 use Rattle.pas_profile.specs.Requests.{route_in, room_in}
 use Rattle.pas_profile.specs.declared.profile.Profile.{Profile}
@@ -32,7 +32,7 @@ use Rattle.pas_steps.specs.Events.{events_by}
 use Rattle.pas_steps.specs.Lists.{Whole, part, word_after, visible, Legal}
 use Rattle.pas_steps.specs.Desks.{Standing, CanCall}
 use Rattle.pas_trace.specs.declared.item.Request.{Request}
-use Rattle.pas_trace.specs.declared.plan.What.TheVariants.{Alloc}
+use Rattle.pas_trace.specs.declared.plan.What.TheVariants.{Alloc, Guarded}
 use Rattle.pas_cache.specs.Caches.{Cached, AtRest}
 use Rattle.pas_profile.specs.declared.directory.Route.{Route}
 use Rattle.pas_trace.specs.Reasons.{cost_of_size}
@@ -43,7 +43,10 @@ use Rattle.pas_cache.specs.Serves.{IsSmallRoute, Wanted, wanted_for, pages_of, I
 use Rattle.pas_steps.specs.Unknown.{unknown_pages}
 use Rattle.pas_answers.specs.Answers.{named as the_name, block_of, said_by, said_of_request, IsGiven, RefusalEnds, RequestEnds}
 use Rattle.pas_answers.specs.Indexes.{IsNamedFor, request_made}
-use Rattle.pas_answers.specs.Calls.{IsBlockOf, MayStand, owed_events, MayPerform, Serves, events_for, PerformsMeant}
+use Rattle.pas_trace.specs.declared.plan.Task.{Task}
+use Rattle.pas_report.specs.declared.record.Said.{Said}
+use Rattle.pas_answers.specs.Fit.{cost_of_what}
+use Rattle.pas_answers.specs.Calls.{what_of, IsBlockOf, MayStand, owed_events, MayPerform, Serves, events_for, PerformsMeant}
 use Rattle.pas_steps.proofs.Adding.{adds_none, can_call}
 use Rattle.pas_steps.proofs.Unknown.{unknown_stays, has_room}
 use Rattle.pas_cache.proofs.Routes.{is_small, is_large, small_may, small_did, none_named, pages_asked}
@@ -171,6 +174,9 @@ some_grains classes size align (Route.Class class) is = let enough = is.suits.ro
 some_grains classes size align Route.Bitfit is = omega arith
 some_grains classes size align Route.Large is = omega arith
 
+first_in : (g n : ℕ) → 0 < n → in_run g n g ≡ true
+first_in g n some = and_from (nat_le g g) (nat_lt g (g + n)) (le-leb g g (omega arith)) (lt-ltb g (g + n) (omega (arith, some)))
+
 -- a multiple of an alignment is one of 16
 sixteenth : (a align : ℕ) → IsAlignment align → a % align ≡ 0 → a % 16 ≡ 0
 sixteenth a align is at =
@@ -184,7 +190,7 @@ block_stands f c heap size align steps block v admitted rest agreed of =
     let small = of.turn.from v rest agreed in
     let some = some_grains f.classes size align (route_in f size align) (route_is f.classes size align) in
     let room = ap (λ n. n / 16) of.room in
-    let page = of.of_region (grain_of block.name) (first_of_run (grain_of block.name) (length_of block) (omega (arith, some, room))) in
+    let page = of.of_region (grain_of block.name) (first_in (grain_of block.name) (length_of block) (omega (arith, some, room))) in
     let same : grain_of block.name / 256 ≡ address_of block.name / 4096 = omega arith in
     λ b is. subst (IsBlockOf f) (same_Some _ _ is) record {
       region = record { page = subst (IsPage f) same page; aligned = sixteenth (address_of block.name) align admitted.aligned of.aligned };
@@ -239,3 +245,19 @@ module _ (σ σ' : Standing) (c c' : Cached) (name heap size align : ℕ) (found
     },
     named_for σ.seat.profile name heap size align Answers Same found named,
   )
+
+-- ---- a guarded request that is answered as any
+pub can_unguarded : {σ : Standing} {task : Task} {keeper name heap size align : ℕ} (c : Cached) (spare : ℕ) → task ≡ Task.Guarded keeper name heap size align → CanCall σ (MayPerform σ.seat.profile c (what_of task) spare)
+    → CanCall σ (MayPerform σ.seat.profile c (Alloc name heap size align) spare)
+can_unguarded {σ} {task} {keeper} {name} {heap} {size} {align} c spare is can = can_call adds_none can (λ v l stood met.
+    let room = met.room in
+    let cost : cost_of_what (what_of task) ≡ cost_of_size size + 2 = ap (λ (t : Task). cost_of_what (what_of t)) is in
+    record { rest = met.rest; room = omega (arith, room, cost) })
+
+-- what answers the request answers the guarded one, which costs more
+pub guarded_performs : {σ σ' : Standing} {c c' : Cached} {name heap size align : ℕ} {meant came : Option Block} {said : Option Said} (Answers : ℕ → ℕ → Option ℕ → Type 0) (Same : Type 0) (keeper : ℕ)
+    → (did : PerformsMeant (Alloc name heap size align) meant came c c' σ σ' said) × IsNamedFor σ.seat.profile Answers Same (request_made (Alloc name heap size align) meant) did.found
+    → (did : PerformsMeant (Guarded keeper name heap size align) meant came c c' σ σ' said) × IsNamedFor σ.seat.profile Answers Same (request_made (Guarded keeper name heap size align) meant) did.found
+guarded_performs Answers Same keeper is =
+    let did = is.0 in
+    (record { steps = did.steps; found = did.found; calls = did.calls; few = λ v rest agreed. let few = did.few v rest agreed in omega (arith, few); answered = did.answered; others = did.others }, is.1)

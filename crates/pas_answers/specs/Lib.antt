@@ -1,9 +1,11 @@
+pub mod Named
 pub mod Answers
+pub mod Guarding
+pub mod Keeping
 pub mod Reaching
 pub mod Ways
 pub mod Indexes
 pub mod Refusals
-pub mod Rests
 pub mod Replays
 pub mod Fit
 pub mod Names

@@ -69,7 +69,6 @@ fn allocate<D: Desk, O: Door>(
 }
 
 /// Has the thread's cache log the block of this name, with the room that is named for it, if any.
-#[inline(always)]
 fn log<D: Desk>(
     desk: &mut D,
     cache: &mut ThreadCache,
@@ -89,7 +88,6 @@ fn log<D: Desk>(
 }
 
 /// Frees the block of this name, which ends only where it has the room that is named, if any. What is said where no block can have the name.
-#[inline(always)]
 fn free<D: Desk>(
     desk: &mut D,
     cache: &mut ThreadCache,
@@ -110,8 +108,6 @@ fn free<D: Desk>(
 }
 
 /// Gives a block another size, under a new name: what that name stands for from then on, and what is said where the block is kept or the request refused.
-/// It stays out of line, since few operations come here, and all others would be longer with it.
-#[inline(never)]
 fn resize<D: Desk, O: Door, M: Remake>(
     desk: &mut D,
     door: &mut O,
@@ -168,6 +164,13 @@ fn perform<D: Desk, O: Door, M: Remake>(
             size,
             align,
         } => allocate(desk, door, cache, name, heap, size, align),
+        Task::Guarded {
+            name,
+            heap,
+            size,
+            align,
+            ..
+        } => allocate(desk, door, cache, name, heap, size, align),
         Task::Free { name, room } => match meant {
             Some(block) => (None, free(desk, cache, block.name, room)),
             None => (None, Some(Said::Skipped { name })),
@@ -195,7 +198,7 @@ fn perform<D: Desk, O: Door, M: Remake>(
 
 /// Does a thread's task, and adds its events and what is said to the records. `meant` is the block that the name stands for which a `Task::Free` frees or a
 /// `Task::Remake` reallocates, if any, and the result the block that the asked name of a `Task::Request` or a `Task::Remake` stands for from then on; None for
-/// every other task. A request for whole pages asks the door for a run first; nothing else asks it or changes it.
+/// every other task. A guarded request is answered as any is: its keeper tries it before (`try_guarded`). A request for whole pages asks the door for a run first; nothing else asks it or changes it.
 #[inline(always)]
 pub fn answer_meant<D: Desk, O: Door, M: Remake>(
     desk: &mut D,

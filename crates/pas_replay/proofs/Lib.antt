@@ -1,8 +1,8 @@
 mod Turns
 mod Threads
-mod Going
 mod Turning
 mod ByActors
+mod Keepers
 mod ActsInOrder
 mod Opening
 mod StartAndEnd

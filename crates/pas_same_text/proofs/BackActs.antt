@@ -46,7 +46,7 @@ use Rattle.pas_same_text.proofs.StopActs.{stop_same}
 
 -- ---- a replay of the same list, with the same caches
 same_between : (f : Profile) (p : Progress) (k : ℕ) (steps : List Made) (c : Cached) (names : List Named) (records : List Record) → IsBetween f (with_records (record (with_steps p k steps c) { names = names }) records) → IsBetween f (with_steps p k steps c)
-same_between f p k steps c names records b = record { legal = b.legal; rest = b.rest }
+same_between f p k steps c names records b = record { legal = b.legal; threads = b.threads; scavenger = b.scavenger }
 
 -- ---- a flush
 module _ (f : Profile) (k : ℕ) (p p' : Progress) (w : World) (usable : HasUsableBlocks p) (thread : IsThread f k) where
@@ -153,7 +153,7 @@ module _ (f : Profile) (k : ℕ) (entry : Entry) (p : Progress) (w : World) (c' 
   q = with_steps p k steps emptied
 
   between : IsBetween f q
-  between = record { legal = after.legal; rest = record { threads = λ j is. rest_at j (j == k) (part j q.list) (after.rest.threads j is); scavenger = after.rest.scavenger } }
+  between = record { legal = after.legal; threads = λ j is. rest_at j (j == k) (part j q.list) (after.threads j is); scavenger = after.scavenger }
 
   flushed_first : IsSame f (with_records q (records_of (events_by k (part k p.list) steps))) (flushes f k w)
   flushed_first = flush_same f k p w steps emptied valid thread before same usable both.0 refl between

@@ -61,10 +61,10 @@ room_same w w' d page free =
     (λ b low small. ap (λ (t : Bool). not (usable_by_kind d.kind b && t)) (free b small)))
 
 -- ---- blocks by their parts
-abbrev pub block_of : ℕ → ℕ → ℕ → ℕ → Block
+abbrev block_of : ℕ → ℕ → ℕ → ℕ → Block
 block_of address turn room heap = record { name = record { address = record { 0 = address }; turn = turn }; room = room; heap = heap }
 
-pub block_same : (block : Block) (address turn room heap : ℕ) → address_of block.name ≡ address → block.name.turn ≡ turn → block.room ≡ room → block.heap ≡ heap → block ≡ block_of address turn room heap
+block_same : (block : Block) (address turn room heap : ℕ) → address_of block.name ≡ address → block.name.turn ≡ turn → block.room ≡ room → block.heap ≡ heap → block ≡ block_of address turn room heap
 block_same block address turn room heap a t r h =
     ap (λ (x : ℕ). block_of x block.name.turn block.room block.heap) a
     ∙ (ap (λ (x : ℕ). block_of address x block.room block.heap) t

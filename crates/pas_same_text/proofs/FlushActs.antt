@@ -165,8 +165,8 @@ module _ (f : Profile) (k : ℕ) (p : Progress) (w : World) (steps : List Made) 
   pub still_held : (j g : ℕ) → holds (part j (with_steps p k steps c').list) g ≡ true → holds (part j p.list) g ≡ true
   still_held j g held =
       let is : IsThread f j = holder_is f (with_steps p k steps c') v valid after flush_has j g held in
-      (before.rest.threads j is).locals.grains g
-      ∙ (ap (λ (ls : List Slots). any_covers ls g) (sym (kept_at j (j == k) refl)) ∙ (sym ((after.rest.threads j is).locals.grains g) ∙ held))
+      (before.threads j is).locals.grains g
+      ∙ (ap (λ (ls : List Slots). any_covers ls g) (sym (kept_at j (j == k) refl)) ∙ (sym ((after.threads j is).locals.grains g) ∙ held))
 
   given : IsGivenBack f k p.list w steps v
   given = record {

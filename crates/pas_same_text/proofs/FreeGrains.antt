@@ -40,12 +40,12 @@ module _ (f : Profile) (p : Progress) (w : World) (valid : IsValid f) (between :
   -- who holds a grain is a thread, and so is who has a right
   pub holder_is : (k g : ℕ) → holds (part k p.list) g ≡ true → IsThread f k
   holder_is k g h = thread_or f k
-      (λ zero. false≢true (sym (between.rest.scavenger.grains g) ∙ (ap (λ (j : ℕ). holds (part j p.list) g) (sym zero) ∙ h)))
+      (λ zero. false≢true (sym (between.scavenger.grains g) ∙ (ap (λ (j : ℕ). holds (part j p.list) g) (sym zero) ∙ h)))
       (λ past. false≢true (ap (λ (v : View). holds v g) (sym (no_other_actor f p.list between.legal k past)) ∙ h))
 
   pub righted_is : (k page : ℕ) → has_right (part k p.list) page ≡ true → IsThread f k
   righted_is k page h = thread_or f k
-      (λ zero. false≢true (sym (between.rest.scavenger.rights page) ∙ (ap (λ (j : ℕ). has_right (part j p.list) page) (sym zero) ∙ h)))
+      (λ zero. false≢true (sym (between.scavenger.rights page) ∙ (ap (λ (j : ℕ). has_right (part j p.list) page) (sym zero) ∙ h)))
       (λ past. false≢true (ap (λ (v : View). has_right v page) (sym (no_other_actor f p.list between.legal k past)) ∙ h))
 
   thread_in : (cs : ℕ) (k : ℕ) → cs ≡ f.threads → 1 ≤ k → k ≤ cs → IsThread f k
@@ -79,8 +79,8 @@ module _ (f : Profile) (p : Progress) (w : World) (valid : IsValid f) (between :
   -- ---- caches
   cache_grains : (k page b : ℕ) → b < 256 → IsThread f k → list_any (has_grain page b) (cache_in w.caches k).locals ≡ holds (part k p.list) (256 * page + b)
   cache_grains k page b small is =
-      grains_same f (part k p.list) (p.caches k).locals (cache_in w.caches k).locals page b small (same.caches.each k is).locals (between.rest.threads k is).locals.known
-      ∙ sym ((between.rest.threads k is).locals.grains (256 * page + b))
+      grains_same f (part k p.list) (p.caches k).locals (cache_in w.caches k).locals page b small (same.caches.each k is).locals (between.threads k is).locals.known
+      ∙ sym ((between.threads k is).locals.grains (256 * page + b))
 
   cached_none : (page b : ℕ) → b < 256 → ((k : ℕ) → holds (part k p.list) (256 * page + b) ≡ false) → is_cached (locals_on w page) b ≡ false
   cached_none page b small nobody = false_from_ne_true (is_cached (locals_on w page) b) (λ h.

@@ -70,7 +70,7 @@ is_mark q s = false
 abbrev pub IsMarked : ℕ → List Made → Type 0
 IsMarked q = Once (λ m before. is_mark q m.step ≡ true)
 
-pub once_parts : (P : Made → Type 0) (ys xs : List Made) → Once (λ m before. P m) (ys ++ xs) → Once (λ m before. P m) ys ⊎ Once (λ m before. P m) xs
+once_parts : (P : Made → Type 0) (ys xs : List Made) → Once (λ m before. P m) (ys ++ xs) → Once (λ m before. P m) ys ⊎ Once (λ m before. P m) xs
 once_parts P [] xs h = inr h
 once_parts P (y ∷ ys) xs (inl h) = inl (inl h)
 once_parts P (y ∷ ys) xs (inr h) = elim (once_parts P ys xs h) [ inl first ↦ inl (inr first) | inr later ↦ inr later ]
@@ -130,7 +130,7 @@ hinted_by k (m ∷ xs) l p h = elim (hint_one (epoch_of (part k (triples k xs ++
 abbrev pub OffersPage : ℕ → List Made → Type 0
 OffersPage q = Once (λ m before. (d : Directory) × (m.step ≡ Offer q d))
 
-pub offer_one : (e : ℕ) (s : Step) (n p old : ℕ) → has_bit (if same_word (target s) (Word.Eligible n (p / 64)) then new_value e s old else old) (p % 64) ≡ true → (has_bit old (p % 64) ≡ true) ⊎ ((d : Directory) × (s ≡ Offer p d))
+offer_one : (e : ℕ) (s : Step) (n p old : ℕ) → has_bit (if same_word (target s) (Word.Eligible n (p / 64)) then new_value e s old else old) (p % 64) ≡ true → (has_bit old (p % 64) ≡ true) ⊎ ((d : Directory) × (s ≡ Offer p d))
 offer_one e (Look x) n p old h = inl (ap (λ a. has_bit a (p % 64)) (sym (looked (same_word x (Word.Eligible n (p / 64))) old)) ∙ h)
 offer_one e (TakeRight q d) n p old h = by_page (number_of d == n) (q == p) (sym (page_bit-clear q p old (number_of d == n)) ∙ h)
   where

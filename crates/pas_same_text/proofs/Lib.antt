@@ -29,14 +29,3 @@ mod UsableBlocks
 mod WholeText
 mod AllActs
 mod SearchedPages
-mod Stamped
-mod SameIndexes
-mod SearchMarks
-mod SearchedMarks
-mod Refusals
-mod RefusedRequests
-mod SpacedPlaces
-mod BitfitFits
-mod ReadyPages
-mod BitfitGiven
-mod BitfitRequests

@@ -71,8 +71,8 @@ not-no false h = absurd (true≢false h)
 
 module _ (f : Profile) (p : Progress) (w : World) (valid : IsValid f) (between : IsBetween f p) (same : HasSame f p w) where
   pub clear_of : (k : ℕ) → k ≤ f.threads → IsClear (part k p.list)
-  clear_of zero le = between.rest.scavenger.clear
-  clear_of (suc i) le = let some : 1 ≤ suc i = omega arith in (between.rest.threads (suc i) (some, le)).locals.clear
+  clear_of zero le = between.scavenger.clear
+  clear_of (suc i) le = let some : 1 ≤ suc i = omega arith in (between.threads (suc i) (some, le)).locals.clear
 
   pub deed_now : (page : ℕ) (d : Directory) → IsDirectoryOf f d → is_of w d page ≡ true → deed_in (visible p.list) page ≡ Some d
   deed_now page d of h =
@@ -126,7 +126,7 @@ module _ (f : Profile) (p : Progress) (w : World) (valid : IsValid f) (between :
       (usable_at page o.number d small of word (and_first (usable_by_kind d.kind o.number) (is_free w page o.number) both) (and_second (usable_by_kind d.kind o.number) (is_free w page o.number) both))
 
   -- ---- AN OFFERED PAGE has a deed of its directory, and nobody keeps it
-  pub deed_from_word : (page : ℕ) (d : Directory) (o : Option Directory) → deed_in (visible p.list) page ≡ o → word_of_deed o ≡ deed_word_of d → IsKind d.kind → is_same d o ≡ true
+  deed_from_word : (page : ℕ) (d : Directory) (o : Option Directory) → deed_in (visible p.list) page ≡ o → word_of_deed o ≡ deed_word_of d → IsKind d.kind → is_same d o ≡ true
   deed_from_word page d None at word is = absurd (deed_word_of-positive d (sym word))
   deed_from_word page d (Some e) at word is =
       let of_own : IsDirectoryOf f e = directory_is_of f p.list between.legal page e at in

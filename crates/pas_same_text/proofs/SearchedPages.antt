@@ -36,7 +36,7 @@ first_at : (test : ℕ → Bool) (from : ℕ) (rest : Option ℕ) (t : Bool) →
 first_at test from rest true e h = absurd (true≢false h)
 first_at test from rest false e h = ap (λ (t : Bool). if t then Some from else rest) e
 
-pub find_first : (test : ℕ → Bool) (n from page : ℕ) → from ≤ page → page < from + n → test page ≡ true → ((q : ℕ) → from ≤ q → q < page → test q ≡ false) → find test (numbers_from from n) ≡ Some page
+find_first : (test : ℕ → Bool) (n from page : ℕ) → from ≤ page → page < from + n → test page ≡ true → ((q : ℕ) → from ≤ q → q < page → test q ≡ false) → find test (numbers_from from n) ≡ Some page
 find_first test zero from page low high so before = absurd (omega (arith, low, high))
 find_first test (suc n) from page low high so before = elim (cases_eq from page) [
   | inl same ↦ ap (λ (t : Bool). if t then Some from else find test (numbers_from (from + 1) n)) (ap test same ∙ so) ∙ ap (λ (x : ℕ). Some x) same
@@ -44,7 +44,7 @@ find_first test (suc n) from page low high so before = elim (cases_eq from page)
       ∙ find_first test n (from + 1) page (omega (arith, low, ne)) (omega (arith, high)) so (λ q above below. before q (omega (arith, above)) below)
 ]
 
-pub find_none : (test : ℕ → Bool) (n from : ℕ) → ((q : ℕ) → from ≤ q → q < from + n → test q ≡ false) → find test (numbers_from from n) ≡ None
+find_none : (test : ℕ → Bool) (n from : ℕ) → ((q : ℕ) → from ≤ q → q < from + n → test q ≡ false) → find test (numbers_from from n) ≡ None
 find_none test zero from none = refl
 find_none test (suc n) from none =
     first_at test from (find test (numbers_from (from + 1) n)) (test from) refl (none from (omega arith) (omega arith))

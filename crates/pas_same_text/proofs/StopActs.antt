@@ -125,10 +125,10 @@ module _ (f : Profile) (k : ℕ) (p : Progress) (w : World) (flushed stopped : L
   own_same = subst (λ (d : Cached). IsSameCache d (cache_of vf k)) (same_own p.caches k own) (to.same.each k thread)
 
   known : All (IsLocal f (part k p.list)) c.locals
-  known = (before.rest.threads k thread).locals.known
+  known = (before.threads k thread).locals.known
 
   up : IsGivenUp f k (locals_of vf k) vf v
-  up = all_up f k vf thread.0 (let many = to.same.many in let few = thread.1 in omega (arith, many, few)) (unique_of c.locals (locals_of vf k) own_same.locals (before.rest.threads k thread).locals.apart.one_each)
+  up = all_up f k vf thread.0 (let many = to.same.many in let few = thread.1 in omega (arith, many, few)) (unique_of c.locals (locals_of vf k) own_same.locals (before.threads k thread).locals.apart.one_each)
       (all_of_region f (part k p.list) c.locals (locals_of vf k) own_same.locals known)
 
   -- ---- events and caches
@@ -157,8 +157,8 @@ module _ (f : Profile) (k : ℕ) (p : Progress) (w : World) (flushed stopped : L
   held_before : (j g : ℕ) → holds (part j p'.list) g ≡ true → ((j == k) ≡ false) × (holds (part j p.list) g ≡ true)
   held_before j g held =
       let is : IsThread f j = holder_is f p' v valid after has j g held in
-      let was = held_at j g (j == k) refl (sym ((after.rest.threads j is).locals.grains g) ∙ held) in
-      (was.0, (before.rest.threads j is).locals.grains g ∙ was.1)
+      let was = held_at j g (j == k) refl (sym ((after.threads j is).locals.grains g) ∙ held) in
+      (was.0, (before.threads j is).locals.grains g ∙ was.1)
 
   fewer : OnlyFewer w.events v.events
   fewer = subst (OnlyFewer w.events) (sym up.events) to.fewer
@@ -189,7 +189,7 @@ module _ (f : Profile) (k : ℕ) (p : Progress) (w : World) (flushed stopped : L
       let covered : covers s g ≡ true =
       ap (λ (t : Bool). t && is_set s.starts (start_of s.class (g % 256))) (eq-eqb s.page (g / 256) (page ∙ sym at_page))
       ∙ (ap (λ (x : ℕ). is_set s.starts (start_of s.class x)) at_grain ∙ (ap (is_set s.starts) first ∙ m.2)) in
-      let held : holds (part k p.list) g ≡ true = (before.rest.threads k thread).locals.grains g ∙ in_cache g covered in
+      let held : holds (part k p.list) g ≡ true = (before.threads k thread).locals.grains g ∙ in_cache g covered in
       let free : free_bit p'.list g ≡ true = free_left f p'.list valid after.legal g
       (λ j now. let was = held_before j g now in false≢true (sym was.0 ∙ one_holder f p.list valid before.legal j k g was.1 held))
       (λ a b' lives of_it. covered_not_held f p.list valid before.legal g a b' (lived f p p' w v to.pages valid before after same.pages.events has usable fewer (λ j x now. (held_before j x now).1) a b' lives) of_it k held) in

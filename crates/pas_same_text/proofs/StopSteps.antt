@@ -115,7 +115,7 @@ end_room false all_free page q d free after none h marked =
       ]
     ]
 
-pub leave_room : (page q : ℕ) (d : Directory) (steps : List Made) → LeaveSteps page d steps → IsMarked q steps → ReadsRoom page d steps
+leave_room : (page q : ℕ) (d : Directory) (steps : List Made) → LeaveSteps page d steps → IsMarked q steps → ReadsRoom page d steps
 leave_room page q d steps h marked = elim (marked_parts q h.after (looks page (words h.free) 4) (subst (IsMarked q) h.steps_are marked)) [
   | inl first ↦ subst (ReadsRoom page d) (sym h.steps_are) (end_room h.usable h.all_free page q d h.free h.after h.usable_is h.ends first)
   | inr later ↦ absurd (looks_offer_none page q (words h.free) later)

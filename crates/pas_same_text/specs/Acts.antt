@@ -8,25 +8,24 @@ use Rattle.pas_profile.specs.declared.profile.Profile.{Profile}
 use Rattle.pas_machine.specs.State.{Live, live_in, deed_in}
 use Rattle.pas_core.specs.Good.{IsPartOf}
 use Rattle.pas_steps.specs.Views.{usable_by_kind}
-use Rattle.pas_steps.specs.Lists.{Whole, part, visible, Legal}
-use Rattle.pas_core.specs.Stamps.{AllStamped, AllKeepToEnds}
-use Rattle.pas_large.specs.Doors.{Indexes}
+use Rattle.pas_steps.specs.Clear.{HasNothing}
+use Rattle.pas_steps.specs.Lists.{part, visible, Legal}
 use Rattle.pas_segregated.specs.declared.slots.Slots.{Slots}
+use Rattle.pas_cache.specs.Caches.{AtRest}
 use Rattle.pas_cache.specs.Locals.{local_for}
 use Rattle.pas_trace.specs.Acts.{Act}
 use Rattle.pas_trace.specs.EveryPlan.{IsThread}
 use Rattle.pas_answers.specs.Answers.{Progress}
-use Rattle.pas_answers.specs.Indexes.{indexes_after}
 use Rattle.pas_answers.specs.Reaching.{Advances}
-use Rattle.pas_answers.specs.Rests.{AreAtRest}
 use Rattle.pas_one_text.specs.State.{World}
 use Rattle.pas_one_text.specs.Order.{acts_on}
 use Rattle.pas_same_text.specs.Same.{IsSame, HasSame}
 
--- what is so of a replay between two acts: its list is legal, and all actors are at rest
+-- what is so of a replay between two acts: its list is legal, each thread is at rest with its cache, and the scavenger has nothing
 pub record IsBetween (f : Profile) (p : Progress) : Type 0 where
   pub legal : Legal f p.list
-  pub rest : AreAtRest f p.caches p.list
+  pub threads : (k : ℕ) → IsThread f k → AtRest f (p.caches k) (part k p.list)
+  pub scavenger : HasNothing (part 0 p.list)
 
 -- .. and the events, the live blocks and the caches of the text are its own
 pub record IsAtRest (f : Profile) (p : Progress) (w : World) : Type 0 where
@@ -60,24 +59,6 @@ HasUsableBlocks p = AreBlocksUsable (visible p.list)
 -- THE ACT KEEPS IT SO
 abbrev pub KeepsUsable : Profile → Act → Type 0
 KeepsUsable f act = (p p' : Progress) → IsValid f → IsBetween f p → IsBetween f p' → Advances f act p p' → HasUsableBlocks p → HasUsableBlocks p'
-
--- Each page where a block ended is stamped: no actor learns an epoch between an end and its stamps, stamps another page, or has an end without its stamps.
-pub record AreEndsStamped (l : Whole) : Type 0 where
-  pub kept : AllKeepToEnds l
-  pub stamped : (k : ℕ) → AllStamped (part k l)
-
--- THE ACT KEEPS IT SO
-abbrev pub KeepsStamped : Profile → Act → Type 0
-KeepsStamped f act = (p p' : Progress) → IsValid f → IsBetween f p → IsBetween f p' → Advances f act p p' → AreEndsStamped p.list → AreEndsStamped p'.list
-
--- where the act hands on what a cache noted, that is the cache of a thread
-abbrev pub HandsOnOwn : Profile → Act → Type 0
-HandsOnOwn f (Act.Settles k) = IsThread f k
-HandsOnOwn f act = Unit {0}
-
--- THE INDEXES of the text are those of a replay: where they hold the same before the act, they do after it.
-abbrev pub KeepsIndexes : Profile → Act → Type 0
-KeepsIndexes f act = (p p' : Progress) (w : World) (indexes : Indexes) → HandsOnOwn f act → IsTaken f act p p' w → w.indexes ≡ indexes → (acts_on f act w).indexes ≡ indexes_after f act p indexes
 
 -- thread k's log has room for one more
 abbrev pub HasLogRoom : ℕ → Progress → Type 0

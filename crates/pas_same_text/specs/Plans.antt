@@ -1,6 +1,5 @@
--- ACTS OF WHICH IT IS PROVED that they keep the text.
+-- SEVERAL ACTS, one after the other.
 use Rattle.std.specs.Prelude.{ℕ, ◌≡◌, true, List, [], ◌∷◌, Option, None, Some}
-use Rattle.pas_profile.specs.Profiles.{IsAdmitted}
 use Rattle.pas_profile.specs.Requests.{route_in}
 use Rattle.pas_profile.specs.declared.directory.Route.{Route}
 use Rattle.pas_profile.specs.declared.name.Block.{Block}
@@ -10,13 +9,19 @@ use Rattle.pas_trace.specs.EveryPlan.{IsThread}
 use Rattle.pas_trace.specs.declared.plan.What.{What}
 use Rattle.pas_answers.specs.Answers.{Progress, standing_for, suits}
 use Rattle.pas_answers.specs.Reaching.{Reaches}
-use Rattle.pas_same_text.specs.Acts.{HasCachedSlot}
+use Rattle.pas_same_text.specs.Acts.{IsBetween, HasCachedSlot}
 
--- of requests those of a class for which a slot is cached, and bit-fit ones
-abbrev pub IsServedSo : Route → ℕ → ℕ → Progress → Type 0
-IsServedSo (Route.Class class) heap k p = HasCachedSlot heap class k p
-IsServedSo Route.Bitfit heap k p = Unit {0}
-IsServedSo Route.Large heap k p = ⊥
+-- before the first of these acts and after each all actors are at rest
+abbrev pub AllBetween : (f : Profile) (acts : List Act) (p p' : Progress) → Reaches f acts p p' → Type 0
+AllBetween f [] p p' is = IsBetween f p
+AllBetween f (act ∷ acts) p p' is = IsBetween f p × AllBetween f acts is.0 p' is.2
+
+-- ---- acts of which it is proved that they keep the text
+-- of requests those of a class for which a slot is cached
+abbrev pub IsCachedBy : Route → ℕ → ℕ → Progress → Type 0
+IsCachedBy (Route.Class class) heap k p = HasCachedSlot heap class k p
+IsCachedBy Route.Bitfit heap k p = ⊥
+IsCachedBy Route.Large heap k p = ⊥
 
 -- of reallocations those that do nothing: the block suits as it is, or the old name stands for none
 abbrev pub IsIdleRemake : ℕ → ℕ → Option (Option Block) → Type 0
@@ -26,7 +31,7 @@ IsIdleRemake size align (Some (Some old)) = suits old size align ≡ true
 
 -- .. and every other operation of a thread
 abbrev pub IsProvedWhat : Profile → ℕ → What → Progress → Type 0
-IsProvedWhat f k (What.Alloc name heap size align) p = IsAdmitted f size align heap × IsServedSo (route_in f size align) heap k p
+IsProvedWhat f k (What.Alloc name heap size align) p = IsCachedBy (route_in f size align) heap k p
 IsProvedWhat f k (What.Remake name old heap size align) p = IsIdleRemake size align (standing_for p.names old)
 IsProvedWhat f k what p = Unit {0}
 

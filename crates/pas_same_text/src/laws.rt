@@ -1,5 +1,5 @@
 //! What each act owes: from a state of the text that is the replay's it leads to one that is. Each law is the contract of an empty function.
-ghost use Rattle.std.specs.Prelude.{ℕ, ◌+◌, ◌*◌, ◌<◌, ◌≡◌, List, [], ◌∷◌, ◌++◌, true, Ok};
+ghost use Rattle.std.specs.Prelude.{ℕ, ◌+◌, ◌*◌, ◌<◌, ◌≡◌, List, ◌∷◌, ◌++◌, true, Ok};
 ghost use Rattle.pas_profile.specs.declared.name.Name.{Name};
 ghost use Rattle.pas_profile.specs.declared.profile.Profile.{Profile};
 ghost use Rattle.pas_trace.specs.Acts.{Act, acts_of};
@@ -8,9 +8,7 @@ ghost use Rattle.pas_trace.specs.declared.plan.What.TheVariants.{Alloc, Flush, F
 ghost use Rattle.pas_profile.specs.Requests.{route_in};
 ghost use Rattle.pas_profile.specs.declared.directory.Route.{Route};
 ghost use Rattle.pas_profile.specs.Directories.{number_of};
-ghost use Rattle.pas_profile.specs.Profiles.{IsValid, IsAdmitted, IsPage, IsDirectoryOf};
-ghost use Rattle.pas_profile.specs.declared.event.NoRoom.{NoRoom};
-ghost use Rattle.pas_search.specs.Telling.{IsTrueReason};
+ghost use Rattle.pas_profile.specs.Profiles.{IsValid, IsPage, IsDirectoryOf};
 ghost use Rattle.pas_profile.specs.declared.directory.Directory.{Directory};
 ghost use Rattle.pas_profile.specs.declared.event.Event.{Event};
 ghost use Rattle.pas_machine.specs.Machine.{Run};
@@ -18,23 +16,19 @@ ghost use Rattle.pas_free_log.specs.declared.ending.Outcome.{Outcome};
 ghost use Rattle.pas_free_log.specs.declared.log.Entry.{Entry};
 ghost use Rattle.pas_one_text.specs.Frees.{ends, flushes};
 ghost use Rattle.pas_same_text.specs.Same.{IsSame, lives_in};
-ghost use Rattle.pas_same_text.specs.Plans.{AllProved};
+ghost use Rattle.pas_same_text.specs.Plans.{AllBetween, AllProved};
 ghost use Rattle.pas_same_text.specs.Searched.{IsSearch};
 ghost use Rattle.pas_search.specs.Searches.{FromOffered, ByDeed};
-ghost use Rattle.pas_one_text.specs.Searches.{refusal, searched};
+ghost use Rattle.pas_one_text.specs.Searches.{searched};
 ghost use Rattle.pas_answers.specs.Reaching.{Reaches};
-ghost use Rattle.pas_answers.specs.Replays.{IsReplay, at_start, phases_of, region_of, threads_of};
-ghost use Rattle.pas_answers.specs.Rests.{AllAtRest};
-ghost use Rattle.pas_answers.specs.Ways.{InOrder};
+ghost use Rattle.pas_answers.specs.Replays.{at_start};
 ghost use Rattle.pas_one_text.specs.Order.{acts_on, opened, replayed};
 ghost use Rattle.pas_one_text.specs.Reports.{text_of};
 ghost use Rattle.pas_report.specs.Lines.{lines_of};
 ghost use Rattle.pas_report.specs.Marks.{marks_after};
 ghost use Rattle.pas_report.specs.Reports.{report_text};
-ghost use Rattle.pas_report.specs.Rests.{AreStamped, AreTrueMarks};
-ghost use Rattle.pas_large.specs.Doors.{no_ranges};
-ghost use Rattle.pas_trace.specs.declared.plan.Plan.{Plan};
-ghost use Rattle.pas_report.specs.declared.record.Record.{Record};
+ghost use Rattle.pas_report.specs.Rests.{AreTrueMarks};
+ghost use Rattle.pas_trace.specs.declared.plan.Op.{Op};
 ghost use Rattle.pas_same_text.specs.Entries.{IsShown, IsEntryEvent, HaveOutcomes, events_of_flush, are_unsized, onto, HasShown, IsFlushOf};
 ghost use Rattle.pas_steps.specs.Lists.{Whole, part, visible, Legal};
 ghost use Rattle.pas_steps.specs.Desks.{triples};
@@ -45,7 +39,7 @@ ghost use Rattle.pas_core.specs.Rights.{eligible_bit, free_of_page};
 ghost use Rattle.pas_answers.specs.Answers.{Progress};
 ghost use Rattle.pas_one_text.specs.State.{World, each};
 ghost use Rattle.pas_one_text.specs.Pages.{is_free, is_kept, is_offered, has_room};
-ghost use Rattle.pas_same_text.specs.Acts.{IsBetween, IsAtRest, StaysSame, StaysSameWhere, HasUsableBlocks, KeepsUsable, AreEndsStamped, KeepsStamped, KeepsIndexes, HasLogRoom, HasCachedSlot};
+ghost use Rattle.pas_same_text.specs.Acts.{IsAtRest, StaysSame, StaysSameWhere, HasUsableBlocks, KeepsUsable, HasLogRoom, HasCachedSlot};
 ghost use Rattle.pas_same_text.specs.Words.{free_bit};
 
 use pas_core::laws::Fitting;
@@ -134,32 +128,19 @@ pub fn blocks_stay_usable()
     ensures { (f : Profile) (act : Act) → KeepsUsable f act }
 {}
 
-/// Each page where a block ended is stamped between two acts, whatever they are: so its stamp is the greatest epoch of an end there, at any moment between acts.
-pub fn stamps_are_kept()
-    ensures start { AreEndsStamped [] }
-    ensures keeps { (f : Profile) (act : Act) → KeepsStamped f act }
-    ensures told { (f : Profile) (p : Progress) → IsValid f → IsBetween f p → AreEndsStamped p.list → AreStamped f p.list }
-{}
-
-/// The indexes of the text hold nothing at first, and whatever act a replay goes on by, they hold after it what those of the replay do, where that was so before.
-pub fn indexes_stay_the_same()
-    ensures start { (f : Profile) → (opened f).indexes ≡ no_ranges f.heaps }
-    ensures act { (f : Profile) (act : Act) → KeepsIndexes f act }
-{}
-
 /// Acts one after the other keep the text, where all actors are at rest between them: all acts but a pass, and of requests those of a class for which a slot is
-/// cached and bit-fit ones. Before the first act the text's state is the replay's.
+/// cached. Before the first act the text's state is the replay's.
 pub fn acts_stay_the_same()
     ensures start { (f : Profile) → IsSame f at_start (opened f) }
-    ensures acts { (f : Profile) (acts : List Act) (p p' : Progress) (is : Reaches f acts p p') (w : World) → IsValid f → Legal f p'.list → AllAtRest f acts p p' is → AllProved f acts p p' is → HasUsableBlocks p → IsSame f p w → IsSame f p' (each (acts_on f) acts w) }
+    ensures acts { (f : Profile) (acts : List Act) (p p' : Progress) (is : Reaches f acts p p') (w : World) → IsValid f → AllBetween f acts p p' is → AllProved f acts p p' is → HasUsableBlocks p → IsSame f p w → IsSame f p' (each (acts_on f) acts w) }
 {}
 
 /// The text of a state that is the replay's is what is written of that replay: the lines of its records, and then the report of the machine that its events reach, with
-/// the marks after its list. So it is of the replay of a plan in the order of the text, where all its acts are such.
+/// the marks after its list. So it is of a replay of such acts from the start, in their order.
 pub fn texts_are_told()
     ensures state { (f : Profile) (p : Progress) (w : World) → IsValid f → Legal f p.list → AreTrueMarks f p.list → IsSame f p w → text_of f w ≡ lines_of p.records ++ report_text f (visible p.list) (marks_after p.list) }
-    ensures replay { (plan : Plan) (whole : Whole) (records : List Record) (is : IsReplay InOrder plan whole records) → IsValid (region_of plan) → AllProved (region_of plan) (acts_of (threads_of plan) (phases_of plan)) at_start is.reached is.answers
-        → text_of (region_of plan) (replayed (region_of plan) (phases_of plan)) ≡ lines_of records ++ report_text (region_of plan) (visible whole) (marks_after whole) }
+    ensures replay { (f : Profile) (phases : List (List Op)) (p : Progress) (is : Reaches f (acts_of f.threads phases) at_start p) → IsValid f → AllBetween f (acts_of f.threads phases) at_start p is → AllProved f (acts_of f.threads phases) at_start p is
+        → AreTrueMarks f p.list → text_of f (replayed f phases) ≡ lines_of p.records ++ report_text f (visible p.list) (marks_after p.list) }
 {}
 
 /// A search that found a page found the one that the text finds: the lowest offered page on which something fits, or where there is none, the lowest that nobody has.
@@ -167,14 +148,4 @@ pub fn searches_choose_the_same<W: Fitting>(wanted: &W)
     ensures offered { (f : Profile) (d : Directory) (k : ℕ) (p : Progress) (w : World) (fits : ℕ → List ℕ) (steps : List Made) (page : ℕ) → IsSearch (W.no_fit wanted.now) f d k p steps w fits → IsPage f page → FromOffered (W.no_fit wanted.now) d page steps
         → (W.no_fit wanted.now (free_of_page p.list page) → ⊥) → searched f w d fits ≡ Ok page }
     ensures deed { (f : Profile) (d : Directory) (k : ℕ) (p : Progress) (w : World) (fits : ℕ → List ℕ) (steps : List Made) (page : ℕ) → IsSearch (W.no_fit wanted.now) f d k p steps w fits → IsPage f page → ByDeed (W.no_fit wanted.now) f d page steps → searched f w d fits ≡ Ok page }
-{}
-
-/// A refusal says in the text what is true of the whole state: the lowest page of the directory that is in a cache's hands, or that there is none.
-pub fn refusals_are_told()
-    ensures { (f : Profile) (p : Progress) (w : World) (d : Directory) (room : NoRoom) → IsAtRest f p w → IsDirectoryOf f d → IsTrueReason f d p.list room → refusal f w d ≡ room }
-{}
-
-/// A bit-fit request gives the lowest place of the page that is searched for, which gets a deed and memory where it has none; or it is refused, and changes no page.
-pub fn bitfit_requests_stay_the_same()
-    ensures { (f : Profile) (line k name heap size align : ℕ) → IsThread f k → IsAdmitted f size align heap → route_in f size align ≡ Route.Bitfit → StaysSame f (Act.Operates (record { line = line; actor = k; what = Alloc name heap size align })) }
 {}

@@ -105,6 +105,8 @@ fn item_of_two_words(started: bool, word: &[u8], a: &[u8]) -> Result<Item, Reaso
         Ok(Item::Scavenges(Chore::Tick(epoch_at(a)?)))
     } else if is_word(word, b"idle") {
         Ok(Item::Scavenges(Chore::Idle(epoch_at(a)?)))
+    } else if is_word(word, b"guard") {
+        Ok(Item::Guards(number(a)))
     } else {
         Err(Reason::BadWord)
     }
@@ -238,7 +240,7 @@ fn has_word(version: u8, word: &[u8]) -> bool
 {
     if is_word(word, b"fs") || is_word(word, b"rs") {
         version >= 2
-    } else if is_word(word, b"m") {
+    } else if is_word(word, b"m") || is_word(word, b"guard") {
         version >= 4
     } else {
         true

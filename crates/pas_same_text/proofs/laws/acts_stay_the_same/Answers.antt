@@ -7,4 +7,4 @@ pub returns-clause-start : goal.returns-clause-start
 returns-clause-start c = λ f. start_same f
 
 pub returns-clause-acts : goal.returns-clause-acts
-returns-clause-acts c = λ f acts p p' is w valid legal rests proved usable same. acts_stay f acts p p' is w valid legal rests proved usable same
+returns-clause-acts c = λ f acts p p' is w valid between proved usable same. acts_stay f acts p p' is w valid between proved usable same

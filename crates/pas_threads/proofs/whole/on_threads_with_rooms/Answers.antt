@@ -3,7 +3,7 @@ use Rattle.std.proofs.lemmas.List.{length-map}
 use Rattle.pas_trace.specs.Plans.{ops_of}
 use Rattle.pas_trace.specs.declared.plan.Phase.{Phase}
 use Rattle.pas_plans.proofs.PlanFacts.{plan_phases, plan_valid}
-use Rattle.pas_threads.proofs.StartAndEnd.{session_of, handed, all_back, all_of_region, shows, replayed_so}
+use Rattle.pas_threads.proofs.Start.{session_of, handed, all_back, all_of_region, shows, replayed_so}
 use Rattle.pas_threads.proofs.whole.on_threads_with_rooms.Goals as goal
 
 pub replay-team-requires-clause-phases : goal.replay-team-requires-clause-phases
