@@ -318,7 +318,7 @@ def long_texts():
 
 
 def main():
-    if len(sys.argv) != 2 or sys.argv[1].startswith("-"):
+    if len(sys.argv) != 2:
         sys.exit(__doc__)
     count, wrong = 0, 0
     for texts in (headers, reasons, faults, cuts, changes, long_texts):

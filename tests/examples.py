@@ -27,7 +27,7 @@ def differs(program, trace):
 
 
 def main():
-    if len(sys.argv) != 2 or sys.argv[1].startswith("-"):
+    if len(sys.argv) != 2:
         sys.exit(__doc__)
     traces = sorted(EXAMPLES.glob("*.trace"))
     unpaired = {it.stem for it in EXAMPLES.glob("*.transcript")} ^ {it.stem for it in traces}

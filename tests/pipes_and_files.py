@@ -177,7 +177,7 @@ def compared(found, wanted):
 
 
 def main():
-    if len(sys.argv) != 2 or sys.argv[1].startswith("-"):
+    if len(sys.argv) != 2:
         print(__doc__)
         return 2
     program = os.path.abspath(sys.argv[1])

@@ -179,7 +179,7 @@ def tried(program, folder, shim, words, text):
 
 
 def main():
-    if len(sys.argv) != 2 or sys.argv[1].startswith("-"):
+    if len(sys.argv) != 2:
         sys.exit(__doc__)
     wrong = 0
     with tempfile.TemporaryDirectory() as name:

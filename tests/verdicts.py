@@ -1,19 +1,15 @@
 #!/usr/bin/env python3
-"""tests/verdicts.py PROGRAM [--edits N] [--seed S] [--jobs J] [--lines L] [--only] [TRACE..]
+"""tests/verdicts.py PROGRAM [--edits N] [--seed S] [--jobs J] [TRACE..]
 
-Has the program `pas` check transcripts: that of each trace of examples/ (but for `--only`) and of each TRACE (also packed,
-as NAME.xz; as much of it as has a transcript of at most L lines), which it has to accept, and N edits of one line of each,
-drawn by the seed: a line left out, doubled or exchanged with the next
+Has the program `pas` check transcripts: that of each trace of examples/ and of each TRACE (also packed, as NAME.xz), which
+it has to accept, and N edits of one line of each, drawn by the seed: a line left out, doubled or exchanged with the next
 one, a number of it one off, a word of it changed, another actor; and where a transcript has fewer of these than N, one
 byte of a line changed, put in or left out. What the program says of each has to be what a second reading of the rules says
 (tests/judge.py): that the line isn't allowed, or which later one isn't, or that the transcript is right as it now stands.
-Where it is to refuse a line, it gets only a few of the lines behind that one, which have no say in it: so a program that
-takes the line, or refuses another one, is still found out.
 Prints for each trace how many edits were refused at their line, how many at a later one and how many are right; status 0
 where all verdicts are those of the second reading."""
 
 import argparse
-import itertools
 import lzma
 import os
 import pathlib
@@ -29,7 +25,6 @@ from judge import Judge, Lines, Trace, lines_of
 
 MOST_SECONDS = 60
 MOST_BYTES = 16_777_216
-FEW_LINES = 200
 EXAMPLES = pathlib.Path(__file__).resolve().parent.parent / "examples"
 WORDS = ["deed", "back", "unback", "give", "freed", "ended", "no-block", "size-differs", "outside", "unaligned", "no-space", "held", "kept", "skipped",
          "tick", "pass", "bare", "young", "in-use", "not-offered", "stopped", "phase", "close", "report", "page", "heap", "class", "shared", "bitfit",
@@ -135,21 +130,13 @@ class EditedLines(Lines):
         self.lines[edit.at:end + 1] = lines_of("".join(edit.lines) + "".join(self.lines[end:end + 1]))
 
 
-def verdict_on(trace, lines):
-    """What the second reading says of lines."""
-    try:
-        return Judge(trace, lines).verdict()
-    except Exception as error:
-        return f"the second reading failed: {error!r}"
-
-
 def judged(trace, text, edits):
-    """The verdict on the transcript, and on it after each edit, by the second reading: a few lines are read again for each."""
-    parts, trace = lines_of(text), Trace(trace)
-    if len(parts) <= FEW_LINES:
-        return verdict_on(trace, Lines(text)), {edit: verdict_on(trace, Lines("".join((*parts[:edit.at], *edit.lines, *parts[edit.at + edit.count:])))) for edit in edits}
+    """The verdict on the transcript, and on it after each edit, by the second reading."""
     lines = EditedLines(text, edits)
-    verdict = verdict_on(trace, lines)
+    try:
+        verdict = Judge(Trace(trace), lines).verdict()
+    except Exception as error:
+        verdict = f"the second reading failed: {error!r}"
     if lines.sink is not None:
         os.write(lines.sink, verdict.encode())
         os._exit(0)
@@ -157,8 +144,8 @@ def judged(trace, text, edits):
 
 
 def told(program, trace, *parts):
-    """What the program says of a trace and the parts of a transcript, as bytes."""
-    text = b"".join((trace, b"" if trace.endswith(b"\n") else b"\n", b"transcript\n", *parts))
+    """What the program says of a trace and the parts of a transcript."""
+    text = "".join((trace, "" if trace.endswith("\n") else "\n", "transcript\n", *parts)).encode()
     run = subprocess.run([program, "check"], input=text, stdout=subprocess.PIPE, stderr=subprocess.STDOUT, timeout=MOST_SECONDS)
     said = run.stdout.decode(errors="replace")
     if run.returncode != {"y": 0, "n": 8}.get(said[:1]) or not said.endswith("\n"):
@@ -171,12 +158,12 @@ def transcript_of(program, trace):
     return run.stdout.decode()
 
 
-def read_pair(program, path, most_lines):
-    """A trace and its transcript: as much of the trace as may be checked with its transcript in one input, of at most so many lines."""
+def read_pair(program, path):
+    """A trace and its transcript: as much of the trace as may be checked with its transcript in one input."""
     trace = lzma.open(path).read().decode() if path.suffix == ".xz" else path.read_text()
     beside = path.with_suffix(".transcript")
     text = beside.read_text() if beside.exists() else transcript_of(program, trace)
-    while len(trace) + len(text) + 20 > MOST_BYTES or text.count("\n") > most_lines:
+    while len(trace) + len(text) + 20 > MOST_BYTES:
         lines = trace.splitlines(keepends=True)
         trace = "".join(lines[:len(lines) * 9 // 10])
         text = transcript_of(program, trace)
@@ -190,26 +177,17 @@ def outcome_of(edit, verdict):
     return "at its line" if int(verdict.split()[-1]) <= edit.at + max(len(edit.lines), 1) else "later"
 
 
-def needed(edit, verdict):
-    """How many lines behind an edit the program gets: all, or a few more than up to the one that it is to refuse."""
-    return max(int(verdict.split()[-1]) - edit.at, 0) + 2 if verdict.startswith("no line ") else None
-
-
-def try_edits(program, path, count, seed, part, parts, most_lines):
+def try_edits(program, path, count, seed, part, parts):
     """Of every so many edits one is tried. How many there were of each outcome, and what is wrong."""
-    trace, text = read_pair(program, path, most_lines)
+    trace, text = read_pair(program, path)
     lines = lines_of(text)
     edits = draw_edits(lines, int(trace.split()[5]), count, random.Random(f"{seed} {path.name}"))[part::parts]
     verdict, verdicts = judged(trace, text, edits)
-    trace, text, starts = trace.encode(), text.encode(), [0, *itertools.accumulate(map(len, lines))]
     said = told(program, trace, text)
     faults = [f"{path.name}: the program says {said}, the second reading {verdict}"] if (said, verdict) != ("yes", "yes") else []
     counts = Counter()
     for edit in edits:
-        end = edit.at + edit.count
-        behind = needed(edit, verdicts.get(edit, ""))
-        until = len(lines) if behind is None else min(end + behind, len(lines))
-        said = told(program, trace, text[:starts[edit.at]], "".join(edit.lines).encode(), text[starts[end]:starts[until]])
+        said = told(program, trace, *lines[:edit.at], *edit.lines, *lines[edit.at + edit.count:])
         if said == verdicts.get(edit):
             counts[outcome_of(edit, said)] += 1
         else:
@@ -224,13 +202,11 @@ def main():
     parser.add_argument("--edits", type=int, default=25)
     parser.add_argument("--seed", type=int, default=1)
     parser.add_argument("--jobs", type=int, default=1)
-    parser.add_argument("--lines", type=int, default=MOST_BYTES)
-    parser.add_argument("--only", action="store_true")
-    wanted = parser.parse_intermixed_args()
-    examples = [] if wanted.only else [path for path in sorted(EXAMPLES.glob("*.trace")) if not path.with_suffix(".transcript").read_bytes().startswith(b"line ")]
+    wanted = parser.parse_args()
+    examples = [path for path in sorted(EXAMPLES.glob("*.trace")) if not path.with_suffix(".transcript").read_bytes().startswith(b"line ")]
     faults, total = [], Counter()
     with ProcessPoolExecutor(wanted.jobs) as pool:
-        tries = {path: [pool.submit(try_edits, wanted.program, path, wanted.edits, wanted.seed, part, wanted.jobs, wanted.lines) for part in range(wanted.jobs)]
+        tries = {path: [pool.submit(try_edits, wanted.program, path, wanted.edits, wanted.seed, part, wanted.jobs) for part in range(wanted.jobs)]
                  for path in examples + wanted.traces}
         for path, parts in tries.items():
             results = [part.result() for part in parts]
@@ -240,7 +216,7 @@ def main():
             print(f"{path.name}: {counts['at its line']} refused at their line, {counts['later']} at a later one, {counts['right']} right", flush=True)
     print(*faults, sep="\n", end="\n" if faults else "")
     print(f"{total.total()} edits as the second reading has them, {len(faults)} wrong")
-    sys.exit(1 if faults or not total else 0)
+    sys.exit(1 if faults or not examples else 0)
 
 
 if __name__ == "__main__":

@@ -1,5 +1,6 @@
 mod Going
 mod Pieces
+mod NamesOfBlocks
 mod LogEntries
 mod Telling
 mod FlushKinds

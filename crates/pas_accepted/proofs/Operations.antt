@@ -1,21 +1,30 @@
 -- A thread's operation, by what it asks for.
-use Rattle.std.proofs.Common.{◌≡◌, ℕ, List, [], ◌∷◌, ◌++◌, None, Some, refl, ap, sym, ◌∙◌, Option}
+use Rattle.std.proofs.Common.{◌≡◌, ℕ, List, [], ◌∷◌, ◌++◌, None, Some, Result, refl, ap, sym, ◌∙◌, Option}
 use Rattle.pas_profile.specs.Profiles.{IsValid}
+use Rattle.pas_profile.specs.Requests.{route_in}
+use Rattle.pas_profile.specs.declared.directory.Route.{Route}
+use Rattle.pas_profile.specs.declared.event.NoRoom.{NoRoom}
+use Rattle.pas_profile.specs.declared.name.Block.{Block}
 use Rattle.pas_profile.specs.declared.profile.Profile.{Profile}
 use Rattle.pas_steps.specs.Desks.{triples}
 use Rattle.pas_steps.specs.Events.{events_by}
 use Rattle.pas_steps.specs.Lists.{Legal, part, visible}
+use Rattle.pas_steps.specs.declared.step.Made.{Made}
 use Rattle.pas_free_log.specs.Frames.{freeing}
 use Rattle.pas_cache.specs.Caches.{Cached}
+use Rattle.pas_cache.specs.Kinds.{allocating}
+use Rattle.pas_cache.specs.Serves.{ServesBy, Wanted, wanted_for}
+use Rattle.pas_cache.proofs.Budget.{log_kept}
 use Rattle.pas_report.specs.declared.record.Record.{Record}
 use Rattle.pas_trace.specs.declared.item.Request.{Request}
 use Rattle.pas_trace.specs.declared.plan.What.{What}
 use Rattle.pas_trace.specs.declared.plan.What.TheVariants.{Alloc, Free, FreeSized, Raw, RawSized, Remake, Flush, Stop, Tick, Pass, Idle}
-use Rattle.pas_answers.specs.Answers.{Answer, IsAnswered, IsFreedBy, Progress, after_answer, having, records_of, room_noted, said_by}
-use Rattle.pas_trace.specs.Named.{standing_for}
+use Rattle.pas_answers.specs.Answers.{Answer, IsAnswered, IsFreedBy, Progress, after_answer, block_of, having, records_of, room_noted, said_by}
+use Rattle.pas_answers.specs.Named.{standing_for}
 use Rattle.pas_answers.specs.Refusals.{RefusesTruly}
 use Rattle.pas_answers.proofs.Tidy.{Tidy, answer_tidy}
 use Rattle.pas_check.specs.Begins.{begun_what, entry_of as known_entry, freeing_named, remaking_named, unsized}
+use Rattle.pas_check.specs.Named.{standing_for as stands_for}
 use Rattle.pas_check.specs.States.{Serves, Stand, Task}
 use Rattle.pas_check.specs.Tasks.{emptying}
 use Rattle.pas_check.proofs.Ticks.{epoch_kept}
@@ -23,7 +32,8 @@ use Rattle.pas_accepted.proofs.FlushKinds.{flush_only}
 use Rattle.pas_accepted.proofs.Flushing.{flush_leads}
 use Rattle.pas_accepted.proofs.Frees.{free_comes, freed_comes, silent_lines}
 use Rattle.pas_accepted.proofs.Going.{LeadsOn, on_as, on_both}
-use Rattle.pas_accepted.proofs.Pieces.{lines_by}
+use Rattle.pas_accepted.proofs.NamesOfBlocks.{known, known_stands}
+use Rattle.pas_accepted.proofs.Pieces.{lines_by, table_same}
 use Rattle.pas_accepted.proofs.Remakes.{asked_tells, asked_then, remade_comes}
 use Rattle.pas_accepted.proofs.Requests.{request_leads, served, served_plain}
 use Rattle.pas_accepted.proofs.Stopping.{emptied, logs_with, stop_leads, stop_tells}
@@ -36,11 +46,11 @@ module _ (f : Profile) (valid : IsValid f) (p : Progress) (s : Stand) (ts : List
 
   -- a free of what a name stands for
   named_comes : (name : ℕ) (room : Option ℕ) → IsFreedBy f k (p.caches k) a.cache name room (standing_for p.names name) a.steps a.said → a.names ≡ p.names → Tidy (a.steps ++ part k p.list)
-      → LeadsOn f s [] (record (freeing_named f s k name (room_noted room) (standing_for s.names name)) { left = ts })
+      → LeadsOn f s [] (record (freeing_named f s k name (room_noted room) (stands_for s.names name)) { left = ts })
       → Comes f s (records_of (events_by k (part k p.list) a.steps) ++ said_by k a.said) (after_answer p k a) ts
   named_comes name room is same tidy begun =
       freed_comes f valid p s ts tells k a same tidy legal name room (standing_for p.names name) is
-      (on_as f s _ _ [] [] refl (ap (λ x. record (freeing_named f s k name (room_noted room) x) { left = ts }) (sym (ap (λ ns. standing_for ns name) tells.names))) begun)
+      (on_as f s _ _ [] [] refl (ap (λ x. record (freeing_named f s k name (room_noted room) x) { left = ts }) (sym (ap (λ ns. stands_for ns name) tells.names ∙ known_stands p.names name))) begun)
 
   -- THE OPERATION
   pub what_comes : (what : What) (is : IsAnswered f k what (having p.names (part k p.list) (p.caches k)) a) → RefusesTruly f k what (having p.names (part k p.list) (p.caches k)) a is p.list → LeadsOn f s [] (record (begun_what f s k what) { left = ts })
@@ -66,7 +76,7 @@ module _ (f : Profile) (valid : IsValid f) (p : Progress) (s : Stand) (ts : List
   what_comes (RawSized room block) is truly begun = free_comes f valid p s ts tells k a is.1 (tidy_of (RawSized room block) is) legal (known_entry block room) is.0 begun
   what_comes (Remake name old heap size align) is truly begun =
       remade_comes f valid p s ts tells k a (tidy_of (Remake name old heap size align) is) legal name size align (standing_for p.names old) is truly
-      (on_as f s _ _ [] [] refl (ap (λ x. record (remaking_named s k name size align x) { left = ts }) (sym (ap (λ ns. standing_for ns old) tells.names))) begun)
+      (on_as f s _ _ [] [] refl (ap (λ x. record (remaking_named s k name size align x) { left = ts }) (sym (ap (λ ns. stands_for ns old) tells.names ∙ known_stands p.names old))) begun)
   what_comes Flush is truly begun =
       let u : Stand = emptying s k [] [] ts in
       let end : Stand = emptied p s k a.steps [] [] ts in
@@ -75,7 +85,7 @@ module _ (f : Profile) (valid : IsValid f) (p : Progress) (s : Stand) (ts : List
       record {
         end = end;
         leads = on_as f s end end _ _ (silent_lines k a.said rs is.1) refl (on_both f s u end [] (lines_by rs) begun (flush_leads f valid p s tells k (p.caches k).noted a.cache.noted a.steps h legal [] [] ts));
-        tells = told_after p s end k a.steps a.cache a.names _ tells refl (tells.names ∙ sym is.2) (logs_with p s k a.cache [] tells (ap (λ (d : Cached). d.log) is.0.cache)) (ap (λ (d : Cached). d.idle_since) is.0.cache) refl refl
+        tells = told_after p s end k a.steps a.cache a.names _ tells refl (tells.names ∙ ap known (sym is.2)) (logs_with p s k a.cache [] tells (ap (λ (d : Cached). d.log) is.0.cache)) (ap (λ (d : Cached). d.idle_since) is.0.cache) refl refl
             (epoch_kept freeing refl k a.steps p.list (flush_only k (p.caches k).log (p.caches k).noted a.cache.noted a.steps h)) (tidy_of Flush is);
         due = refl;
         left = refl;
@@ -87,7 +97,7 @@ module _ (f : Profile) (valid : IsValid f) (p : Progress) (s : Stand) (ts : List
       record {
         end = end;
         leads = on_as f s end end _ _ (silent_lines k a.said rs is.1) refl (on_both f s u end [] (lines_by rs) begun (stop_leads f valid p s tells k a.cache a.steps is.0 legal [] ts));
-        tells = stop_tells f valid p s tells k a.cache a.steps is.0 legal a.names _ end refl (tells.names ∙ sym is.2) refl refl refl;
+        tells = stop_tells f valid p s tells k a.cache a.steps is.0 legal a.names _ end refl (tells.names ∙ ap known (sym is.2)) refl refl refl;
         due = refl;
         left = refl;
       }

@@ -21,6 +21,7 @@ use Rattle.pas_steps.proofs.Adding.{triples_append}
 use Rattle.pas_steps.proofs.Frames.{events_append}
 use Rattle.pas_steps.proofs.Parts.{part_of_own}
 use Rattle.pas_free_log.specs.Logs.{entry_of}
+use Rattle.pas_free_log.specs.declared.log.Entry.{Entry}
 use Rattle.pas_cache.specs.Caches.{Cached}
 use Rattle.pas_cache.specs.Calls.{TakesEntry}
 use Rattle.pas_cache.specs.Changes.{EmptiesFull}
@@ -33,8 +34,8 @@ use Rattle.pas_report.specs.declared.record.Record.{Record}
 use Rattle.pas_report.specs.declared.record.Said.{Said}
 use Rattle.pas_trace.specs.declared.item.Request.{Request}
 use Rattle.pas_trace.specs.declared.plan.What.TheVariants.{Alloc}
-use Rattle.pas_answers.specs.Answers.{Answer, Caches, IsKept, IsRemadeBy, IsReplaced, IsServed, Progress, after_answer, block_of, having, records_of, request_for, said_by, said_of_request, wanted_by, with_cache}
-use Rattle.pas_trace.specs.Named.{Named, named}
+use Rattle.pas_answers.specs.Answers.{Answer, Caches, IsKept, IsRemadeBy, IsReplaced, IsServed, Progress, RequestEnds, after_answer, block_of, having, records_of, request_for, said_by, said_of_request, wanted_by, with_cache}
+use Rattle.pas_answers.specs.Named.{Named, named}
 use Rattle.pas_answers.specs.Refusals.{request_in_move, request_in_remade}
 use Rattle.pas_answers.proofs.Parts.{Each}
 use Rattle.pas_answers.proofs.Tidy.{Tidy, answer_tidy}
@@ -44,7 +45,8 @@ use Rattle.pas_check.specs.declared.entry.Entry.{Entry as Known}
 use Rattle.pas_check.proofs.Ticks.{epoch_kept}
 use Rattle.pas_accepted.proofs.Frees.{comes_after, full_is, logged_comes}
 use Rattle.pas_accepted.proofs.Going.{LeadsOn, on_as, on_both, on_line}
-use Rattle.pas_accepted.proofs.Pieces.{lines_by, table_same}
+use Rattle.pas_accepted.proofs.NamesOfBlocks.{known}
+use Rattle.pas_accepted.proofs.Pieces.{lines_both, lines_by, table_same}
 use Rattle.pas_accepted.proofs.Requests.{request_leads, served, serving}
 use Rattle.pas_accepted.proofs.Telling.{Comes, Tells, piece_of, told_after}
 
@@ -60,7 +62,7 @@ module _ (f : Profile) (p : Progress) (s : Stand) (ts : List Task) (tells : Tell
 
   pub asked_tells : (records : List Record) → Tells record { names = placed.names; caches = with_cache p.caches k placed.cache; epoch = p.epoch; list = triples k placed.steps ++ p.list; records = records } asked_then
   asked_tells records = told_after p s asked_then k placed.steps placed.cache placed.names records tells refl
-      (ap (λ ns. record { name = r.name; block = block_of is.answer } ∷ ns) tells.names ∙ sym is.names_are)
+      (ap (λ ns. record { name = r.name; block = block_of is.answer } ∷ ns) tells.names ∙ ap known (sym is.names_are))
       (λ j. table_same (λ (d : Cached). d.log) p.caches k placed.cache (log_kept f (wanted_by f r) placed.found (p.caches k) placed.cache placed.steps is.answer (route_in f r.size r.align) is.serves) j ∙ tells.logs j)
       (idle_kept f (wanted_by f r) placed.found (p.caches k) placed.cache placed.steps is.answer (route_in f r.size r.align) is.serves) refl refl (epoch_kept allocating refl k placed.steps p.list is.kinds)
       (answer_tidy f k (Alloc r.name r.heap r.size r.align) (having p.names (part k p.list) (p.caches k)) placed is (piece_of f k placed.steps p.list legal) (tells.tidy k))
@@ -94,7 +96,7 @@ module _ (f : Profile) (valid : IsValid f) (p : Progress) (s : Stand) (ts : List
       record {
         end = t;
         leads = on_as f s t t _ _ (ap (λ ms. lines_by (records_of (events_by k (part k p.list) ms) ++ said_by k a.said)) none ∙ ap (λ o. lines_by (said_by k o)) is) refl (on_both f s u t [] (line ∷ []) begun (on_line f u t line (inr (refl, refl))));
-        tells = told_after p s t k a.steps a.cache a.names _ tells (tells.events ∙ ap (λ ms. visible (triples k ms ++ p.list)) (sym none)) (ap (λ ns. record { name = name; block = found } ∷ ns) tells.names ∙ sym names)
+        tells = told_after p s t k a.steps a.cache a.names _ tells (tells.events ∙ ap (λ ms. visible (triples k ms ++ p.list)) (sym none)) (ap (λ ns. record { name = name; block = found } ∷ ns) tells.names ∙ ap known (sym names))
             (λ j. table_same (λ (d : Cached). d.log) p.caches k a.cache (ap (λ (d : Cached). d.log) cache) j ∙ tells.logs j) (ap (λ (d : Cached). d.idle_since) cache) refl refl (ap (λ ms. word_after (triples k ms ++ p.list) Word.Epoch) none) tidy;
         due = refl;
         left = refl;
@@ -106,7 +108,7 @@ module _ (f : Profile) (valid : IsValid f) (p : Progress) (s : Stand) (ts : List
       → Tells record { names = names; caches = caches; epoch = epoch; list = list; records = records } t → Tells record { names = names'; caches = caches'; epoch = epoch'; list = list'; records = records' } t
   tells_as names names' caches caches' list list' epoch epoch' records records' t same_names same_caches same_list known_there = record {
     events = known_there.events ∙ ap visible (sym same_list);
-    names = known_there.names ∙ sym same_names;
+    names = known_there.names ∙ ap known (sym same_names);
     logs = λ j. ap (λ (cs : Caches). (cs j).log) same_caches ∙ known_there.logs j;
     awake = λ j. known_there.awake j ∙ ap (λ (cs : Caches). (cs j).idle_since) (sym same_caches);
     epoch = known_there.epoch ∙ ap (λ (l : Whole). word_after l Word.Epoch) (sym same_list);

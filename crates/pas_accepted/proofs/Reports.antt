@@ -13,10 +13,10 @@ use Rattle.pas_report.specs.Reports.{live_on, machine_page, machine_pages, page_
 use Rattle.pas_report.specs.Rests.{AreTrueMarks}
 use Rattle.pas_check.specs.Accepted.{IsWhole}
 use Rattle.pas_check.specs.Begins.{page_due, pages_due}
-use Rattle.pas_check.specs.Lines.{is_line, lines_in}
+use Rattle.pas_check.specs.Lines.{lines_in}
 use Rattle.pas_check.specs.States.{Due, Heads, Reports, Shows, Stand, Totals}
 use Rattle.pas_check.specs.Takes.{AreAllowedMarks, head_line}
-use Rattle.pas_check.proofs.Cuts.{cut_line, kind_first, number_first, totals_end}
+use Rattle.pas_check.proofs.Cuts.{cut_line, is_line, kind_first, number_first}
 use Rattle.pas_accepted.proofs.Going.{LeadsOn, on_as, on_both, on_line, on_same, on_task}
 
 -- ---- its lines
@@ -57,6 +57,13 @@ page_ends page d live free stamp m =
     let lives : List ℕ = codes " live " ++ (decimal live ++ frees) in
     number_first page (codes " heap " ++ (decimal d.heap ++ (codes " " ++ (kind_text d.kind ++ lives)))) ∙ number_first d.heap (codes " " ++ (kind_text d.kind ++ lives)) ∙ kind_first d.kind lives
     ∙ number_first live frees ∙ number_first free stamps ∙ number_first stamp marks ∙ marks_end m.backed m.offered m.parked m.hinted
+
+totals_end : (deeds backed live given ended : ℕ) → is_line (totals_text deeds backed live given ended) ≡ true
+totals_end deeds backed live given ended =
+    let ends : List ℕ = codes " ended " ++ (decimal ended ++ codes "\n") in
+    let gives : List ℕ = codes " given " ++ (decimal given ++ ends) in
+    let lives : List ℕ = codes " live " ++ (decimal live ++ gives) in
+    number_first deeds (codes " backed " ++ (decimal backed ++ lives)) ∙ number_first backed lives ∙ number_first live gives ∙ number_first given ends ∙ number_first ended (codes "\n")
 
 cut_page : (es : List Event) (page : ℕ) (o : Option Directory) (m : Marked) (rest : List ℕ) → lines_in (machine_page es page o m ++ rest) ≡ page_line es page o m ++ lines_in rest
 cut_page es page None m rest = refl

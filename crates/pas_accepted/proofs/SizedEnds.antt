@@ -1,5 +1,5 @@
 -- A block that a flush ended by an entry with a room had that room.
-use Rattle.std.proofs.Common.{◌≡◌, ◌≢◌, ℕ, ◌+◌, ◌/◌, ◌%◌, ◌==◌, Bool, true, false, not, ◌&&◌, if◌then◌else◌, List, [], ◌∷◌, ◌++◌, Option, Some, None, refl, ap, sym, ◌∙◌, subst, arith, append_assoc}
+use Rattle.std.proofs.Common.{◌≡◌, ◌≢◌, ℕ, ◌+◌, ◌*◌, ◌/◌, ◌%◌, ◌^◌, ◌<◌, ◌==◌, Bool, true, false, not, ◌&&◌, if◌then◌else◌, List, [], ◌∷◌, ◌++◌, Option, Some, None, inl, inr, refl, ap, sym, ◌∙◌, subst, arith, append_assoc}
 use Rattle.std.specs.List.{AllByRecursion}
 use Rattle.std.proofs.lemmas.Bool.{cond_both, false≢true, ne_eqb}
 use Rattle.std.proofs.lemmas.Option.{none-some, same_Some}
@@ -25,7 +25,7 @@ use Rattle.pas_steps.specs.declared.step.Made.{Made}
 use Rattle.pas_steps.specs.declared.step.Step.{Step}
 use Rattle.pas_steps.specs.declared.step.Step.TheVariants.{Look, Deed, Back, Give, End, EndSized, Unback}
 use Rattle.pas_steps.proofs.Apart.{only_both}
-use Rattle.pas_free_log.specs.Endings.{EndSteps, TriesBy, last_step}
+use Rattle.pas_free_log.specs.Endings.{EndSteps, IsEndOf, TriesBy, last_step}
 use Rattle.pas_free_log.specs.Flushes.{EntriesSteps, EntrySteps, Settled}
 use Rattle.pas_free_log.specs.Frames.{freeing}
 use Rattle.pas_free_log.specs.Logs.{is_sized}

@@ -12,7 +12,7 @@ use Rattle.pas_steps.proofs.Frames.{events_append}
 use Rattle.pas_free_log.specs.Frames.{freeing}
 use Rattle.pas_cache.specs.Caches.{Cached}
 use Rattle.pas_report.specs.declared.record.Record.{Record}
-use Rattle.pas_trace.specs.Named.{Named}
+use Rattle.pas_answers.specs.Named.{Named}
 use Rattle.pas_answers.specs.Answers.{IsStopped, Progress, records_of, with_cache}
 use Rattle.pas_answers.proofs.Tidy.{stop_tidy}
 use Rattle.pas_check.specs.States.{Due, Stand, Task, with_at}
@@ -23,6 +23,7 @@ use Rattle.pas_accepted.proofs.FlushKinds.{stop_only}
 use Rattle.pas_accepted.proofs.Flushing.{flush_leads}
 use Rattle.pas_accepted.proofs.Going.{LeadsOn, on_as}
 use Rattle.pas_accepted.proofs.LogEntries.{logged_as}
+use Rattle.pas_accepted.proofs.NamesOfBlocks.{known}
 use Rattle.pas_accepted.proofs.Pieces.{lines_by, table_at, visible_piece}
 use Rattle.pas_accepted.proofs.Telling.{Tells, piece_of, told_after}
 
@@ -52,7 +53,7 @@ module _ (f : Profile) (valid : IsValid f) (p : Progress) (s : Stand) (tells : T
       on_as f u (emptied p s k h.flushed [] more ts) (emptied p s k steps [] more ts) _ _ (ap (λ es. lines_by (records_of es)) events_are) (ap (λ es. record u { events = es; due = more }) same_visible)
       (flush_leads f valid p s tells k (p.caches k).noted c.noted h.flushed h.empties flush_legal [] more ts)
 
-  pub stop_tells : (names : List Named) (records : List Record) (t : Stand) → t.events ≡ visible (triples k steps ++ p.list) → t.names ≡ names → t.logs ≡ with_at s.logs k [] → t.idle_since ≡ s.idle_since → t.epoch ≡ s.epoch
+  pub stop_tells : (names : List Named) (records : List Record) (t : Stand) → t.events ≡ visible (triples k steps ++ p.list) → t.names ≡ known names → t.logs ≡ with_at s.logs k [] → t.idle_since ≡ s.idle_since → t.epoch ≡ s.epoch
       → Tells record { names = names; caches = with_cache p.caches k c; epoch = p.epoch; list = triples k steps ++ p.list; records = records } t
   stop_tells names records t events named logs awake epoch =
       told_after p s t k steps c names records tells events named (λ j. logs_with p s k c [] tells (ap (λ (d : Cached). d.log) h.cache) j ∙ ap (λ (table : ℕ → List Known). map logged_as (table j)) (sym logs))

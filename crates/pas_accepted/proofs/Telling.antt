@@ -7,7 +7,7 @@ use Rattle.pas_steps.specs.Desks.{triples}
 use Rattle.pas_steps.specs.Lists.{Legal, Whole, part, visible, word_after}
 use Rattle.pas_steps.specs.declared.step.Made.{Made}
 use Rattle.pas_steps.proofs.Parts.{part_of_own}
-use Rattle.pas_trace.specs.Named.{Named}
+use Rattle.pas_answers.specs.Named.{Named}
 use Rattle.pas_report.specs.declared.record.Record.{Record}
 use Rattle.pas_report.proofs.Showable.{AreOfRegion}
 use Rattle.pas_cache.specs.Caches.{Cached}
@@ -18,13 +18,14 @@ use Rattle.pas_answers.proofs.Tidy.{Tidy}
 use Rattle.pas_check.specs.States.{Stand, Task}
 use Rattle.pas_accepted.proofs.Going.{LeadsOn}
 use Rattle.pas_accepted.proofs.LogEntries.{logged_as}
+use Rattle.pas_accepted.proofs.NamesOfBlocks.{known}
 use Rattle.pas_accepted.proofs.Pieces.{lines_by, table_same}
 
 -- The events so far are those that are visible in the list, the names and the logs are the replay's, the threads read their epochs at the same places,
 -- and the greatest tick is the epoch. Nobody has an unstamped page.
 pub record Tells (p : Progress) (s : Stand) : Type 0 where
   pub events : s.events ≡ visible p.list
-  pub names : s.names ≡ p.names
+  pub names : s.names ≡ known p.names
   pub logs : (k : ℕ) → (p.caches k).log ≡ map logged_as (s.logs k)
   pub awake : (k : ℕ) → s.idle_since k ≡ (p.caches k).idle_since
   pub epoch : s.epoch ≡ word_after p.list Word.Epoch
@@ -43,7 +44,7 @@ pub piece_of : (f : Profile) (k : ℕ) (steps : List Made) (l : Whole) → Legal
 piece_of f k steps l legal = of_front f steps (part k l) (subst (AreOfRegion f) (part_of_own k steps l) (legal_part f (triples k steps ++ l) k legal))
 
 -- after a piece of actor k, whose cache holds c then
-pub told_after : (p : Progress) (s t : Stand) (k : ℕ) (steps : List Made) (c : Cached) (names : List Named) (records : List Record) → Tells p s → t.events ≡ visible (triples k steps ++ p.list) → t.names ≡ names
+pub told_after : (p : Progress) (s t : Stand) (k : ℕ) (steps : List Made) (c : Cached) (names : List Named) (records : List Record) → Tells p s → t.events ≡ visible (triples k steps ++ p.list) → t.names ≡ known names
     → ((j : ℕ) → (with_cache p.caches k c j).log ≡ map logged_as (t.logs j)) → c.idle_since ≡ (p.caches k).idle_since → t.idle_since ≡ s.idle_since → t.epoch ≡ s.epoch
     → word_after (triples k steps ++ p.list) Word.Epoch ≡ word_after p.list Word.Epoch → Tidy (steps ++ part k p.list)
     → Tells record { names = names; caches = with_cache p.caches k c; epoch = p.epoch; list = triples k steps ++ p.list; records = records } t

@@ -5,7 +5,6 @@ use Rattle.std.proofs.lemmas.Bool.{ne_eqb, eq-eqb, cases_eq, true≢false, or_pa
 use Rattle.pas_profile.specs.declared.profile.Profile.{Profile}
 use Rattle.pas_profile.specs.declared.name.Block.{Block}
 use Rattle.pas_trace.proofs.Costs.{some_cost}
-pub use Rattle.pas_trace.proofs.EveryPlan.{below_front}
 use Rattle.pas_trace.specs.Asked.{work_of, of_task, request_of, freed_of, request_in}
 use Rattle.pas_trace.specs.EveryPlan.{is_asked, asked_with, asked_after, asked_by, AreSound, IsSoundTask, IsSoundWork, IsActorBy, IsThread}
 use Rattle.pas_trace.specs.EveryPhase.{FreesItsOwn}
@@ -35,6 +34,10 @@ sound_front f asked (x ∷ xs) ys sound = (sound.0, sound.1, sound_front f (aske
 pub sound_back : (f : Profile) (asked : List ℕ) (xs ys : List Op) → AreSound f asked (xs ++ ys) → AreSound f (asked_by asked xs) ys
 sound_back f asked [] ys sound = sound
 sound_back f asked (x ∷ xs) ys sound = sound_back f (asked_after x.what asked) xs ys sound.2
+
+pub below_front : (limit : ℕ) (xs ys : List Op) → AreBelow limit (xs ++ ys) → AreBelow limit xs
+below_front limit [] ys below = tt
+below_front limit (x ∷ xs) ys below = (below.0, below_front limit xs ys below.1)
 
 -- ---- the thread's own operations fit
 -- what was asked for among the first was so among the second

@@ -18,7 +18,7 @@ use pas_large::Door;
 use pas_profile::Block;
 use pas_report::Records;
 use pas_steps::Desk;
-use pas_trace::{Op, Task, What, Work};
+use pas_trace::{Op, Task, Work};
 
 /// What the name that the task frees or reallocates stands for to the thread.
 #[inline(always)]
@@ -48,7 +48,6 @@ fn keep(requests: &mut Requests, task: Task, came: Option<Block>)
 }
 
 /// Performs an operation of the desk's thread, of which none is a chore. Its name is looked up and kept in book and requests.
-#[inline(always)]
 fn operate<D: Desk, O: Door, M: Remake>(
     desk: &mut D,
     door: &mut O,
@@ -68,51 +67,6 @@ fn operate<D: Desk, O: Door, M: Remake>(
         let meant = freed(book, requests, task);
         let came = at_desk::operate(desk, door, cache, remaker, task, meant, out);
         keep(requests, task, came);
-    }
-}
-
-/// The same, out of line.
-#[inline(never)]
-fn operate_rare<D: Desk, O: Door, M: Remake>(
-    desk: &mut D,
-    door: &mut O,
-    book: &NameBook,
-    cache: &mut ThreadCache,
-    remaker: &M,
-    requests: &mut Requests,
-    op: Op,
-    out: &mut Records,
-)
-    requires stands { (f : TheProfile) × (next : List Act) × (later : Later) × (p : Progress) × ThreadAt f op.actor (Operates op ∷ (Settles op.actor ∷ next)) (D.standing desk.old) (keeps (cached cache.old) (table book.now requests.old) out.old) later p }
-    ensures works { (f : TheProfile) (next : List Act) (later : Later) (p : Progress) → ThreadAt f op.actor (Operates op ∷ (Settles op.actor ∷ next)) (D.standing desk.old) (keeps (cached cache.old) (table book.now requests.old) out.old) later p
-        → Works f op.actor (Operates op ∷ (Settles op.actor ∷ [])) next (D.standing desk.old) (D.standing desk.new) (keeps (cached cache.old) (table book.now requests.old) out.old) (keeps (cached cache.new) (table book.now requests.new) out.new) later p }
-    ensures home { D.home desk.new ≡ D.home desk.old }
-{
-    operate(desk, door, book, cache, remaker, requests, op, out)
-}
-
-/// Performs an operation of the desk's thread, of which none is a chore. Requests and frees by name, which are the most by
-/// far, have code of their own, which no longer asks what the operation is.
-#[inline(always)]
-fn operate_by_kind<D: Desk, O: Door, M: Remake>(
-    desk: &mut D,
-    door: &mut O,
-    book: &NameBook,
-    cache: &mut ThreadCache,
-    remaker: &M,
-    requests: &mut Requests,
-    op: &Op,
-    out: &mut Records,
-)
-    requires stands { (f : TheProfile) × (next : List Act) × (later : Later) × (p : Progress) × ThreadAt f op.now.actor (Operates op.now ∷ (Settles op.now.actor ∷ next)) (D.standing desk.old) (keeps (cached cache.old) (table book.now requests.old) out.old) later p }
-    ensures works { (f : TheProfile) (next : List Act) (later : Later) (p : Progress) → ThreadAt f op.now.actor (Operates op.now ∷ (Settles op.now.actor ∷ next)) (D.standing desk.old) (keeps (cached cache.old) (table book.now requests.old) out.old) later p
-        → Works f op.now.actor (Operates op.now ∷ (Settles op.now.actor ∷ [])) next (D.standing desk.old) (D.standing desk.new) (keeps (cached cache.old) (table book.now requests.old) out.old) (keeps (cached cache.new) (table book.now requests.new) out.new) later p }
-    ensures home { D.home desk.new ≡ D.home desk.old }
-{
-    match op.what {
-        What::Alloc { .. } => operate(desk, door, book, cache, remaker, requests, *op, out),
-        What::Free { .. } => operate(desk, door, book, cache, remaker, requests, *op, out),
-        _ => operate_rare(desk, door, book, cache, remaker, requests, *op, out),
     }
 }
 
@@ -142,7 +96,7 @@ pub fn work<D: Desk, O: Door, G: Gate, M: Remake>(
         if op.actor == actor {
             number += 1;
             gate.before(actor, number);
-            operate_by_kind(desk, door, book, cache, remaker, requests, op, out);
+            operate(desk, door, book, cache, remaker, requests, *op, out);
             gate.after(actor, number);
         }
     }

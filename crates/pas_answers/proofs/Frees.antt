@@ -16,13 +16,13 @@ use Rattle.pas_steps.proofs.Frames.{events_append}
 use Rattle.pas_trace.specs.Asked.{request_of, cost_of_task}
 use Rattle.pas_trace.specs.declared.plan.Task.{Task}
 use Rattle.pas_trace.specs.declared.plan.Work.{Work}
-use Rattle.pas_trace.specs.declared.plan.What.TheVariants.{Free, Raw}
+use Rattle.pas_trace.specs.declared.plan.What.TheVariants.{Free, FreeSized, Raw}
 use Rattle.pas_report.specs.declared.record.Said.{Said}
 use Rattle.pas_free_log.specs.declared.log.Entry.{Entry}
 use Rattle.pas_cache.specs.Caches.{Cached, AtRest}
 use Rattle.pas_cache.specs.Calls.{TakesEntry, RefusesName, Frees, FlushesLog, StopsCache}
 use Rattle.pas_answers.specs.Answers.{Named, standing_for, said_of_fault, entry_with, IsFreedBy}
-use Rattle.pas_answers.specs.Calls.{what_of, block_behind, owed_events, MayPerform, PerformsMeant, FreesOne}
+use Rattle.pas_answers.specs.Calls.{what_of, block_behind, IsMeant, IsKnown, owed_events, MayPerform, PerformsMeant, FreesOne}
 use Rattle.pas_answers.specs.Fit.{IsFitTask, IsFitWork, IsFitWhat, cost_of_work}
 use Rattle.pas_answers.specs.Indexes.{IsNamedFor, request_made}
 use Rattle.pas_answers.proofs.Kept.{task_of}

@@ -1,7 +1,7 @@
 -- What a request promises.
-use Rattle.std.proofs.Common.{◌≡◌, ◌≢◌, ℕ, ◌+◌, ◌-◌, ◌<◌, ◌≤◌, ◌++◌, Bool, List, [], ◌∷◌, length, Option, Some, None, Result, Ok, Err, inl, inr, refl, ap, sym, ◌∙◌, subst, arith}
-use Rattle.std.specs.Prelude.{◌*◌, ◌/◌, ◌%◌, max, MatchResult}
-use Rattle.std.proofs.lemmas.Bool.{cases_lt}
+use Rattle.std.proofs.Common.{◌≡◌, ◌≢◌, ℕ, ◌+◌, ◌-◌, ◌<◌, ◌≤◌, ◌++◌, Bool, true, List, [], ◌∷◌, length, Option, Some, None, Result, Ok, Err, inl, inr, refl, ap, sym, ◌∙◌, subst, arith, lt-ltb}
+use Rattle.std.specs.Prelude.{◌*◌, ◌/◌, ◌%◌, max, nat_le, nat_lt, MatchResult}
+use Rattle.std.proofs.lemmas.Bool.{cases_lt, and_from, le-leb}
 use Rattle.std.proofs.Math.Nat.{mul-mod_left, mod-add-div', mul_assoc}
 use Rattle.std.specs.List.{AllByRecursion}
 use Rattle.std.proofs.lemmas.Option.{same_Some}
@@ -11,7 +11,7 @@ use Rattle.pas_profile.specs.Classes.{IsAlignment}
 use Rattle.pas_profile.specs.Profiles.{IsValid, IsAdmitted, IsPage, IsDirectoryOf}
 use Rattle.pas_profile.specs.Routes.{room_by, IsRouteOf}
 use Rattle.pas_profile.proofs.ClassFacts.{route_is, class_known, class_size_whole}
-use Rattle.pas_bits.proofs.Runs.{first_of_run}
+use Rattle.pas_bits.specs.Runs.{in_run}
 use Rattle.pas_bitfit.proofs.Aligned.{sixteens}
 use Rattle.pas_profile.specs.Requests.{route_in, room_in}
 use Rattle.pas_profile.specs.declared.profile.Profile.{Profile}
@@ -171,6 +171,9 @@ some_grains classes size align (Route.Class class) is = let enough = is.suits.ro
 some_grains classes size align Route.Bitfit is = omega arith
 some_grains classes size align Route.Large is = omega arith
 
+first_in : (g n : ℕ) → 0 < n → in_run g n g ≡ true
+first_in g n some = and_from (nat_le g g) (nat_lt g (g + n)) (le-leb g g (omega arith)) (lt-ltb g (g + n) (omega (arith, some)))
+
 -- a multiple of an alignment is one of 16
 sixteenth : (a align : ℕ) → IsAlignment align → a % align ≡ 0 → a % 16 ≡ 0
 sixteenth a align is at =
@@ -184,7 +187,7 @@ block_stands f c heap size align steps block v admitted rest agreed of =
     let small = of.turn.from v rest agreed in
     let some = some_grains f.classes size align (route_in f size align) (route_is f.classes size align) in
     let room = ap (λ n. n / 16) of.room in
-    let page = of.of_region (grain_of block.name) (first_of_run (grain_of block.name) (length_of block) (omega (arith, some, room))) in
+    let page = of.of_region (grain_of block.name) (first_in (grain_of block.name) (length_of block) (omega (arith, some, room))) in
     let same : grain_of block.name / 256 ≡ address_of block.name / 4096 = omega arith in
     λ b is. subst (IsBlockOf f) (same_Some _ _ is) record {
       region = record { page = subst (IsPage f) same page; aligned = sixteenth (address_of block.name) align admitted.aligned of.aligned };

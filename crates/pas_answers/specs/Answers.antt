@@ -1,5 +1,5 @@
 -- Which steps and records answer an operation, and how far a replay has come after an act.
-use Rattle.std.specs.Prelude.{ℕ, ◌+◌, ◌/◌, ◌%◌, ◌≡◌, ◌<◌, ◌≤◌, ◌==◌, ◌⊎◌, true, false, if◌then◌else◌, List, [], ◌∷◌, ◌++◌, map, max, reverse, Option, None, Some, Result, Ok, Err, MatchResult}
+use Rattle.std.specs.Prelude.{ℕ, ◌+◌, ◌/◌, ◌%◌, ◌≡◌, ◌<◌, ◌≤◌, ◌==◌, ◌&&◌, ◌⊎◌, Bool, true, false, nat_le, if◌then◌else◌, List, [], ◌∷◌, ◌++◌, map, max, reverse, Option, None, Some, Result, Ok, Err, MatchResult}
 use Rattle.std.specs.List.{AllByRecursion}
 use Rattle.pas_profile.specs.declared.directory.Directory.{Directory}
 use Rattle.pas_profile.specs.declared.directory.Route.{Route}
@@ -24,7 +24,7 @@ use Rattle.pas_steps.specs.declared.step.Step.TheVariants.{Look}
 use Rattle.pas_steps.specs.declared.step.Step.TheVariants as Step
 use Rattle.pas_trace.specs.declared.plan.What.{What}
 use Rattle.pas_trace.specs.declared.plan.What.TheVariants.{Alloc, Free, FreeSized, Raw, RawSized, Remake, Flush, Stop, Tick, Pass, Idle}
-pub use Rattle.pas_trace.specs.Named.{Named, named, standing_for, suits, request_for}
+pub use Rattle.pas_answers.specs.Named.{Named, named, standing_for}
 use Rattle.pas_trace.specs.declared.item.Request.{Request}
 use Rattle.pas_report.specs.declared.record.Record.{Record}
 use Rattle.pas_report.specs.declared.record.Said.{Said}
@@ -157,6 +157,10 @@ IsFreedBy f k c c' name room (Some None) steps said = (steps ≡ []) × (c' ≡ 
 IsFreedBy f k c c' name room (Some (Some block)) steps said = IsFreed f k c c' (entry_with block.name room) steps said
 
 -- ---- another size for a block
+-- whether the block has room for so many bytes, where none count as one, and stands at a multiple of the alignment
+abbrev pub suits : Block → ℕ → ℕ → Bool
+suits old size align = nat_le (max size 1) old.room && (address_of old.name % align == 0)
+
 -- The block suits the request as it is: nothing is done, which is said, and the new name stands for it as the old one does.
 pub record IsKept (r : Request) (old : Block) (before : Having) (after : Answer) : Type 0 where
   pub suited : suits old r.size r.align ≡ true
@@ -178,6 +182,10 @@ pub record IsReplaced (f : Profile) (k : ℕ) (r : Request) (old : Block) (befor
   pub said_is : after.said ≡ placed.said
   pub found_is : after.found ≡ placed.found
   pub names_are : after.names ≡ placed.names
+
+-- the request that is made where the block doesn't suit: for another block of its heap
+abbrev pub request_for : Block → ℕ → ℕ → ℕ → Request
+request_for old name size align = record { name = name; heap = old.heap; size = size; align = align }
 
 -- what a reallocation comes to, where the old name was never asked for (which no trace has), where its own request was refused, so that the new name counts as
 -- refused too, or where it stands for a block

@@ -1,5 +1,5 @@
 -- What the acts of a plan keep, one after the other, and how many events and records they may make.
-use Rattle.std.specs.Prelude.{ℕ, ◌+◌, ◌^◌, ◌<◌, ◌≤◌, ◌==◌, if◌then◌else◌, List, [], ◌∷◌, Option, None, Some, MatchOption}
+use Rattle.std.specs.Prelude.{ℕ, ◌+◌, ◌^◌, ◌<◌, ◌≤◌, ◌≡◌, ◌==◌, if◌then◌else◌, List, [], ◌∷◌, Option, None, Some, MatchOption}
 use Rattle.pas_profile.specs.declared.profile.Profile.{Profile}
 use Rattle.pas_trace.specs.Asked.{work_of, request_of, cost_of_task}
 use Rattle.pas_trace.specs.EveryPlan.{asked_after, IsThread, IsSoundTask}

@@ -69,7 +69,6 @@ fn allocate<D: Desk, O: Door>(
 }
 
 /// Has the thread's cache log the block of this name, with the room that is named for it, if any.
-#[inline(always)]
 fn log<D: Desk>(
     desk: &mut D,
     cache: &mut ThreadCache,
@@ -89,7 +88,6 @@ fn log<D: Desk>(
 }
 
 /// Frees the block of this name, which ends only where it has the room that is named, if any. What is said where no block can have the name.
-#[inline(always)]
 fn free<D: Desk>(
     desk: &mut D,
     cache: &mut ThreadCache,
@@ -110,8 +108,6 @@ fn free<D: Desk>(
 }
 
 /// Gives a block another size, under a new name: what that name stands for from then on, and what is said where the block is kept or the request refused.
-/// It stays out of line, since few operations come here, and all others would be longer with it.
-#[inline(never)]
 fn resize<D: Desk, O: Door, M: Remake>(
     desk: &mut D,
     door: &mut O,

@@ -20,7 +20,7 @@ use Rattle.pas_check.specs.Bounds.{FitsRequest, HaveHeaps, IsKept}
 use Rattle.pas_check.specs.Calls.{EntriesTaken, IsAsked, IsExamining, IsFollowed, IsWanted, OutcomesTaken, RequestTaken, after_request}
 use Rattle.pas_check.specs.Leading.{Fails, IsLed, IsWithin, Leads}
 use Rattle.pas_check.specs.Meanings.{heap_in, meaning_at, meaning_of}
-use Rattle.pas_trace.specs.Named.{standing_for}
+use Rattle.pas_check.specs.Named.{standing_for}
 use Rattle.pas_check.specs.States.{Due, Writes, Serves, Examines, Task, Does, Stand, with_at, with_due, with_name}
 use Rattle.pas_check.specs.Tables.{logged, logs_held, meant}
 use Rattle.pas_check.specs.Tasks.{ActTaken, Asks, EntryLogged, FreesEntry, FreesNamed, IsNext, IsSuited, LogEmptied, PassTaken, Remakes, Resizes, SaysNamed, Stands, being_logged, emptying}

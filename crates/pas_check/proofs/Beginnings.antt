@@ -9,7 +9,7 @@ use Rattle.pas_trace.specs.declared.plan.What.{What}
 use Rattle.pas_trace.specs.declared.plan.What.TheVariants.{Alloc, Free, FreeSized, Raw, RawSized, Remake, Flush, Stop, Tick, Pass, Idle}
 use Rattle.pas_check.specs.Begins.{after_task, begun, begun_from, begun_what, entries_due, entry_of, freeing, freeing_at, freeing_named, is_aligned, is_full, is_page, logging, past_outcomes, ready, ready_with, remaking, remaking_named, request_for, settled_with, stopping, suits, unsized}
 use Rattle.pas_check.specs.Going.{AreAlike}
-use Rattle.pas_trace.specs.Named.{standing_for}
+use Rattle.pas_check.specs.Named.{standing_for}
 use Rattle.pas_check.specs.States.{Due, Task, Does, Stand, with_due}
 use Rattle.pas_check.specs.Takes.{Takes, TakesDue, TakesFirst}
 use Rattle.pas_check.specs.declared.entry.Entry.{Entry}

@@ -1,11 +1,9 @@
 -- The lines of a text that is made of lines are these.
-use Rattle.std.proofs.Common.{◌≡◌, ℕ, zero, suc, ◌+◌, ◌/◌, ◌%◌, ◌^◌, ◌<◌, ◌==◌, Bool, true, false, if◌then◌else◌, List, [], ◌∷◌, ◌++◌, map, codes, refl, ap, sym, ◌∙◌, arith, append_assoc, inl, inr, length, take, drop}
+use Rattle.std.proofs.Common.{◌≡◌, ℕ, zero, suc, ◌/◌, ◌%◌, ◌^◌, ◌<◌, ◌==◌, Bool, true, false, if◌then◌else◌, List, [], ◌∷◌, ◌++◌, map, codes, refl, ap, sym, ◌∙◌, arith, append_assoc, inl, inr, length, take, drop, ◌≢◌}
 use Rattle.std.specs.Fmt.{decimal, digits, digits_onto, digit_glyph}
 use Rattle.std.proofs.lemmas.Bool.{false≢true, cases_eq, eq-eqb, ne_eqb}
 use Rattle.std.proofs.lemmas.Bool.Decides.{nat_tests}
-use Rattle.std.proofs.lemmas.List.{take-append-drop, drop-drop}
-use Rattle.std.specs.List.{concat}
-use Rattle.memchr.specs.Find.{Nowhere, Passes, is_byte}
+use Rattle.std.proofs.lemmas.List.{take-append-drop}
 use Rattle.pas_profile.specs.Classes.{class_size}
 use Rattle.pas_profile.specs.declared.directory.Kind.{Kind}
 use Rattle.pas_profile.specs.declared.name.Name.{Name}
@@ -15,11 +13,18 @@ use Rattle.pas_profile.specs.Blocks.{address_of}
 use Rattle.pas_report.specs.declared.record.Said.{Said}
 use Rattle.pas_report.specs.declared.record.Record.{Record}
 use Rattle.pas_report.specs.Lines.{hex_digit, hex_digits, kind_text, name_text, line_of, lines_of, line_of_event, line_of_answer}
-use Rattle.pas_report.specs.Reports.{totals_text}
-use Rattle.pas_check.specs.Lines.{put_front, lines_in, is_line, is_nothing}
-use Rattle.pas_check.proofs.Marks.{all_lines}
+use Rattle.pas_check.specs.Lines.{put_front, lines_in}
 
--- ---- a line is cut off in front of a text
+-- ---- one line: its first newline is its last byte
+abbrev is_nothing : List ℕ → Bool
+is_nothing [] = true
+is_nothing (b ∷ bs) = false
+
+abbrev pub is_line : List ℕ → Bool
+is_line [] = false
+is_line (b ∷ bs) = if b == 10 then is_nothing bs else is_line bs
+
+-- it is cut off in front of a text
 cut_at : (b : ℕ) (bs rest : List ℕ) → is_nothing bs ≡ true → lines_in (10 ∷ (bs ++ rest)) ≡ (10 ∷ bs) ∷ lines_in rest
 cut_at b [] rest h = refl
 cut_at b (c ∷ cs) rest h = absurd (false≢true h)
@@ -135,14 +140,6 @@ record_line (Record.Said k said) = said_line k said
 record_line (Record.Phase n) = number_first n (codes "\n")
 record_line Record.Close = refl
 
--- .. and that of the totals
-pub totals_end : (deeds backed live given ended : ℕ) → is_line (totals_text deeds backed live given ended) ≡ true
-totals_end deeds backed live given ended =
-    let ends : List ℕ = codes " ended " ++ (decimal ended ++ codes "\n") in
-    let gives : List ℕ = codes " given " ++ (decimal given ++ ends) in
-    let lives : List ℕ = codes " live " ++ (decimal live ++ gives) in
-    number_first deeds (codes " backed " ++ (decimal backed ++ lives)) ∙ number_first backed lives ∙ number_first live gives ∙ number_first given ends ∙ number_first ended (codes "\n")
-
 -- THE LINES of records in front of a text
 pub cut_records : (rs : List Record) (rest : List ℕ) → lines_in (lines_of rs ++ rest) ≡ map line_of rs ++ lines_in rest
 cut_records [] rest = refl
@@ -154,17 +151,10 @@ cut_records (r ∷ rs) rest =
 abbrev pub IsFront : List ℕ → Type 0
 IsFront xs = (rest : List ℕ) → is_line (xs ++ rest) ≡ is_line rest
 
--- the bytes before the first newline
-not_newline : (t : Bool) → (t ≡ true → ⊥) → t ≡ false
-not_newline true never = absurd (never refl)
-not_newline false never = refl
-
-pub front_before : (text : List ℕ) (n : ℕ) → Nowhere (Passes (is_byte 10) text) 0 n → IsFront (take n text)
-front_before text zero none rest = refl
-front_before [] (suc n) none rest = refl
-front_before (b ∷ bs) (suc n) none rest =
-    let t : (b == 10) ≡ false = not_newline (b == 10) (none 0 (omega arith) (omega arith)) in
-    ap (λ (x : Bool). if x then is_nothing (take n bs ++ rest) else is_line (take n bs ++ rest)) t ∙ front_before bs n (λ k low high. none (suc k) (omega arith) (omega (arith, high))) rest
+pub front_more : (xs : List ℕ) (b : ℕ) → IsFront xs → b ≢ 10 → IsFront (xs ++ b ∷ [])
+front_more xs b front ne rest =
+    let t : (b == 10) ≡ false = ne_eqb b 10 ne in
+    ap is_line (append_assoc xs (b ∷ []) rest) ∙ front (b ∷ rest) ∙ ap (λ (x : Bool). if x then is_nothing rest else is_line rest) t
 
 pub front_ends : (xs : List ℕ) (b : ℕ) → IsFront xs → b ≡ 10 → is_line (xs ++ b ∷ []) ≡ true
 front_ends xs b front e = front (b ∷ []) ∙ ap (λ c. is_line (c ∷ [])) e
@@ -198,17 +188,3 @@ all_front (b ∷ bs) some front = only_front b bs front
 -- the first line of a text
 pub cut_first : (n : ℕ) (text : List ℕ) → is_line (take n text) ≡ true → lines_in text ≡ take n text ∷ lines_in (drop n text)
 cut_first n text is = ap lines_in (sym (take-append-drop n text)) ∙ cut_line (take n text) (drop n text) is
-
--- ---- a line that is wanted
-pub line_some : (line : List ℕ) → is_line line ≡ true → 0 < length line
-line_some [] is = absurd (false≢true is)
-line_some (b ∷ bs) is = omega arith
-
--- where the text goes on with it, it is the next line
-pub cut_here : (text wanted : List ℕ) (b : ℕ) → drop b text ≡ wanted ++ drop (length wanted) (drop b text) → is_line wanted ≡ true → lines_in (drop b text) ≡ wanted ∷ lines_in (drop (b + length wanted) text)
-cut_here text wanted b starts is =
-    ap lines_in starts ∙ cut_line wanted (drop (length wanted) (drop b text)) is ∙ ap (λ (rest : List ℕ). wanted ∷ lines_in rest) (drop-drop (length wanted) b text)
-
--- the text goes on with its next line
-pub goes_on_with : (text line : List ℕ) (rest : List (List ℕ)) → lines_in text ≡ line ∷ rest → text ≡ line ++ concat rest
-goes_on_with text line rest has = sym (all_lines text) ∙ ap concat has

@@ -6,7 +6,6 @@ use Rattle.std.proofs.lemmas.Bool.Decides.{nat_tests}
 use Rattle.std.proofs.lemmas.Grind.{pow_more}
 use Rattle.std.proofs.Math.Nat.{pow-le-pow_right, pow-suc, div-add-mod, div-div-eq-div-mul, mul-add, mul_comm, mul_assoc, mul_left_comm}
 use Rattle.pas_trace.specs.Numbers.{is_digit, all_digits, value_from, hex_value}
-use Rattle.pas_trace.proofs.Digits.{digit-is}
 use Rattle.pas_generated.proofs.Digits.{are-digits}
 use Rattle.pas_report.specs.Lines.{hex_digit, hex_digits}
 use Rattle.pas_check.specs.Readings.{digits_after, past_digits, number_at, hex_after, small, of_u8, of_u32}
@@ -43,6 +42,9 @@ u8_back n end rest fits stops = ap (small (2 ^ 8)) (number_back n end rest (omeg
 
 pub u32_back : (n end : ℕ) (rest : List ℕ) → n < 2 ^ 32 → is_digit end ≡ false → of_u32 (decimal n ++ end ∷ rest) ≡ n
 u32_back n end rest fits stops = ap (small (2 ^ 32)) (number_back n end rest (omega (arith, fits)) stops) ∙ small_is (2 ^ 32) n fits
+
+is_one : (b : ℕ) → 48 ≤ b → b ≤ 57 → is_digit b ≡ true
+is_one b lo hi = grind (arith, nat_tests, lo, hi)
 
 is_none : (b : ℕ) → (b < 48) ⊎ (57 < b) → is_digit b ≡ false
 is_none b (inl h) = grind (arith, nat_tests, h)
@@ -92,13 +94,13 @@ hex16_back n rest fits = hex_value_is 16 0 n rest ∙ omega (arith, fits)
 -- ---- loops over the digits
 -- one more digit, and the first byte that is none
 pub digit_more : (v b : ℕ) (bs : List ℕ) → 48 ≤ b → b ≤ 57 → digits_after v (b ∷ bs) ≡ digits_after (10 * v + (b - 48)) bs
-digit_more v b bs lo hi = let t : is_digit b ≡ true = digit-is b lo hi in rw t refl
+digit_more v b bs lo hi = let t : is_digit b ≡ true = is_one b lo hi in rw t refl
 
 pub digit_stops : (v b : ℕ) (bs : List ℕ) → (b < 48) ⊎ (57 < b) → digits_after v (b ∷ bs) ≡ v
 digit_stops v b bs h = let t : is_digit b ≡ false = is_none b h in rw t refl
 
 pub past_more : (b : ℕ) (bs : List ℕ) → 48 ≤ b → b ≤ 57 → past_digits (b ∷ bs) ≡ past_digits bs
-past_more b bs lo hi = let t : is_digit b ≡ true = digit-is b lo hi in rw t refl
+past_more b bs lo hi = let t : is_digit b ≡ true = is_one b lo hi in rw t refl
 
 pub past_stops : (b : ℕ) (bs : List ℕ) → (b < 48) ⊎ (57 < b) → past_digits (b ∷ bs) ≡ b ∷ bs
 past_stops b bs h = let t : is_digit b ≡ false = is_none b h in rw t refl

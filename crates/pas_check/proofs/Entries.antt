@@ -1,15 +1,12 @@
 -- The event of an entry of a log. In a run it is the one that the definition names; and there is only one.
-use Rattle.std.proofs.Common.{◌≡◌, ◌≢◌, ℕ, ◌<◌, ◌≤◌, List, Option, Some, None, inl, inr, refl, ap, sym, subst, ◌∙◌, arith}
-use Rattle.std.proofs.lemmas.Option.{none-some, same_Some}
+use Rattle.std.proofs.Common.{◌≡◌, ℕ, List, Option, Some, None, inl, inr, refl, ap, sym, subst, ◌∙◌, arith}
 use Rattle.pas_profile.specs.declared.profile.Profile.{Profile}
-use Rattle.pas_profile.specs.declared.name.Block.{Block}
 use Rattle.pas_profile.specs.declared.name.Name.{Name}
 use Rattle.pas_profile.specs.declared.event.Event.{Event}
 use Rattle.pas_profile.specs.declared.event.Why.{Why}
 use Rattle.pas_profile.specs.declared.event.Why.TheVariants.{Ended, NoBlock, SizeDiffers}
 use Rattle.pas_profile.specs.Blocks.{address_of}
 use Rattle.pas_machine.specs.Laws.{IsCounted}
-use Rattle.pas_machine.specs.Places.{block_of}
 use Rattle.pas_machine.specs.Machine.{Run, Admits, HasOtherRoom, IsLive, IsReason}
 use Rattle.pas_machine.specs.State.{Live, live_in, gives_in, ends_in}
 use Rattle.pas_machine.proofs.LiveBlocks.{all_counted}
@@ -64,47 +61,3 @@ one_event s k entry e g (inl a) (inl b) = a.3 ∙ ap (Event.Reject k entry.name)
 one_event s k entry e g (inl a) (inr b) = absurd (b.0 a.0 a.1 a.2)
 one_event s k entry e g (inr a) (inl b) = absurd (a.0 b.0 b.1 b.2)
 one_event s k entry e g (inr a) (inr b) = a.1 ∙ sym b.1
-
--- ---- the true reason, by what lives at the address
-pub block_there : (o : Option Live) (block : Block) → Some block ≡ block_of o → (b : Live) × (o ≡ Some b) × (b.block ≡ block)
-block_there None block e = absurd (none-some block (sym e))
-block_there (Some b) block e = (b, refl, sym (same_Some block b.block e))
-
-pub nothing_there : (o : Option Live) → None ≡ block_of o → o ≡ None
-nothing_there None e = refl
-nothing_there (Some b) e = absurd (none-some b.block e)
-
-module _ (f : Profile) (es : List Event) (run : Run f es) (entry : Entry) where
-  gone : live_in es (address_of entry.name) ≡ None → gives_in es (address_of entry.name) ≡ ends_in es (address_of entry.name)
-  gone none = subst (λ (o : Option Live). IsCounted o (gives_in es (address_of entry.name)) (ends_in es (address_of entry.name))) none (all_counted f es run (address_of entry.name))
-
-  pub gone_ended : live_in es (address_of entry.name) ≡ None → entry.name.turn < gives_in es (address_of entry.name) → IsReason es entry.name Ended
-  gone_ended none turn = let same = gone none in omega (arith, same, turn)
-
-  pub never_there : live_in es (address_of entry.name) ≡ None → gives_in es (address_of entry.name) ≤ entry.name.turn → IsReason es entry.name NoBlock
-  never_there none turn = (let same = gone none in omega (arith, same, turn), λ live. none-some live.0 (sym none ∙ live.1))
-
-  module _ (b : Live) (is : live_in es (address_of entry.name) ≡ Some b) where
-    counts : b.block.name.turn ≡ ends_in es (address_of entry.name)
-    counts = turn_counts (live_in es (address_of entry.name)) b (gives_in es (address_of entry.name)) (ends_in es (address_of entry.name)) is (all_counted f es run (address_of entry.name))
-
-    it_is : (other : Live) → live_in es (address_of entry.name) ≡ Some other → other ≡ b
-    it_is other has = same_Some other b (sym has ∙ is)
-
-    pub ended_before : entry.name.turn < b.block.name.turn → IsReason es entry.name Ended
-    ended_before turn = let same = counts in omega (arith, same, turn)
-
-    pub not_yet : b.block.name.turn < entry.name.turn → IsReason es entry.name NoBlock
-    not_yet turn = (
-      (let same = counts in omega (arith, same, turn)),
-      λ live. let same : b.block.name.turn ≡ entry.name.turn = ap (λ (l : Live). l.block.name.turn) (sym (it_is live.0 live.1)) ∙ live.2 in absurd (omega (arith, same, turn)),
-    )
-
-    pub other_room : entry.name.turn ≡ b.block.name.turn → b.block.room ≢ entry.room → IsReason es entry.name (SizeDiffers entry.room)
-    other_room turn differs = ((let same = counts in omega (arith, same, turn)), record { block = b; lives = is; turn_is = sym turn; differs = differs })
-
-    pub may_end : entry.name.turn ≡ b.block.name.turn → (0 < entry.room → b.block.room ≡ entry.room) → (why : Why) → MayRefuse entry why → IsReason es entry.name why → ⊥
-    may_end turn room Ended may reason = let same = counts in absurd (omega (arith, same, turn, reason))
-    may_end turn room NoBlock may reason = reason.1 (b, is, sym turn)
-    may_end turn room (SizeDiffers asked) may reason =
-        reason.1.differs (ap (λ (l : Live). l.block.room) (it_is reason.1.block reason.1.lives) ∙ room may.0 ∙ sym may.1)

@@ -16,10 +16,13 @@ use Rattle.pas_check.specs.Ranges.{Fits}
 use Rattle.pas_check.specs.States.{Stand}
 use Rattle.pas_check.specs.Takes.{MayCome, record_of, after_outcome}
 use Rattle.pas_check.specs.declared.examining.Examined.{Examined}
-use Rattle.pas_trace.proofs.PassedChecks.{if_some}
 use Rattle.pas_check.proofs.OneNext.{outcome_fits}
 
 -- ---- the outcome of a record
+if_some : {A : Type 0} (t : Bool) (o : Option A) (x : A) → (if t then o else None) ≡ Some x → (t ≡ true) × (o ≡ Some x)
+if_some true o x h = (refl, h)
+if_some false o x h = absurd (none-some x h)
+
 abbrev record_in : ℕ → Examined → Record
 record_in epoch x = record_of epoch x.page x.outcome
 

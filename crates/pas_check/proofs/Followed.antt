@@ -14,7 +14,7 @@ use Rattle.pas_check.specs.Begins.{after_task, begun_act, begun_from, begun_what
 use Rattle.pas_check.specs.Bounds.{FitsNext, FitsRequest, HaveHeaps}
 use Rattle.pas_check.specs.Calls.{IsFollowed, outcome_in}
 use Rattle.pas_check.specs.Checks.{AllFit, FitsAct, FitsHeaps, FitsWhat, IsThread}
-use Rattle.pas_trace.specs.Named.{Named, standing_for}
+use Rattle.pas_check.specs.Named.{Named, standing_for}
 use Rattle.pas_check.specs.States.{Due, Writes, Task, Does, Reports, Stand}
 use Rattle.pas_check.specs.Takes.{IsOutcome}
 use Rattle.pas_check.specs.declared.entry.Entry.{Entry}

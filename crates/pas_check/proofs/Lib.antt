@@ -22,8 +22,8 @@ mod Servings
 mod Followed
 mod Chains
 mod ActsOfPlans
+mod ThreadsInOrder
 mod Pages
 mod Reportings
 mod Phases
 mod Wholes
-mod WithoutDeeds

@@ -1,9 +1,9 @@
 -- A line that may come leads to one state, where it answers what is due.
-use Rattle.std.proofs.Common.{◌≡◌, ◌≢◌, ℕ, ◌/◌, ◌%◌, ◌^◌, ◌<◌, ◌≤◌, ◌==◌, Bool, true, false, if◌then◌else◌, List, [], ◌∷◌, Option, Some, None, inl, inr, refl, ap, sym, subst, ◌∙◌, arith}
-use Rattle.std.proofs.lemmas.Bool.{eqb-true}
+use Rattle.std.proofs.Common.{◌≡◌, ◌≢◌, ℕ, ◌+◌, ◌/◌, ◌%◌, ◌^◌, ◌<◌, ◌≤◌, ◌==◌, nat_le, nat_lt, Bool, true, false, if◌then◌else◌, List, [], ◌∷◌, Option, Some, None, inl, inr, refl, ap, sym, subst, ◌∙◌, arith}
+use Rattle.std.proofs.lemmas.Bool.{eqb-true, le-leb, lt-ltb, and_from}
 use Rattle.std.proofs.lemmas.Option.{none-some}
 use Rattle.pas_profile.specs.Profiles.{IsPage, IsValid}
-use Rattle.pas_bits.proofs.Runs.{first_of_run}
+use Rattle.pas_bits.specs.Runs.{in_run}
 use Rattle.pas_profile.specs.Blocks.{address_of, grain_of, length_of}
 use Rattle.pas_profile.specs.declared.directory.Directory.{Directory}
 use Rattle.pas_profile.specs.declared.event.Event.{Event}
@@ -47,6 +47,9 @@ deed_page f (Event.End k name e ∷ es) run page d h = deed_page f es run.1 page
 deed_page f (Event.Reject k name why ∷ es) run page d h = deed_page f es run.1 page d h
 
 -- ---- the lines of a request
+pub has_first : (g n : ℕ) → 0 < n → in_run g n g ≡ true
+has_first g n some = and_from (nat_le g g) (nat_lt g (g + n)) (le-leb g g (omega arith)) (lt-ltb g (g + n) (omega (arith, some)))
+
 module _ (f : Profile) (s : Stand) (small : IsSmall f s) (k : ℕ) (r : Request) (fits : FitsRequest f k r) where
   pub prepares_fits : (e : Event) → IsPreparing k (directory_of f r) e → Admits f s.events e → FitsEvent e
   prepares_fits e (inl is) admitted =
@@ -61,7 +64,7 @@ module _ (f : Profile) (s : Stand) (small : IsSmall f s) (k : ℕ) (r : Request)
       let some : 0 < block.room = may.some in
       let whole : block.room % 16 ≡ 0 = may.whole in
       let grains : 0 < length_of block = omega (arith, some, whole) in
-      let page : IsPage f (grain_of block.name / 256) = (may.bears (grain_of block.name) (first_of_run (grain_of block.name) (length_of block) grains)).exists in
+      let page : IsPage f (grain_of block.name / 256) = (may.bears (grain_of block.name) (has_first (grain_of block.name) (length_of block) grains)).exists in
       let last : address_of block.name / 16 / 256 ≤ f.pages = page.1 in
       let most : f.pages ≤ 16384 = small.valid.pages in
       let few = small.gives (address_of block.name) in

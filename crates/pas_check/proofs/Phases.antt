@@ -23,7 +23,7 @@ use Rattle.pas_check.specs.declared.acting.Judge.{Judge}
 use Rattle.pas_check.specs.declared.cutting.Cursor.{Cursor}
 use Rattle.pas_check.proofs.ActsOfPlans.{planned_back, planned_front}
 use Rattle.pas_check.proofs.Chains.{act_taken, idly_taken, so_far_as, taken_as, taken_on, then_taken}
-use Rattle.pas_trace.proofs.ThreadsInOrder.{threads_alike}
+use Rattle.pas_check.proofs.ThreadsInOrder.{threads_alike}
 
 module _ (text : List ℕ) (old new : Judge) (from to : Cursor) (idle : List ℕ) (op : Op) where
   -- a thread's operation, after which what it noted is settled without a line

@@ -13,8 +13,7 @@ use Rattle.pas_report.specs.declared.record.Record.{Record}
 use Rattle.pas_report.specs.declared.record.Said.{Said}
 use Rattle.pas_trace.specs.declared.item.Request.{Request}
 use Rattle.pas_trace.specs.Acts.{Act, Operates, Settles, Ticks, MakesPass, ReadsEpoch, StopsIdle, MarksPhase, Wakes, MarksClose, Ends}
-use Rattle.pas_trace.specs.Named.{standing_for}
-pub use Rattle.pas_trace.specs.Named.{suits, request_for}
+use Rattle.pas_check.specs.Named.{standing_for}
 use Rattle.pas_check.specs.States.{Due, Writes, Frees, Serves, Examines, Heads, Shows, Totals, Task, Does, Reports, Stand, with_at, with_due, with_name}
 use Rattle.pas_check.specs.declared.entry.Entry.{Entry}
 
@@ -72,6 +71,14 @@ freeing_named f s k name room (Some None) = tells s k (Said.Skipped name)
 freeing_named f s k name room (Some (Some block)) = freeing f s k (entry_of block.name room)
 
 -- ---- another size for a block
+-- whether the block has room for so many bytes, where none count as one, and stands at a multiple of the alignment
+abbrev pub suits : Block → ℕ → ℕ → Bool
+suits old size align = nat_le (max size 1) old.room && (address_of old.name % align == 0)
+
+-- the request for another block of its heap
+abbrev pub request_for : Block → ℕ → ℕ → ℕ → Request
+request_for old name size align = record { name = name; heap = old.heap; size = size; align = align }
+
 -- A block that suits is kept, which is said, and the new name stands for it too. For another one a request is made, which replaces it.
 abbrev pub remaking : Bool → Stand → ℕ → Request → Block → Stand
 remaking true s k r old = tells (with_name s r.name (Some old)) k (Said.Kept old.name r.name)

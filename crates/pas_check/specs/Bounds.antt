@@ -10,7 +10,7 @@ use Rattle.pas_machine.specs.Machine.{Run}
 use Rattle.pas_machine.specs.State.{deed_in, gives_in, epoch_in}
 use Rattle.pas_report.specs.declared.record.Record.{Record}
 use Rattle.pas_trace.specs.declared.item.Request.{Request}
-use Rattle.pas_trace.specs.Named.{Named, standing_for}
+use Rattle.pas_check.specs.Named.{Named, standing_for}
 use Rattle.pas_check.specs.States.{Due, Writes, Frees, Serves, Examines, Heads, Shows, Totals, Stand}
 use Rattle.pas_check.specs.Ranges.{Fits, FitsEntry}
 use Rattle.pas_check.specs.Takes.{IsOutcome, directory_of}

@@ -1,6 +1,5 @@
 -- What the private functions of the checker promise of a line.
-use Rattle.std.specs.Prelude.{ℕ, ◌^◌, ◌<◌, ◌/◌, ◌%◌, ◌≡◌, ◌==◌, if◌then◌else◌, Bool, true, false, List, [], ◌∷◌, ◌++◌, Option, None, Some, IfSome}
-use Rattle.pas_report.specs.Lines.{line_of, line_of_event}
+use Rattle.std.specs.Prelude.{ℕ, ◌^◌, ◌<◌, ◌/◌, ◌%◌, ◌≡◌, ◌⊎◌, ◌==◌, if◌then◌else◌, Bool, true, false, List, [], ◌∷◌, ◌++◌, Option, None, Some}
 use Rattle.pas_report.specs.declared.record.Record.{Record}
 use Rattle.pas_report.specs.declared.record.Said.{Said}
 use Rattle.pas_profile.specs.declared.directory.Directory.{Directory}
@@ -14,14 +13,13 @@ use Rattle.pas_profile.specs.Requests.{room_in}
 use Rattle.pas_bits.specs.Runs.{in_run}
 use Rattle.pas_profile.specs.Blocks.{address_of, grain_of, length_of}
 use Rattle.pas_machine.specs.State.{deed_in}
-use Rattle.pas_machine.specs.Machine.{Admits, HasOtherRoom, IsReason}
+use Rattle.pas_machine.specs.Machine.{Admits, HasOtherRoom}
 use Rattle.pas_machine.specs.Machines.{profile_of, StandsFor}
 use Rattle.pas_machine.specs.declared.machine.Machine.{Machine}
 use Rattle.pas_trace.specs.declared.item.Request.{Request}
 use Rattle.pas_check.specs.Begins.{begun_from, entries_due, past_outcomes, replacing}
 use Rattle.pas_check.specs.Bounds.{FitsNext, FitsRequest, IsKept, IsSmall}
 use Rattle.pas_check.specs.Leading.{Fails, Leads}
-use Rattle.pas_check.specs.Ranges.{Fits, FitsEvent}
 use Rattle.pas_check.specs.States.{Due, Examines, Serves, Stand, with_due, with_name, with_one}
 use Rattle.pas_check.specs.Takes.{IsFor, IsRefusal, MayCome, MayRefuse, TakesEntry, TakesGive, TakesOutcome, TakesPreparing, TakesRefusal, after_outcome, directory_of}
 use Rattle.pas_check.specs.declared.cutting.Cursor.{Cursor}
@@ -36,30 +34,28 @@ event_in (Record.Said k said) = None
 event_in (Record.Phase n) = None
 event_in Record.Close = None
 
--- what was read of a line: the record that has this line, where there is one whose numbers fit their places
-pub record IsRead (line : List ℕ) (found : Option Record) : Type 0 where
-  pub some : IfSome found (λ r. line ≡ line_of r)
-  pub only : (r : Record) → Fits r → line ≡ line_of r → found ≡ Some r
-
--- .. and its event
-pub record IsEventRead (line : List ℕ) (found : Option Event) : Type 0 where
-  pub some : IfSome found (λ e. line ≡ line_of_event e)
-  pub only : (e : Event) → FitsEvent e → line ≡ line_of_event e → found ≡ Some e
-
 -- the machine took the event, which may come next; or it may not, and the machine is as it was
 abbrev pub IsStepped : Machine → Machine → Event → Bool → Type 0
 IsStepped old new e true = (es : List Event) → StandsFor old es → Admits (profile_of old) es e × StandsFor new (e ∷ es)
 IsStepped old new e false = (new ≡ old) × ((es : List Event) → StandsFor old es → Admits (profile_of old) es e → ⊥)
 
 -- ---- an entry
--- the reason for which the entry's name can't end, or that there is none
-abbrev pub IsTrueReason : List Event → Entry → Option Why → Type 0
-IsTrueReason es entry None = (why : Why) → MayRefuse entry why → IsReason es entry.name why → ⊥
-IsTrueReason es entry (Some why) = MayRefuse entry why × IsReason es entry.name why
+-- the end of the entry's name by actor k, or a refusal of it for a reason that the entry may have
+abbrev pub MayAnswer : ℕ → Entry → ℕ → Event → Type 0
+MayAnswer k entry epoch e = (e ≡ Event.End k entry.name epoch) ⊎ ((why : Why) × MayRefuse entry why × (e ≡ Event.Reject k entry.name why))
 
 -- the entry names a room, and the block of its name lives with another one
 abbrev pub Differs : List Event → Entry → Type 0
 Differs es entry = (0 < entry.room) × HasOtherRoom es entry.name entry.room
+
+-- .. which the event doesn't heed: it is the end of the name
+abbrev pub IsHeedless : List Event → Entry → Event → Type 0
+IsHeedless es entry (Event.Deed k page d) = ⊥
+IsHeedless es entry (Event.Back k page) = ⊥
+IsHeedless es entry (Event.Unback k page epoch) = ⊥
+IsHeedless es entry (Event.Give k block) = ⊥
+IsHeedless es entry (Event.End k name epoch) = Differs es entry
+IsHeedless es entry (Event.Reject k name why) = ⊥
 
 -- The line is that of the entry, wherever the machine stands for what stood before, and it stands for what stands after it; or no line of the entry is
 -- this one, and the machine is as it was.

@@ -1,5 +1,6 @@
 pub mod Lines
 pub mod Inputs
+pub mod Named
 pub mod Meanings
 pub mod States
 pub mod Begins

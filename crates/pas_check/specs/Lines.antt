@@ -1,5 +1,5 @@
 -- The lines of a transcript.
-use Rattle.std.specs.Prelude.{ℕ, ◌==◌, Bool, true, false, if◌then◌else◌, List, [], ◌∷◌}
+use Rattle.std.specs.Prelude.{ℕ, ◌==◌, if◌then◌else◌, List, [], ◌∷◌}
 
 -- a byte in front of the first line
 abbrev pub put_front : ℕ → List (List ℕ) → List (List ℕ)
@@ -11,12 +11,3 @@ put_front b (line ∷ lines) = (b ∷ line) ∷ lines
 abbrev pub lines_in : List ℕ → List (List ℕ)
 lines_in [] = []
 lines_in (b ∷ bs) = if b == 10 then (10 ∷ []) ∷ lines_in bs else put_front b (lines_in bs)
-
--- one line: its first newline is its last byte
-abbrev pub is_nothing : List ℕ → Bool
-is_nothing [] = true
-is_nothing (b ∷ bs) = false
-
-abbrev pub is_line : List ℕ → Bool
-is_line [] = false
-is_line (b ∷ bs) = if b == 10 then is_nothing bs else is_line bs

@@ -6,8 +6,8 @@ use Rattle.pas_profile.specs.declared.directory.Kind.{Kind}
 use Rattle.pas_profile.specs.declared.event.Event.{Event}
 use Rattle.pas_profile.specs.declared.profile.Profile.{Profile}
 use Rattle.pas_machine.specs.Machines.{StandsFor}
-use Rattle.pas_machine.specs.State.{backed_in, deed_in, epoch_in, gives_in}
-use Rattle.pas_machine.specs.Totals.{backed_total, deeds_total, ended_total, live_total, sum_below}
+use Rattle.pas_machine.specs.State.{backed_in, deed_in, epoch_in}
+use Rattle.pas_machine.specs.Totals.{backed_total, deeds_total, ended_total, live_total}
 use Rattle.pas_machine.specs.declared.machine.Machine.{Machine}
 use Rattle.pas_steps.specs.Views.{usable_by_kind}
 use Rattle.pas_report.specs.Marks.{Marked}
@@ -32,10 +32,6 @@ IsBare es page = (b : ℕ) → b < 256 → is_covered es (grain_on page b) ≡ f
 
 abbrev pub IsUsed : List Event → ℕ → Type 0
 IsUsed es page = (b : ℕ) × (b < 256) × (is_covered es (grain_on page b) ≡ true)
-
--- how many blocks were given on the page
-unfoldable pub given_on : List Event → ℕ → ℕ
-given_on es page = sum_below 256 (λ b. gives_in es (16 * (256 * page + b)))
 
 -- the events are told
 pub record TellsPage (es : List Event) (shown : Shown) : Type 0 where

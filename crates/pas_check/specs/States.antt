@@ -9,7 +9,7 @@ use Rattle.pas_trace.specs.Plans.{ops_of}
 use Rattle.pas_trace.specs.declared.plan.Plan.{Plan}
 use Rattle.pas_trace.specs.Acts.{Act, acts_of}
 use Rattle.pas_trace.specs.declared.item.Request.{Request}
-use Rattle.pas_trace.specs.Named.{Named}
+use Rattle.pas_check.specs.Named.{Named}
 use Rattle.pas_check.specs.declared.entry.Entry.{Entry}
 
 -- ---- what is due

@@ -2,7 +2,7 @@
 use Rattle.std.specs.Prelude.{ℕ, ◌*◌, ◌≡◌, List, Option, slice_index, length, take, drop}
 use Rattle.pas_profile.specs.declared.name.Block.{Block}
 use Rattle.pas_check.specs.Meanings.{meaning_at, meaning_of}
-use Rattle.pas_trace.specs.Named.{Named, standing_for}
+use Rattle.pas_check.specs.Named.{Named, standing_for}
 use Rattle.pas_check.specs.declared.naming.Names.{Names}
 use Rattle.pas_check.specs.declared.entry.Entry.{Entry}
 use Rattle.pas_check.specs.declared.logging.Logs.{Logs}

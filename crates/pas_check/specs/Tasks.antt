@@ -12,7 +12,7 @@ use Rattle.pas_check.specs.Begins.{begun_act, flushing, freeing, freeing_named, 
 use Rattle.pas_check.specs.Bounds.{IsKept}
 use Rattle.pas_check.specs.Calls.{IsFollowed}
 use Rattle.pas_check.specs.Leading.{Fails, Leads}
-use Rattle.pas_trace.specs.Named.{standing_for}
+use Rattle.pas_check.specs.Named.{standing_for}
 use Rattle.pas_check.specs.States.{Due, Serves, Task, Does, Stand, with_due, with_name}
 use Rattle.pas_check.specs.Tables.{AreNamed, logged, logs_held}
 use Rattle.pas_check.specs.declared.acting.Judge.{Judge}

@@ -1,9 +1,7 @@
 //! The lines of a transcript, one by one.
-ghost use Rattle.std.specs.Prelude.{◌≡◌, ◌+◌, ◌<◌, ◌∷◌, [], take, drop, length, ◌≤◌, true, IfSome, IfNone};
+ghost use Rattle.std.specs.Prelude.{◌≡◌, ◌+◌, ◌<◌, ◌∷◌, [], take, drop, length, ◌≤◌, IfSome, IfNone};
 ghost use Rattle.pas_check.specs.Leading.{IsJustLine, IsWithin, lines_from};
-ghost use Rattle.pas_check.specs.Lines.{is_line, lines_in};
-
-use memchr::memchr;
+ghost use Rattle.pas_check.specs.Lines.{lines_in};
 
 /// How far a text is read: how many bytes and lines stand before this place.
 #[derive(Clone, Copy, Drop)]
@@ -32,10 +30,12 @@ pub(crate) fn first_line(text: &[u8]) -> Option<usize>
     if text.len() == 0 {
         return None;
     }
-    match memchr(b'\n', text) {
-        Some(place) => Some(place + 1),
-        None => Some(text.len()),
+    for place in 0..text.len() {
+        if text[place] == b'\n' {
+            return Some(place + 1);
+        }
     }
+    Some(text.len())
 }
 
 /// The line at the cursor, with its newline, behind which the cursor stands from then on. None at the end of the text; the wanting line is counted too.
@@ -57,18 +57,15 @@ pub(crate) fn next_line<'a>(text: &'a [u8], cursor: &mut Cursor) -> Option<&'a [
     Some(&rest[..count])
 }
 
-/// Takes the next line, and says whether it is just this one. Its end isn't looked for: it is where the one that is wanted ends.
+/// Takes the next line, and says whether it is just this one.
 pub(crate) fn take_line(text: &[u8], cursor: &mut Cursor, wanted: &[u8]) -> bool
     requires within { IsWithin text.now cursor.old }
     requires short { length text.now ≤ 16777216 }
-    requires line { is_line wanted.now ≡ true }
     ensures taken { IsJustLine text.now cursor.old cursor.new wanted.now result }
     ensures count { cursor.new.lines ≡ cursor.old.lines + 1 }
 {
-    cursor.lines += 1;
-    if !text[cursor.bytes..].starts_with(wanted) {
-        return false;
+    match next_line(text, cursor) {
+        Some(line) => line == wanted,
+        None => false,
     }
-    cursor.bytes += wanted.len();
-    true
 }

@@ -5,10 +5,11 @@ ghost use Rattle.pas_report.specs.Lines.{CanShow, line_of};
 ghost use Rattle.pas_check.specs.Leading.{IsJustLine, IsLed, IsWithin, StaysWithin};
 ghost use Rattle.pas_check.specs.States.{Due, Heads, Stand, Writes, with_due};
 
-use crate::cutting::{Cursor, take_line};
-use pas_report::{Line, Record, push_record};
+use crate::cutting::{Cursor, next_line, take_line};
+use crate::reading::is_line;
+use pas_report::Record;
 
-/// Takes the next line, and says whether it is the record's, which is made where it is compared.
+/// Reads the next line, and says whether it is the record's.
 fn is_next(text: &[u8], cursor: &mut Cursor, item: &Record) -> bool
     requires within { IsWithin text.now cursor.old }
     requires short { length text.now ≤ 16777216 }
@@ -17,9 +18,10 @@ fn is_next(text: &[u8], cursor: &mut Cursor, item: &Record) -> bool
     ensures within { StaysWithin text.now cursor.new result }
     ensures count { cursor.new.lines ≡ cursor.old.lines + 1 }
 {
-    let mut wanted = Line::new();
-    push_record(&mut wanted, item);
-    take_line(text, cursor, wanted.as_bytes())
+    match next_line(text, cursor) {
+        Some(line) => is_line(line, item),
+        None => false,
+    }
 }
 
 /// Takes the next line where it is just the record's, and says whether it is. After false the cursor has counted the line that isn't, or that is wanting.

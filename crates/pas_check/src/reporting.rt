@@ -12,7 +12,7 @@ ghost use Rattle.pas_report.specs.Marks.{mark_bit, marks_of};
 ghost use Rattle.pas_report.specs.Reports.{is_covered, live_on as live_on_page, uncovered_on};
 ghost use Rattle.pas_check.specs.Begins.{page_due, pages_due, report_due};
 ghost use Rattle.pas_check.specs.Leading.{IsLed, IsWithin, StaysWithin};
-ghost use Rattle.pas_check.specs.Shown.{given_on as given_on_page, HasNoRoom, HasRoom, IsBare, IsHinted, IsKnown, IsPageLine, IsUsed, IsWith, TellsPage, TellsTotals};
+ghost use Rattle.pas_check.specs.Shown.{HasNoRoom, HasRoom, IsBare, IsHinted, IsKnown, IsPageLine, IsUsed, IsWith, TellsPage, TellsTotals};
 ghost use Rattle.pas_check.specs.States.{Due, Shows, Stand, Totals, with_due};
 
 use crate::cutting::{Cursor, next_line, take_line};
@@ -297,60 +297,20 @@ fn count_pages(machine: &Machine) -> (u32, u32)
     (deeds, backed)
 }
 
-/// How many live blocks begin on the page: none where it has no deed.
-fn live_there(machine: &Machine, page: u32) -> u16
-    requires page { IsPage (profile_of machine.now) page }
-    requires valid { IsValid (profile_of machine.now) }
-    ensures { (es : List TheEvent) → StandsFor machine.now es → result ≡ live_on_page es page }
-{
-    match machine.deed_of(page) {
-        Some(_) => live_on(machine, page),
-        None => 0,
-    }
-}
-
-/// How many blocks live. Looks only at grains of pages with a deed.
+/// How many blocks live.
 fn count_live(machine: &Machine) -> u64
     requires { IsValid (profile_of machine.now) }
     ensures { (es : List TheEvent) → StandsFor machine.now es → result ≡ live_total (profile_of machine.now) es }
 {
     let mut live = 0;
-    for before in 0..machine.profile().pages {
-        live += live_there(machine, before + 1) as u64;
+    for before in 0..256 * machine.profile().pages {
+        let lives = machine.block_at(256 + before).is_some();
+        live += lives as u64;
     }
     live
 }
 
-/// How many blocks were given on the page.
-fn given_on(machine: &Machine, page: u32) -> u64
-    requires page { IsPage (profile_of machine.now) page }
-    requires valid { IsValid (profile_of machine.now) }
-    requires known { IsKnown machine.now }
-    ensures given { (es : List TheEvent) → StandsFor machine.now es → result ≡ given_on_page es page }
-    ensures few { result ≤ 2 ^ 32 }
-{
-    let mut given = 0;
-    for grain in 0..256u32 {
-        given += machine.gives_at(256 * page + grain);
-    }
-    given
-}
-
-/// .. which are none where it has no deed.
-fn given_there(machine: &Machine, page: u32) -> u64
-    requires page { IsPage (profile_of machine.now) page }
-    requires valid { IsValid (profile_of machine.now) }
-    requires known { IsKnown machine.now }
-    ensures given { (es : List TheEvent) → StandsFor machine.now es → result ≡ given_on_page es page }
-    ensures few { result ≤ 2 ^ 32 }
-{
-    match machine.deed_of(page) {
-        Some(_) => given_on(machine, page),
-        None => 0,
-    }
-}
-
-/// How many blocks were given. Looks only at grains of pages with a deed.
+/// How many blocks were given.
 fn count_given(machine: &Machine) -> u64
     requires valid { IsValid (profile_of machine.now) }
     requires known { IsKnown machine.now }
@@ -358,8 +318,8 @@ fn count_given(machine: &Machine) -> u64
     ensures few { result ≤ 2 ^ 46 }
 {
     let mut given = 0;
-    for before in 0..machine.profile().pages {
-        given += given_there(machine, before + 1);
+    for before in 0..256 * machine.profile().pages {
+        given += machine.gives_at(256 + before);
     }
     given
 }

@@ -1,36 +1,34 @@
 //! The lines of a request: deeds and backs, as many as there are, and then a give or a refusal.
-ghost use Rattle.std.specs.Prelude.{ℕ, ◌≡◌, ◌<◌, ◌≤◌, List, length, IfOk, IfSome};
+ghost use Rattle.std.specs.Prelude.{◌≡◌, ◌<◌, ◌≤◌, length, IfOk, IfSome};
 ghost use Rattle.pas_profile.specs.Directories.{IsKind};
 ghost use Rattle.pas_profile.specs.Profiles.{IsValid};
 ghost use Rattle.pas_machine.specs.Machines.{profile_of};
-ghost use Rattle.pas_check.specs.Calls.{EndingTaken, IsRead, RequestTaken};
+ghost use Rattle.pas_check.specs.Calls.{EndingTaken, RequestTaken};
 ghost use Rattle.pas_check.specs.Leading.{IsWithin};
 
 use crate::cutting::{Cursor, next_line};
-use crate::reading::read_record;
 use crate::serving::{Wanted, is_refusal, take_give};
 use crate::taking::take_preparing;
 use pas_machine::Machine;
 use pas_profile::{Block, NoMemory};
-use pas_report::Record;
 
-/// Takes the line of which this was read where it ends the actor's request, and says what the request's name stands for from then on: the block that was
-/// given, or nothing where the request was refused. None where the line does neither.
+/// Takes the line that ends the actor's request, and says what the request's name stands for from then on: the block that was given, or nothing where the
+/// request was refused. None where the line is neither.
 fn take_ending(
     machine: &mut Machine,
-    found: &Option<Record>,
+    line: &[u8],
     actor: u8,
     wanted: &Wanted,
 ) -> Result<Option<Option<Block>>, NoMemory>
     requires align { 0 < wanted.now.align }
     ensures profile { profile_of machine.new ≡ profile_of machine.old }
     ensures heap { IfOk result (λ ending. IfSome ending (λ found. IfSome found (λ block. block.heap ≡ wanted.now.directory.heap))) }
-    ensures taken { IfOk result (λ block. (line : List ℕ) → IsRead line found.now → EndingTaken machine.old machine.new actor wanted.now line block) }
+    ensures taken { IfOk result (λ block. EndingTaken machine.old machine.new actor wanted.now line.now block) }
 {
-    match take_give(machine, found, actor, wanted) {
+    match take_give(machine, line, actor, wanted) {
         Ok(Some(block)) => Ok(Some(Some(block))),
         Ok(None) => {
-            if is_refusal(machine, found, actor, wanted) {
+            if is_refusal(machine, line, actor, wanted) {
                 Ok(Some(None))
             } else {
                 Ok(None)
@@ -63,10 +61,9 @@ pub(crate) fn take_request(
         let Some(line) = next_line(text, cursor) else {
             return Ok(None);
         };
-        let found = read_record(line);
-        match take_preparing(machine, &found, actor, wanted.directory) {
+        match take_preparing(machine, line, actor, wanted.directory) {
             Ok(true) => {}
-            Ok(false) => return take_ending(machine, &found, actor, wanted),
+            Ok(false) => return take_ending(machine, line, actor, wanted),
             Err(NoMemory) => return Err(NoMemory),
         }
     }

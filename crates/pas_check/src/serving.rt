@@ -8,10 +8,11 @@ ghost use Rattle.pas_machine.specs.State.{deed_in};
 ghost use Rattle.pas_machine.specs.Places.{IsEach};
 ghost use Rattle.pas_machine.specs.Machines.{profile_of, StandsFor};
 ghost use Rattle.pas_trace.specs.declared.item.Request.{Request};
-ghost use Rattle.pas_check.specs.Calls.{asked_for, GiveTaken, IsFitting, IsGiven, IsRead, IsWanted, LiesOn, RefusalSeen, RefusesBy};
+ghost use Rattle.pas_check.specs.Calls.{asked_for, GiveTaken, IsFitting, IsGiven, IsWanted, LiesOn, RefusalSeen, RefusesBy};
 ghost use Rattle.pas_check.specs.States.{Stand};
 
-use crate::taking::{event_read, step};
+use crate::reading::read_record;
+use crate::taking::{read_event, step};
 use pas_heap::HeapTable;
 use pas_machine::Machine;
 use pas_profile::{Block, Directory, Event, Kind, NoMemory, Profile, Route};
@@ -124,20 +125,19 @@ fn give(
     }
 }
 
-/// Takes the line of which this was read where it is that of a give by the actor of what is wanted, and says which block that is. None where it is no
-/// such line.
+/// Takes the line of a give by the actor of what is wanted, and says which block that is. None where this is no such line.
 pub(crate) fn take_give(
     machine: &mut Machine,
-    found: &Option<Record>,
+    line: &[u8],
     actor: u8,
     wanted: &Wanted,
 ) -> Result<Option<Block>, NoMemory>
     requires align { 0 < wanted.now.align }
     ensures profile { profile_of machine.new ≡ profile_of machine.old }
     ensures heap { IfOk result (λ found. IfSome found (λ block. block.heap ≡ wanted.now.directory.heap)) }
-    ensures taken { IfOk result (λ block. (line : List ℕ) → IsRead line found.now → GiveTaken machine.old machine.new actor wanted.now line block) }
+    ensures taken { IfOk result (λ block. GiveTaken machine.old machine.new actor wanted.now line.now block) }
 {
-    let Some(event) = event_read(found) else {
+    let Some(event) = read_event(line) else {
         return Ok(None);
     };
     give(machine, &event, actor, wanted)
@@ -157,17 +157,12 @@ fn refuses(machine: &Machine, item: &Record, actor: u8, wanted: &Wanted) -> bool
     }
 }
 
-/// Whether the line of which this was read is a refusal of what the actor wants.
-pub(crate) fn is_refusal(
-    machine: &Machine,
-    found: &Option<Record>,
-    actor: u8,
-    wanted: &Wanted,
-) -> bool
-    ensures { (line : List ℕ) → IsRead line found.now → RefusalSeen machine.now actor wanted.now line result }
+/// Whether the line is a refusal of what the actor wants.
+pub(crate) fn is_refusal(machine: &Machine, line: &[u8], actor: u8, wanted: &Wanted) -> bool
+    ensures { RefusalSeen machine.now actor wanted.now line.now result }
 {
-    let Some(item) = found else {
+    let Some(item) = read_record(line) else {
         return false;
     };
-    refuses(machine, item, actor, wanted)
+    refuses(machine, &item, actor, wanted)
 }

@@ -1,20 +1,19 @@
 //! Lines that the machine judges: those of the entries of a log, and the deeds and backs of a request.
-ghost use Rattle.std.specs.Prelude.{ℕ, ◌≡◌, List, IfOk, MatchBool, None, Some};
+ghost use Rattle.std.specs.Prelude.{ℕ, ◌≡◌, ◌^◌, ◌<◌, List, IfSome, IfOk, MatchBool, MatchOption, Some};
 ghost use Rattle.pas_profile.specs.Directories.{IsKind};
 ghost use Rattle.pas_profile.specs.Profiles.{IsValid};
 ghost use Rattle.pas_profile.specs.declared.event.Event.{Event as TheEvent};
-ghost use Rattle.pas_profile.specs.declared.profile.Profile.{Profile};
 ghost use Rattle.pas_profile.specs.Blocks.{address_of};
-ghost use Rattle.pas_machine.specs.Machine.{IsPlace, Run};
+ghost use Rattle.pas_machine.specs.Machine.{IsLive, IsPlace};
 ghost use Rattle.pas_machine.specs.Machines.{profile_of, StandsFor};
-ghost use Rattle.pas_report.specs.Lines.{IsShowable};
-ghost use Rattle.pas_machine.specs.State.{Live, gives_in, live_in};
-ghost use Rattle.pas_check.specs.Calls.{event_in, IsEventRead, IsRead, IsStepped, IsTrueReason, EntryTaken, PreparingTaken};
-ghost use Rattle.pas_check.specs.States.{Stand};
-ghost use Rattle.pas_check.specs.Takes.{IsEventOf, IsPreparing};
+ghost use Rattle.pas_machine.specs.Places.{IsLiveBlock};
+ghost use Rattle.pas_report.specs.Lines.{line_of_event};
+ghost use Rattle.pas_check.specs.Calls.{event_in, IsHeedless, IsStepped, Differs, MayAnswer, EntryTaken, PreparingTaken};
+ghost use Rattle.pas_check.specs.Takes.{IsPreparing};
+ghost use Rattle.pas_check.specs.Ranges.{FitsEvent};
 
 use crate::entry::Entry;
-use crate::reading::is_line;
+use crate::reading::read_record;
 use pas_machine::{Machine, StepFault};
 use pas_profile::{Address, Block, Directory, Event, Name, NoMemory, Why};
 use pas_report::Record;
@@ -41,14 +40,44 @@ fn event_of(item: &Record) -> Option<Event>
     }
 }
 
-/// The event of what was read of a line; None where that is none.
-pub(crate) fn event_read(found: &Option<Record>) -> Option<Event>
-    ensures { (line : List ℕ) → IsRead line found.now → IsEventRead line result }
+/// The event whose line this is; None where it is of none.
+pub(crate) fn read_event(line: &[u8]) -> Option<Event>
+    ensures some { IfSome result (λ e. line.now ≡ line_of_event e) }
+    ensures only { (e : TheEvent) → FitsEvent e → line.now ≡ line_of_event e → result ≡ Some e }
 {
-    let Some(item) = found else {
+    let Some(item) = read_record(line) else {
         return None;
     };
-    event_of(item)
+    event_of(&item)
+}
+
+/// Whether the event is the end of the entry's name in this epoch by the actor, or a refusal of it for a reason that the entry may have.
+fn answers(event: &Event, actor: u8, entry: Entry, epoch: u64) -> bool
+    ensures { MatchBool result (MayAnswer actor entry epoch event.now) (MayAnswer actor entry epoch event.now → ⊥) }
+{
+    match *event {
+        Event::End {
+            actor: k,
+            name: n,
+            epoch: e,
+        } => k == actor && n == entry.name && e == epoch,
+        Event::Reject {
+            actor: k,
+            name: n,
+            why: Why::Ended,
+        } => k == actor && n == entry.name,
+        Event::Reject {
+            actor: k,
+            name: n,
+            why: Why::NoBlock,
+        } => k == actor && n == entry.name,
+        Event::Reject {
+            actor: k,
+            name: n,
+            why: Why::SizeDiffers(room),
+        } => k == actor && n == entry.name && room > 0 && room == entry.room,
+        _ => false,
+    }
 }
 
 /// Whether the address is that of a grain of the region.
@@ -58,59 +87,41 @@ fn is_place(machine: &Machine, address: Address) -> bool
     machine.has_page(address.0 / 4096) && address.0 % 16 == 0
 }
 
-/// Why the entry's name can't end beside the block that lives at its address, if there is a reason.
-fn reason_beside(block: &Block, entry: Entry) -> Option<Why>
-    ensures { (f : Profile) (es : List TheEvent) → Run f es → (b : Live) → live_in es (address_of entry.name) ≡ Some b → b.block ≡ block.now → IsTrueReason es entry result }
+/// The block of exactly this name, where it lives.
+fn live_block(machine: &Machine, name: Name) -> Option<Block>
+    requires { IsPlace (profile_of machine.now) (address_of name) }
+    ensures { (es : List TheEvent) → StandsFor machine.now es → MatchOption result (IsLive es name → ⊥) (IsLiveBlock es name) }
 {
-    if entry.name.turn < block.name.turn {
-        return Some(Why::Ended);
-    }
-    if entry.name.turn > block.name.turn {
-        return Some(Why::NoBlock);
-    }
-    if entry.room > 0 && entry.room != block.room {
-        return Some(Why::SizeDiffers(entry.room));
-    }
-    None
-}
-
-/// Why the entry's name can't end, where no block lives at its address, at which so many were given.
-fn reason_without(gives: u64, entry: Entry) -> Why
-    ensures { (f : Profile) (es : List TheEvent) → Run f es → live_in es (address_of entry.name) ≡ None → gives_in es (address_of entry.name) ≡ gives → IsTrueReason es entry (Some result) }
-{
-    if entry.name.turn < gives {
-        Why::Ended
-    } else {
-        Why::NoBlock
+    match machine.block_at(name.address.0 / 16) {
+        Some(block) if block.name.turn == name.turn => Some(block),
+        _ => None,
     }
 }
 
-/// Why the entry's name can't end, if there is a reason.
-fn true_reason(machine: &Machine, entry: Entry) -> Option<Why>
+/// Whether the entry names a room, and the block of its name lives with another one.
+fn differs(machine: &Machine, entry: Entry) -> bool
     requires { IsPlace (profile_of machine.now) (address_of entry.name) }
-    ensures { (es : List TheEvent) → StandsFor machine.now es → IsTrueReason es entry result }
+    ensures { (es : List TheEvent) → StandsFor machine.now es → MatchBool result (Differs es entry) (Differs es entry → ⊥) }
 {
-    let grain = entry.name.address.0 / 16;
-    match machine.block_at(grain) {
-        Some(block) => reason_beside(&block, entry),
-        None => Some(reason_without(machine.gives_at(grain), entry)),
+    match live_block(machine, entry.name) {
+        Some(block) => entry.room > 0 && block.room != entry.room,
+        None => false,
     }
 }
 
-/// The event of an entry of the actor's log: the refusal with the true reason, or where there is none, the end in this epoch.
-fn event_for(machine: &Machine, actor: u8, entry: Entry, epoch: u64) -> Event
-    requires { IsPlace (profile_of machine.now) (address_of entry.name) }
-    ensures event { (s : Stand) → StandsFor machine.now s.events → s.epoch ≡ epoch → IsEventOf s actor entry result }
-    ensures shown { IsShowable result }
+/// Whether the event is the end of the entry's name, though its block has another room than the entry names.
+fn is_heedless(machine: &Machine, event: &Event, entry: Entry) -> bool
+    ensures { (es : List TheEvent) → StandsFor machine.now es → MatchBool result (IsHeedless es entry event.now)
+        (IsPlace (profile_of machine.now) (address_of entry.name) → IsHeedless es entry event.now → ⊥) }
 {
-    let name = entry.name;
-    match true_reason(machine, entry) {
-        Some(why) => Event::Reject { actor, name, why },
-        None => Event::End { actor, name, epoch },
+    match *event {
+        Event::End { .. } => is_place(machine, entry.name.address) && differs(machine, entry),
+        _ => false,
     }
 }
 
-/// Takes the line of an entry of the actor's log, and says whether this is its line.
+/// Takes the line of an entry of the actor's log, and says whether this is its line: that of the refusal with the true reason, or where there is none, of the
+/// end in this epoch.
 pub(crate) fn take_entry(
     machine: &mut Machine,
     line: &[u8],
@@ -121,11 +132,13 @@ pub(crate) fn take_entry(
     ensures profile { profile_of machine.new ≡ profile_of machine.old }
     ensures taken { IfOk result (λ taken. EntryTaken machine.old machine.new actor entry epoch line.now taken) }
 {
-    if !is_place(machine, entry.name.address) {
+    let Some(event) = read_event(line) else {
+        return Ok(false);
+    };
+    if !answers(&event, actor, entry, epoch) {
         return Ok(false);
     }
-    let event = event_for(machine, actor, entry, epoch);
-    if !is_line(line, &Record::Event(event)) {
+    if is_heedless(machine, &event, entry) {
         return Ok(false);
     }
     step(machine, &event)
@@ -146,19 +159,19 @@ fn prepares(event: &Event, actor: u8, directory: Directory) -> bool
     }
 }
 
-/// Takes the line of which this was read where it is that of a deed of the directory, or of a back, by the actor, and says whether it is.
+/// Takes the line of a deed of the directory, or of a back, by the actor, and says whether this is one.
 pub(crate) fn take_preparing(
     machine: &mut Machine,
-    found: &Option<Record>,
+    line: &[u8],
     actor: u8,
     directory: Directory,
 ) -> Result<bool, NoMemory>
     requires valid { IsValid (profile_of machine.old) }
     requires kind { IsKind directory.kind }
     ensures profile { profile_of machine.new ≡ profile_of machine.old }
-    ensures taken { IfOk result (λ taken. (line : List ℕ) → IsRead line found.now → PreparingTaken machine.old machine.new actor directory line taken) }
+    ensures taken { IfOk result (λ taken. PreparingTaken machine.old machine.new actor directory line.now taken) }
 {
-    let Some(event) = event_read(found) else {
+    let Some(event) = read_event(line) else {
         return Ok(false);
     };
     if !prepares(&event, actor, directory) {

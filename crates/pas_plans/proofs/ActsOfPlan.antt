@@ -1,5 +1,5 @@
 -- The acts of a plan fit where its operations do, and cost no more than they, and one record for each phase and one for the close.
-use Rattle.std.proofs.Common.{◌≡◌, ℕ, ◌+◌, ◌*◌, ◌<◌, ◌≤◌, ◌==◌, Bool, true, false, if◌then◌else◌, cond, List, [], ◌∷◌, ◌++◌, length, refl, ap, sym, subst, arith, append_assoc}
+use Rattle.std.proofs.Common.{◌≡◌, ℕ, zero, suc, ◌+◌, ◌*◌, ◌<◌, ◌≤◌, ◌==◌, Bool, true, false, if◌then◌else◌, cond, List, [], ◌∷◌, ◌++◌, length, refl, ap, sym, subst, arith, append_assoc}
 use Rattle.std.specs.Prelude.{map, not, MatchOption}
 use Rattle.std.specs.List.{AllByRecursion, filter}
 use Rattle.std.proofs.lemmas.Bool.{eq-eqb}
@@ -7,14 +7,18 @@ use Rattle.std.proofs.Math.Nat.{suc-mul}
 use Rattle.pas_profile.specs.declared.profile.Profile.{Profile}
 use Rattle.pas_trace.specs.EveryPlan.{all_ops, asked_with, asked_after, IsActorBy, IsActorOf, IsSoundWork, AreSound, records_of_chore, records_of_work, records_of_what, records_of_ops, own_records}
 use Rattle.pas_trace.specs.Asked.{work_of, of_task, request_of, cost_of_task}
+use Rattle.pas_trace.specs.declared.plan.Task.{Task}
 use Rattle.pas_trace.specs.declared.plan.Chore.{Chore}
 use Rattle.pas_trace.specs.declared.plan.Work.{Work}
 use Rattle.pas_trace.specs.declared.plan.Op.{Op}
 use Rattle.pas_trace.specs.Acts.{Act, Operates, Ticks, StopsIdle, MarksPhase, MarksClose, Wakes, Ends, is_active, numbers_from, active_threads, idle_threads, idle_stops, acts_of_chore, acts_of_work, acts_of_op, acts_of_ops, phase_acts, close_acts, acts_from, acts_of}
-use Rattle.pas_trace.proofs.ThreadsInOrder.{numbers_count}
 use Rattle.pas_answers.specs.Fit.{IsFitWork, AreFit, AreOfThreads, cost_of_work, cost_of_what, cost_of_act, costs_of, own_cost_of_act, own_costs_of, unbacks_of_act, unbacks_of, sum_over, AreBelow}
 
 -- ---- so many threads
+numbers_count : (k n : ℕ) → length (numbers_from k n) ≡ n
+numbers_count k zero = refl
+numbers_count k (suc n) = ap suc (numbers_count (k + 1) n)
+
 one_chosen : (b : Bool) (k : ℕ) (chosen ks : List ℕ) → length chosen ≤ length ks → length (cond b (k ∷ chosen) chosen) ≤ length (k ∷ ks)
 one_chosen true k chosen ks few = omega (arith, few)
 one_chosen false k chosen ks few = omega (arith, few)

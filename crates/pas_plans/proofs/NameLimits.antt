@@ -4,7 +4,6 @@ use Rattle.pas_trace.specs.EveryPlan.{all_ops}
 use Rattle.pas_trace.specs.declared.plan.What.{What}
 use Rattle.pas_trace.specs.declared.plan.What.TheVariants.{Alloc, Remake}
 use Rattle.pas_trace.specs.declared.plan.Op.{Op}
-use Rattle.pas_trace.proofs.EveryPlan.{below_front}
 use Rattle.pas_answers.specs.Fit.{IsBelow, AreBelow, AllBelow}
 use Rattle.pas_plans.proofs.ActsOfPlan.{back_below}
 
@@ -30,6 +29,10 @@ all_higher limit higher [] le all = tt
 all_higher limit higher (p ∷ ps) le all = (below_higher limit higher p le all.0, all_higher limit higher ps le all.1)
 
 -- those of each phase
+below_front : (limit : ℕ) (xs ys : List Op) → AreBelow limit (xs ++ ys) → AreBelow limit xs
+below_front limit [] ys all = tt
+below_front limit (x ∷ xs) ys all = (all.0, below_front limit xs ys all.1)
+
 pub below_each : (limit : ℕ) (phases : List (List Op)) → AreBelow limit (all_ops phases) → AllBelow limit phases
 below_each limit [] all = tt
 below_each limit (p ∷ ps) all = (below_front limit p (all_ops ps) all, below_each limit ps (back_below limit p (all_ops ps) all))

@@ -15,7 +15,7 @@ use pas_bits::Mask4;
 use pas_plain::{PlainDesk, PlainRegion};
 use pas_plans::active;
 use pas_report::{Record, Records};
-use pas_trace::{Chore, Op, Phase, What, Work};
+use pas_trace::{Chore, Op, Phase, Work};
 
 /// The number of the phase that begins without a mark.
 const UNMARKED: u32 = 1;
@@ -83,49 +83,6 @@ fn perform<M: Remake>(
     }
 }
 
-/// The same, out of line.
-#[inline(never)]
-fn perform_rare<M: Remake>(
-    desk: &mut PlainDesk,
-    actors: &mut Actors,
-    names: &mut Names,
-    remaker: &M,
-    awake: Mask4,
-    op: Op,
-    out: &mut Records,
-)
-    requires few { length actors.old.caches.items < 32 }
-    requires so_far { MayGoOn (λ n. acts_of_op (idle_in awake n) op) (session desk.old actors.old names.old out.old) }
-    ensures threads { length actors.new.caches.items ≡ length actors.old.caches.items }
-    ensures so_far { GoesOn (λ n. acts_of_op (idle_in awake n) op) (session desk.old actors.old names.old out.old) (session desk.new actors.new names.new out.new) }
-{
-    perform(desk, actors, names, remaker, awake, op, out)
-}
-
-/// Performs an operation, in a phase in which these threads have one. Requests and frees by name, which are the most by far,
-/// have code of their own, which no longer asks what the operation is.
-#[inline(always)]
-fn perform_by_kind<M: Remake>(
-    desk: &mut PlainDesk,
-    actors: &mut Actors,
-    names: &mut Names,
-    remaker: &M,
-    awake: Mask4,
-    op: &Op,
-    out: &mut Records,
-)
-    requires few { length actors.old.caches.items < 32 }
-    requires so_far { MayGoOn (λ n. acts_of_op (idle_in awake n) op.now) (session desk.old actors.old names.old out.old) }
-    ensures threads { length actors.new.caches.items ≡ length actors.old.caches.items }
-    ensures so_far { GoesOn (λ n. acts_of_op (idle_in awake n) op.now) (session desk.old actors.old names.old out.old) (session desk.new actors.new names.new out.new) }
-{
-    match op.what {
-        What::Alloc { .. } => perform(desk, actors, names, remaker, awake, *op, out),
-        What::Free { .. } => perform(desk, actors, names, remaker, awake, *op, out),
-        _ => perform_rare(desk, actors, names, remaker, awake, *op, out),
-    }
-}
-
 /// Performs the operations of a phase in order.
 fn perform_all<M: Remake>(
     desk: &mut PlainDesk,
@@ -142,7 +99,7 @@ fn perform_all<M: Remake>(
     ensures so_far { GoesOn (λ n. acts_of_ops (idle_in awake n) ops.now) (session desk.old actors.old names.old out.old) (session desk.new actors.new names.new out.new) }
 {
     for op in ops {
-        perform_by_kind(desk, actors, names, remaker, awake, op, out);
+        perform(desk, actors, names, remaker, awake, *op, out);
     }
 }
 

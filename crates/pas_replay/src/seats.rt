@@ -139,7 +139,6 @@ pub(crate) fn wake(desk: &mut PlainDesk, actors: &mut Actors, actor: u8)
 }
 
 /// The desk's thread does the task, with the indexes as its door. This answers each operation of the thread that asks for the task.
-#[inline(always)]
 fn operate_by<M: Remake>(
     desk: &mut PlainDesk,
     indexes: &mut [LargeIndex],

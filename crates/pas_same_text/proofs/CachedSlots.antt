@@ -212,7 +212,7 @@ unfolding some_slots
 found_at heap class x s rest true e later same = subst (λ (y : Slots). is_for_slots heap class y ≡ true) (ap (some_slots x) same) e
 found_at heap class x s rest false e later same = later same
 
-found_passes : (heap class : ℕ) (slots : List Slots) (s : Slots) → local_for heap class slots ≡ Some s → is_for_slots heap class s ≡ true
+pub found_passes : (heap class : ℕ) (slots : List Slots) (s : Slots) → local_for heap class slots ≡ Some s → is_for_slots heap class s ≡ true
 found_passes heap class [] s is = absurd (none is)
   where
     is_some : Option Slots → Bool

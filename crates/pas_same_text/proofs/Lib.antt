@@ -40,3 +40,7 @@ mod BitfitFits
 mod ReadyPages
 mod BitfitGiven
 mod BitfitRequests
+mod GoneLocals
+mod OneUp
+mod MadePlace
+mod ClassFits

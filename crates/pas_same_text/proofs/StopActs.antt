@@ -93,7 +93,7 @@ one_of f v q steps slots known (IsMarkedIn.There s rest o) =
     record { own = r.own; marked = r.marked; known = r.known; has = λ g h. or_right (covers s g) (any_covers rest g) (r.has g h) }
 
 -- a slot's first grain is one that blocks of its page's directory may cover
-slot_usable : (right : Bool) (class b : ℕ) → 1 ≤ class_grains class → IsSlotStart class b → usable_by_kind (kind_of_class (not right) class) b ≡ true
+pub slot_usable : (right : Bool) (class b : ℕ) → 1 ≤ class_grains class → IsSlotStart class b → usable_by_kind (kind_of_class (not right) class) b ≡ true
 slot_usable true class b some slot = let within = slot.within in let lt : b < usable_grains class = omega (arith, within, some) in grind (arith, nat_tests, lt)
 slot_usable false class b some slot = refl
 

@@ -8,7 +8,6 @@ use Rattle.pas_profile.specs.declared.profile.Profile.{Profile}
 use Rattle.pas_trace.specs.Plans.{IsPlanOf, phases_of, ops_of, phases_in, shared_in, own_costs, bound_of, bounds_upto, bounds_of}
 use Rattle.pas_trace.specs.EveryPlan.{all_ops, operations_of, AreBelow, AreSound, own_records, records_of_ops, IsSound}
 use Rattle.pas_trace.specs.declared.item.Item.{Item}
-use Rattle.pas_trace.specs.declared.plan.Op.{Op}
 use Rattle.pas_trace.specs.declared.plan.Plan.{Plan}
 use Rattle.pas_trace.proofs.LineCounts.{lines_few}
 use Rattle.pas_trace.proofs.OperationsOfItems.{ops_in, following, all_below, all_records, all_own, phases_within}
@@ -66,8 +65,3 @@ every_plan {text} {plan} is =
       total = is.total ∙ ap (λ n. f.threads * f.pages + n) (sym (ap (λ h. records_of_ops h (operations_of plan)) is.profile ∙ ap (records_of_ops g) ops ∙ all_records f (shared_in is.items) is.items))
           ∙ ap (λ h. h.threads * h.pages + records_of_ops plan.profile (operations_of plan)) (sym is.profile);
     }
-
--- the first of several operations are below the limit of all
-pub below_front : (limit : ℕ) (xs ys : List Op) → AreBelow limit (xs ++ ys) → AreBelow limit xs
-below_front limit [] ys below = tt
-below_front limit (x ∷ xs) ys below = (below.0, below_front limit xs ys below.1)

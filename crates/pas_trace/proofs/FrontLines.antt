@@ -76,17 +76,6 @@ one-found (x ∷ y ∷ rest) end two ended lo hi =
     let value : x - 48 ≡ 10 * 0 + (x - 48) = omega arith in
     number-found (x ∷ y ∷ rest) 1 (x - 48) end (and_from (is_digit x) true (digit-is x lo hi) refl) value (omega arith) (omega arith) (omega arith) ended (λ many. absurd (omega arith))
 
--- .. of two digits
-pub two-found : (text : List ℕ) (end : ℕ) → 3 ≤ length text → get_or text 2 0 ≡ end → 49 ≤ get_or text 0 0 → get_or text 0 0 ≤ 57 → 48 ≤ get_or text 1 0 → get_or text 1 0 ≤ 57
-    → BeginsWith text (10 * (get_or text 0 0 - 48) + (get_or text 1 0 - 48)) end (take (length text - 3) (drop 3 text))
-two-found [] end three ended lo hi low high = absurd (omega arith)
-two-found (x ∷ []) end three ended lo hi low high = absurd (omega arith)
-two-found (x ∷ y ∷ []) end three ended lo hi low high = absurd (omega arith)
-two-found (x ∷ y ∷ z ∷ rest) end three ended lo hi low high =
-    let digits = and_from (is_digit x) (all_digits (y ∷ [])) (digit-is x (omega arith) hi) (and_from (is_digit y) true (digit-is y low high) refl) in
-    let value : 10 * (x - 48) + (y - 48) ≡ 10 * (10 * 0 + (x - 48)) + (y - 48) = omega arith in
-    number-found (x ∷ y ∷ z ∷ rest) 2 (10 * (x - 48) + (y - 48)) end digits value (omega arith) (omega arith) (omega arith) ended (λ many e. omega (arith, e, lo))
-
 -- ---- words and the end of the line
 number-some : (w : List ℕ) (n : ℕ) → number_of w ≡ Some n → 0 < length w
 number-some [] n e = absurd (cc)

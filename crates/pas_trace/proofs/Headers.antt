@@ -8,7 +8,6 @@ use Rattle.pas_trace.specs.Texts.{words_of}
 use Rattle.pas_trace.specs.Numbers.{number_of}
 use Rattle.pas_trace.specs.Items.{same_bytes}
 use Rattle.pas_trace.specs.Reasons.{within, most_pages, classes_of, header_with, header_for, header_of_words, header_of}
-use Rattle.pas_trace.proofs.PassedChecks.{if_some}
 
 pub short4 : (a b c d : List ℕ) (ws : List (List ℕ)) → length ws < 2 → header_of_words (a ∷ b ∷ c ∷ d ∷ ws) ≡ None
 short4 a b c d [] lt = refl
@@ -26,6 +25,10 @@ short8 a b c d e f g h (x ∷ []) lt = refl
 short8 a b c d e f g h (x ∷ y ∷ ws) lt = absurd (omega arith)
 
 -- ---- the limits
+if_some : {A : Type 0} (t : Bool) (o : Option A) (x : A) → (if t then o else None) ≡ Some x → (t ≡ true) × (o ≡ Some x)
+if_some true o x e = (refl, e)
+if_some false o x e = absurd (cc)
+
 in_range : (least most n : ℕ) (o : Option ℕ) → within least most o ≡ Some n → (least ≤ n) × (n ≤ most)
 in_range least most n None e = absurd (cc)
 in_range least most n (Some m) e =

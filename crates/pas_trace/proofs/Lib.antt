@@ -20,4 +20,3 @@ pub mod OperationsOfItems
 pub mod EveryPlan
 pub mod EveryPhase
 pub mod OperationCounts
-pub mod ThreadsInOrder

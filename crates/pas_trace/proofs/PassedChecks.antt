@@ -1,5 +1,5 @@
 -- What an item keeps that passed its checks.
-use Rattle.std.proofs.Common.{◌≡◌, ℕ, ◌*◌, ◌%◌, ◌^◌, ◌<◌, ◌≤◌, ◌==◌, nat_le, nat_lt, Bool, true, false, not, ◌&&◌, if◌then◌else◌, List, [], ◌∷◌, Option, None, Some, refl, arith}
+use Rattle.std.proofs.Common.{◌≡◌, ℕ, ◌*◌, ◌%◌, ◌^◌, ◌<◌, ◌≤◌, ◌==◌, nat_le, nat_lt, Bool, true, false, not, ◌&&◌, List, [], ◌∷◌, Option, None, Some, refl, arith}
 use Rattle.std.specs.Prelude.{MatchOption}
 use Rattle.std.proofs.lemmas.Bool.{ltb-true, leb-true, eqb-true, and_parts}
 use Rattle.pas_profile.specs.Classes.{IsAlignment}
@@ -41,10 +41,6 @@ aligns a e =
 pub is_not : (t : Bool) → not t ≡ true → t ≡ false
 is_not true e = absurd (cc)
 is_not false e = refl
-
-pub if_some : {A : Type 0} (t : Bool) (o : Option A) (x : A) → (if t then o else None) ≡ Some x → (t ≡ true) × (o ≡ Some x)
-if_some true o x e = (refl, e)
-if_some false o x e = absurd (cc)
 
 pub record FineCounts (f : Profile) (items : List Item) (i : Item) : Type 0 where
   pub few : operations_in items < 1000000

@@ -43,23 +43,7 @@ fn front_digits(text: &[u8], end: u8) -> Option<(u64, &[u8])>
     Some((value, &text[count + 1..]))
 }
 
-/// The number of two digits at the front of a text, and the text after the byte that ends it.
-#[inline(always)]
-fn front_pair(text: &[u8], end: u8) -> Option<(u64, &[u8])>
-    ensures { IfSome result (λ p. BeginsWith text.now p.0 end p.1.now) }
-{
-    if text.len() < 3 || text[2] != end {
-        return None;
-    }
-    if text[0] < b'1' || text[0] > b'9' || text[1] < b'0' || text[1] > b'9' {
-        return None;
-    }
-    let value = 10 * (text[0] - b'0') + (text[1] - b'0');
-    Some((value as u64, &text[3..]))
-}
-
-/// The number at the front of a text and the text after the byte that ends it, as in `front_digits`. Many numbers have one
-/// digit or two.
+/// The number at the front of a text and the text after the byte that ends it, as in `front_digits`. Many numbers have one digit.
 #[inline(always)]
 fn front_number(text: &[u8], end: u8) -> Option<(u64, &[u8])>
     ensures { IfSome result (λ p. BeginsWith text.now p.0 end p.1.now) }
@@ -67,10 +51,7 @@ fn front_number(text: &[u8], end: u8) -> Option<(u64, &[u8])>
     if text.len() >= 2 && text[1] == end && text[0] >= b'0' && text[0] <= b'9' {
         return Some(((text[0] - b'0') as u64, &text[2..]));
     }
-    match front_pair(text, end) {
-        Some(found) => Some(found),
-        None => front_digits(text, end),
-    }
+    front_digits(text, end)
 }
 
 /// What a line `a T NAME H SIZE ALIGN` says, and the text after it, where this text follows its first two bytes.
@@ -109,36 +90,18 @@ fn front_free(text: &[u8]) -> Option<(Item, &[u8])>
     Some((Item::Operates { thread, wish }, rest))
 }
 
-/// What the first line of a text says, and the text after it. None for all lines but those that ask for a block, with
-/// single spaces and numbers of up to 18 digits in range: where it answers, it answers the item of the line.
-#[inline(always)]
-pub(crate) fn allocation_line(text: &[u8]) -> Option<(Item, &[u8])>
-    ensures { IfSome result (λ p. (version : ℕ) → FirstSays version text.now p.0 p.1.now) }
-{
-    if text.len() < 2 || text[0] != b'a' || text[1] != b' ' {
-        return None;
-    }
-    front_allocation(&text[2..])
-}
-
-/// The same for those that free a block by its name.
-#[inline(always)]
-pub(crate) fn free_line(text: &[u8]) -> Option<(Item, &[u8])>
-    ensures { IfSome result (λ p. (version : ℕ) → FirstSays version text.now p.0 p.1.now) }
-{
-    if text.len() < 2 || text[0] != b'f' || text[1] != b' ' {
-        return None;
-    }
-    front_free(&text[2..])
-}
-
-/// The same for both.
+/// What the first line of a text says, and the text after it. None for all lines but those that ask for a block or free one by its
+/// name, with single spaces and numbers of up to 18 digits in range: where it answers, it answers the item of the line.
 #[inline(always)]
 pub(crate) fn front_item(text: &[u8]) -> Option<(Item, &[u8])>
     ensures { IfSome result (λ p. (version : ℕ) → FirstSays version text.now p.0 p.1.now) }
 {
-    match allocation_line(text) {
-        Some(found) => Some(found),
-        None => free_line(text),
+    if text.len() < 2 || text[1] != b' ' {
+        return None;
+    }
+    match text[0] {
+        b'a' => front_allocation(&text[2..]),
+        b'f' => front_free(&text[2..]),
+        _ => None,
     }
 }

@@ -25,13 +25,12 @@ impl Gathered {
         }
     }
 
-    /// Adds an operation to the present phase. Room is made first, so that no operation comes back where memory is wanting.
+    /// Adds an operation to the present phase.
     #[inline(always)]
     pub fn add(&mut self, op: Op) -> Result<(), AllocError>
         ensures { OnOk result (gathered_phases self.new ≡ add_last (Some op) (gathered_phases self.old)) }
     {
-        self.present.reserve(1)?;
-        self.present.push_reserved(op);
+        self.present.push(op)?;
         Ok(())
     }
 

@@ -54,14 +54,12 @@ impl Names {
     }
 
     /// Makes room for the name, with nobody as the owner of the new ones.
-    #[inline(always)]
     fn grow_to(&mut self, name: u32) -> Result<(), AllocError>
         ensures same { (n : ℕ) → owner_in self.new n ≡ owner_in self.old n }
         ensures room { OnOk result (name < vec_len self.new.owners) }
     {
         while self.owners.len() <= name as usize {
-            self.owners.reserve(1)?;
-            self.owners.push_reserved(NOBODY);
+            self.owners.push(NOBODY)?;
         }
         Ok(())
     }

@@ -13,7 +13,7 @@ ghost use Rattle.pas_trace.specs.declared.item.Wish.{Wish};
 
 use crate::counts::{Counts, MOST_OPERATIONS, MOST_RECORDS};
 use crate::fault::{ReadFault, Reason, TraceFault};
-use crate::fronts::{allocation_line, free_line};
+use crate::fronts::front_item;
 use crate::gathered::Gathered;
 use crate::header::{Header, read_header};
 use crate::item::{Item, Request, Wish};
@@ -450,20 +450,15 @@ impl Reader {
         }
     }
 
-    /// Reads the first line of a text, and answers the text after it, or None where the text has no line. Lines of the two
-    /// commonest kinds are read in one pass over their bytes, and each is taken where its kind is known, so that the code
-    /// that checks it asks for the kind no more.
+    /// Reads the first line of a text, and answers the text after it, or None where the text has no line. Lines of the commonest kinds
+    /// are read in one pass over their bytes.
     #[inline(always)]
     fn read_line<'a>(&mut self, text: &'a [u8]) -> Result<Option<&'a [u8]>, ReadFault>
         requires tells { (items : List Item) × Tells self.old items }
         requires line { self.old.line < 2 ^ 25 }
         ensures { (items : List Item) → Tells self.old items → MatchResult result (λ o. MatchOption o ((lines_of text.now ≡ []) × (self.new ≡ self.old)) (λ rest. IsFirstTaken self.old items text.now rest.now self.new (Ok tt))) (λ fault. (rest : List ℕ) × IsFirstTaken self.old items text.now rest self.new (Err fault)) }
     {
-        if let Some((item, rest)) = allocation_line(text) {
-            self.take_item(item)?;
-            return Ok(Some(rest));
-        }
-        if let Some((item, rest)) = free_line(text) {
+        if let Some((item, rest)) = front_item(text) {
             self.take_item(item)?;
             return Ok(Some(rest));
         }
@@ -489,52 +484,6 @@ impl Reader {
         Ok(())
     }
 
-    /// The same, out of line.
-    #[inline(never)]
-    fn take_rare(&mut self, item: Item) -> Result<(), ReadFault>
-        requires tells { (items : List Item) × Tells self.old items }
-        requires line { self.old.line < 2 ^ 25 }
-        ensures { (items : List Item) (line : List ℕ) → Tells self.old items → item_of_line self.old.header.version self.old.started line ≡ Ok item → IsTaken self.old items line self.new result }
-    {
-        self.take_item(item)
-    }
-
-    /// Takes what a line says. The two commonest kinds have code of their own, which no longer asks for the kind.
-    #[inline(always)]
-    fn take_by_kind(&mut self, item: &Item) -> Result<(), ReadFault>
-        requires tells { (items : List Item) × Tells self.old items }
-        requires line { self.old.line < 2 ^ 25 }
-        ensures { (items : List Item) (line : List ℕ) → Tells self.old items → item_of_line self.old.header.version self.old.started line ≡ Ok item.now → IsTaken self.old items line self.new result }
-    {
-        match *item {
-            Item::Operates {
-                thread,
-                wish: Wish::Asks {
-                    name,
-                    heap,
-                    size,
-                    align,
-                },
-            } => {
-                let wish = Wish::Asks {
-                    name,
-                    heap,
-                    size,
-                    align,
-                };
-                self.take_item(Item::Operates { thread, wish })
-            }
-            Item::Operates {
-                thread,
-                wish: Wish::Frees { name },
-            } => {
-                let wish = Wish::Frees { name };
-                self.take_item(Item::Operates { thread, wish })
-            }
-            _ => self.take_rare(*item),
-        }
-    }
-
     /// Takes what lines say, one after another.
     #[inline(never)]
     fn take_items(&mut self, items: &[Item]) -> Result<(), ReadFault>
@@ -545,7 +494,7 @@ impl Reader {
         ensures few { OnOk result (self.new.line ≤ self.old.line + length items.now) }
     {
         for item in items {
-            self.take_by_kind(item)?;
+            self.take_item(*item)?;
         }
         Ok(())
     }

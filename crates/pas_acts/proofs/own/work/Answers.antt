@@ -18,8 +18,8 @@ overflow_add-number g c =
     let few = c.requires.few in
     (omega (arith, low, lt, few))
 
-pub operate_by_kind-requires : goal.operate_by_kind-requires
-operate_by_kind-requires g c =
+pub operate-requires : goal.operate-requires
+operate-requires g c =
     let st = c.requires.stands in
     let so = c.loop-op.invariant.far st.0 st.1 st.2 st.3 in
     record { stands = (st.0, _, st.1, so.2.reached, stands_before c.args.ops.now past c.loop-op-test.true (c.if-op-actor.true ∙ c.actor-actor.ensures) so) }
@@ -31,9 +31,9 @@ loop-op-preserved g c = elim c.if-op-actor.branch [
       rw (w.desk-is, w.cache-is, w.requests-is, w.out-is, w.number-is) (record {
         far = λ f later p at.
             let so = c.loop-op.invariant.far f later p at in
-            goes_on c.args.ops.now past c.loop-op-test.true (w.if-op-actor.true ∙ c.actor-actor.ensures) so (w.operate_by_kind.ensures.works f _ later so.2.reached (stands_before c.args.ops.now past c.loop-op-test.true (w.if-op-actor.true ∙ c.actor-actor.ensures) so));
+            goes_on c.args.ops.now past c.loop-op-test.true (w.if-op-actor.true ∙ c.actor-actor.ensures) so (w.operate.ensures.works f _ later so.2.reached (stands_before c.args.ops.now past c.loop-op-test.true (w.if-op-actor.true ∙ c.actor-actor.ensures) so));
         number = omega (arith, low);
-        home = w.operate_by_kind.ensures.home ∙ c.loop-op.invariant.home;
+        home = w.operate.ensures.home ∙ c.loop-op.invariant.home;
       })
   | else-op-actor w ↦
       let low = c.loop-op.invariant.number in

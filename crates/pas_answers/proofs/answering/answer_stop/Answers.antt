@@ -1,4 +1,4 @@
-use Rattle.std.proofs.Common.{◌∙◌, Option, ℕ, None, arith, refl}
+use Rattle.std.proofs.Common.{◌≡◌, ◌∙◌, Option, ℕ, None, arith, length, drop, refl}
 use Rattle.pas_trace.specs.declared.plan.Task.TheVariants as Task
 use Rattle.pas_trace.specs.declared.plan.What.TheVariants.{Stop}
 use Rattle.pas_cache.specs.Caches.{cached}

@@ -1,4 +1,4 @@
-use Rattle.std.proofs.Common.{subst}
+use Rattle.std.proofs.Common.{sym, subst}
 use Rattle.pas_trace.specs.EveryPlan.{IsRoomNamed}
 use Rattle.pas_answers.proofs.answering.log.Goals as goal
 

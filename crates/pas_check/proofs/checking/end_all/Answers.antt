@@ -3,7 +3,7 @@ use Rattle.pas_profile.specs.declared.profile.Profile.{Profile}
 use Rattle.pas_trace.specs.Acts.{Ends, numbers_from}
 use Rattle.pas_check.specs.Checks.{threads_in}
 use Rattle.pas_check.proofs.Chains.{act_taken, nothing_taken, sized_on, taken_as, then_taken}
-use Rattle.pas_trace.proofs.ThreadsInOrder.{next_number, no_number}
+use Rattle.pas_check.proofs.ThreadsInOrder.{next_number, no_number}
 use Rattle.pas_check.proofs.checking.end_all.Goals as goal
 
 pub loop-index-init : goal.loop-index-init

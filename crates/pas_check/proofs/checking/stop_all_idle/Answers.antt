@@ -5,7 +5,7 @@ use Rattle.pas_profile.specs.declared.profile.Profile.{Profile}
 use Rattle.pas_trace.specs.Acts.{ReadsEpoch, StopsIdle, idle_stops, numbers_from}
 use Rattle.pas_check.specs.Checks.{threads_in}
 use Rattle.pas_check.proofs.Chains.{idly_taken, sized_on, taken_as, then_taken}
-use Rattle.pas_trace.proofs.ThreadsInOrder.{acts_there, acts_past, next_there, none_left}
+use Rattle.pas_check.proofs.ThreadsInOrder.{acts_there, acts_past, next_there, none_left}
 use Rattle.pas_check.proofs.checking.stop_all_idle.Goals as goal
 
 pub loop-index-init : goal.loop-index-init
@@ -15,7 +15,7 @@ loop-index-init c = record {
   far = λ more.
       let n = threads_in c.args.judge.now in
       let e : n ≡ n - 0 = omega arith in
-      taken_as c.args.text.now c.args.judge.now c.args.judge.now c.args.cursor.now c.args.cursor.now true _ _ _ (acts_there (λ k. StopsIdle k c.args.epochs) (λ k. not (is_set c.args.awake k)) 0 n more) refl
+      taken_as c.args.text.now c.args.judge.now c.args.judge.now c.args.cursor.now c.args.cursor.now true _ _ _ (acts_there (λ k. StopsIdle k c.args.epochs) 0 n more (λ k. not (is_set c.args.awake k))) refl
       (ap (λ (m : ℕ). map (λ k. StopsIdle k c.args.epochs) (filter (λ k. not (is_set c.args.awake k)) (numbers_from 1 m)) ++ more) e)
       (idly_taken c.args.text.now c.args.judge.now c.args.cursor.now ReadsEpoch c.requires.within (λ f s. refl) _);
 }
@@ -47,8 +47,8 @@ returns-in-Ok-false-clause-taken c = λ more.
     let n = threads_in c.args.judge.now in
     let p = λ (k : ℕ). not (is_set c.args.awake k) in
     then_taken c.args.text.now c.args.judge.now c.loop-index.judge c.stop_unless_awake.new.judge c.args.cursor.now c.loop-index.cursor c.stop_unless_awake.new.cursor _ _
-    (idle_stops c.args.epochs (filter p ((i + 1) ∷ []))) (acts_past (λ k. StopsIdle k c.args.epochs) p i n more) false
-    (next_there (λ k. StopsIdle k c.args.epochs) p i n more (omega (arith, test, count))) (c.loop-index.invariant.far more)
+    (idle_stops c.args.epochs (filter p ((i + 1) ∷ []))) (acts_past (λ k. StopsIdle k c.args.epochs) i n more p) false
+    (next_there (λ k. StopsIdle k c.args.epochs) i n more p (omega (arith, test, count))) (c.loop-index.invariant.far more)
     (rw c.in-Ok-false.field-0-test at c.in-Ok-false.ensures.taken)
 
 pub loop-index-preserved : goal.loop-index-preserved
@@ -63,8 +63,8 @@ loop-index-preserved c =
       sized = sized_on c.loop-index.invariant.sized c.in-Ok-true.ensures.sized;
       within = within;
       far = λ more. then_taken c.args.text.now c.args.judge.now c.loop-index.judge c.stop_unless_awake.new.judge c.args.cursor.now c.loop-index.cursor c.stop_unless_awake.new.cursor _ _
-          (idle_stops c.args.epochs (filter p ((i + 1) ∷ []))) (acts_past (λ k. StopsIdle k c.args.epochs) p i n more) true
-          (next_there (λ k. StopsIdle k c.args.epochs) p i n more (omega (arith, test, count))) (c.loop-index.invariant.far more)
+          (idle_stops c.args.epochs (filter p ((i + 1) ∷ []))) (acts_past (λ k. StopsIdle k c.args.epochs) i n more p) true
+          (next_there (λ k. StopsIdle k c.args.epochs) i n more p (omega (arith, test, count))) (c.loop-index.invariant.far more)
           (rw c.in-Ok-true.field-0-test at c.in-Ok-true.ensures.taken);
     }
 
@@ -74,5 +74,5 @@ returns-clause-taken c = λ more.
     let count = ap (λ (f : Profile). f.threads) c.profile-threads.ensures in
     let n = threads_in c.args.judge.now in
     let p = λ (k : ℕ). not (is_set c.args.awake k) in
-    taken_as c.args.text.now c.args.judge.now c.loop-index.judge c.args.cursor.now c.loop-index.cursor true _ _ (acts_there (λ k. StopsIdle k c.args.epochs) p c.loop-index.index n more) more refl
-    (none_left (λ k. StopsIdle k c.args.epochs) p c.loop-index.index n more (omega (arith, test, count))) (c.loop-index.invariant.far more)
+    taken_as c.args.text.now c.args.judge.now c.loop-index.judge c.args.cursor.now c.loop-index.cursor true _ _ (acts_there (λ k. StopsIdle k c.args.epochs) c.loop-index.index n more p) more refl
+    (none_left (λ k. StopsIdle k c.args.epochs) c.loop-index.index n more p (omega (arith, test, count))) (c.loop-index.invariant.far more)

@@ -4,7 +4,7 @@ use Rattle.pas_bits.specs.Masks.{is_set}
 use Rattle.pas_trace.specs.Acts.{Act, ReadsEpoch, StopsIdle, idle_stops, threads_where}
 use Rattle.pas_check.specs.Checks.{IsSizedAs, TakenTo, threads_in}
 use Rattle.pas_check.specs.Leading.{IsWithin}
-use Rattle.pas_trace.proofs.ThreadsInOrder.{acts_there}
+use Rattle.pas_check.proofs.ThreadsInOrder.{acts_there}
 use Rattle.pas_check.proofs.checking.stop_all_idle.Given as goal
 
 abbrev pub invariant-loop-index : goal.invariant-loop-index
@@ -14,5 +14,5 @@ invariant-loop-index l = record {
   far : (more : List Act)
       → TakenTo l.text l.fn.judge l.fn.cursor l.judge l.cursor
       (ReadsEpoch ∷ (idle_stops l.epochs (threads_where (λ k. not (is_set l.awake k)) (threads_in l.fn.judge)) ++ more))
-      (acts_there (λ k. StopsIdle k l.epochs) (λ k. not (is_set l.awake k)) l.index (threads_in l.fn.judge) more) true;
+      (acts_there (λ k. StopsIdle k l.epochs) l.index (threads_in l.fn.judge) more (λ k. not (is_set l.awake k))) true;
 }

@@ -7,7 +7,7 @@ use Rattle.pas_check.specs.Checks.{threads_in}
 use Rattle.pas_check.specs.declared.cutting.Cursor.{Cursor}
 use Rattle.pas_check.specs.Leading.{IsWithin}
 use Rattle.pas_check.proofs.Chains.{act_taken, nothing_taken, sized_on, taken_as, then_taken}
-use Rattle.pas_trace.proofs.ThreadsInOrder.{acts_there, acts_past, next_chosen, next_passed, none_left}
+use Rattle.pas_check.proofs.ThreadsInOrder.{acts_there, acts_past, next_chosen, next_passed, none_left}
 use Rattle.pas_check.proofs.checking.wake_all.Goals as goal
 use Rattle.pas_check.proofs.checking.wake_all.Goals.{then-get, else-get}
 
@@ -17,7 +17,7 @@ loop-index-init c = record {
   far = λ text at within more.
       let n = threads_in c.args.judge.now in
       let e : n ≡ n - 0 = omega arith in
-      taken_as text c.args.judge.now c.args.judge.now at at true _ _ (map Wakes (threads_where (is_set c.args.awake) n) ++ more) (acts_there Wakes (is_set c.args.awake) 0 n more) refl
+      taken_as text c.args.judge.now c.args.judge.now at at true _ _ (map Wakes (threads_where (is_set c.args.awake) n) ++ more) (acts_there Wakes 0 n more (is_set c.args.awake)) refl
       (ap (λ (m : ℕ). map Wakes (filter (is_set c.args.awake) (numbers_from 1 m)) ++ more) e)
       (nothing_taken text c.args.judge.now at (map Wakes (threads_where (is_set c.args.awake) n) ++ more));
 }
@@ -39,8 +39,8 @@ loop-index-preserved c = elim c.if-get.branch [
       let n = threads_in c.args.judge.now in
       let on : is_set c.args.awake (i + 1) ≡ true = sym c.get.ensures ∙ w.if-get.true in
       let far = λ (text : List ℕ) (at : Cursor) (within : IsWithin text at) (more : List Act).
-      then_taken text c.args.judge.now c.loop-index.judge w.wake.new.judge at at at _ (acts_there Wakes (is_set c.args.awake) i n more) (Wakes (i + 1) ∷ [])
-      (acts_past Wakes (is_set c.args.awake) i n more) true (next_chosen Wakes (is_set c.args.awake) i n more (omega (arith, test, count)) on)
+      then_taken text c.args.judge.now c.loop-index.judge w.wake.new.judge at at at _ (acts_there Wakes i n more (is_set c.args.awake)) (Wakes (i + 1) ∷ [])
+      (acts_past Wakes i n more (is_set c.args.awake)) true (next_chosen Wakes i n more (is_set c.args.awake) (omega (arith, test, count)) on)
       (c.loop-index.invariant.far text at within more)
       (act_taken text c.loop-index.judge w.wake.new.judge at at (Wakes (i + 1)) true (λ f. w.wake.ensures.taken f text at within)) in
       rw w.judge-is (record { sized = sized_on c.loop-index.invariant.sized w.wake.ensures.sized; far = far })
@@ -51,8 +51,8 @@ loop-index-preserved c = elim c.if-get.branch [
       let n = threads_in c.args.judge.now in
       let off : is_set c.args.awake (i + 1) ≡ false = sym c.get.ensures ∙ w.if-get.false in
       let far = λ (text : List ℕ) (at : Cursor) (within : IsWithin text at) (more : List Act).
-      taken_as text c.args.judge.now c.loop-index.judge at at true _ _ (acts_there Wakes (is_set c.args.awake) i n more)
-      (acts_past Wakes (is_set c.args.awake) i n more) refl (next_passed Wakes (is_set c.args.awake) i n more (omega (arith, test, count)) off)
+      taken_as text c.args.judge.now c.loop-index.judge at at true _ _ (acts_there Wakes i n more (is_set c.args.awake))
+      (acts_past Wakes i n more (is_set c.args.awake)) refl (next_passed Wakes i n more (is_set c.args.awake) (omega (arith, test, count)) off)
       (c.loop-index.invariant.far text at within more) in
       rw w.judge-is (record { sized = c.loop-index.invariant.sized; far = far })
 ]
@@ -61,6 +61,6 @@ pub returns-clause-taken : goal.returns-clause-taken
 returns-clause-taken c = λ text at within more.
     let test = c.loop-index-test.false in
     let count = ap (λ (f : Profile). f.threads) c.profile-threads.ensures in
-    taken_as text c.args.judge.now c.loop-index.judge at at true _ _ (acts_there Wakes (is_set c.args.awake) c.loop-index.index (threads_in c.args.judge.now) more) more refl
-    (none_left Wakes (is_set c.args.awake) c.loop-index.index (threads_in c.args.judge.now) more (omega (arith, test, count)))
+    taken_as text c.args.judge.now c.loop-index.judge at at true _ _ (acts_there Wakes c.loop-index.index (threads_in c.args.judge.now) more (is_set c.args.awake)) more refl
+    (none_left Wakes c.loop-index.index (threads_in c.args.judge.now) more (is_set c.args.awake) (omega (arith, test, count)))
     (c.loop-index.invariant.far text at within more)

@@ -5,7 +5,7 @@ use Rattle.pas_trace.specs.Acts.{Act, Wakes, threads_where}
 use Rattle.pas_check.specs.Checks.{IsSizedAs, TakenTo, threads_in}
 use Rattle.pas_check.specs.Leading.{IsWithin}
 use Rattle.pas_check.specs.declared.cutting.Cursor.{Cursor}
-use Rattle.pas_trace.proofs.ThreadsInOrder.{acts_there}
+use Rattle.pas_check.proofs.ThreadsInOrder.{acts_there}
 use Rattle.pas_check.proofs.checking.wake_all.Given as goal
 
 abbrev pub invariant-loop-index : goal.invariant-loop-index
@@ -13,5 +13,5 @@ invariant-loop-index l = record {
   sized : IsSizedAs l.fn.judge l.judge;
   far : (text : List ℕ) (at : Cursor) → IsWithin text at → (more : List Act)
       → TakenTo text l.fn.judge at l.judge at (map Wakes (threads_where (is_set l.awake) (threads_in l.fn.judge)) ++ more)
-      (acts_there Wakes (is_set l.awake) l.index (threads_in l.fn.judge) more) true;
+      (acts_there Wakes l.index (threads_in l.fn.judge) more (is_set l.awake)) true;
 }

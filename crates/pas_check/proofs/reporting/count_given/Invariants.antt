@@ -1,4 +1,4 @@
--- the pages so far
+-- the grains so far
 use Rattle.std.proofs.Common.{◌≡◌, ◌*◌, ◌^◌, ◌≤◌, List}
 use Rattle.pas_profile.specs.declared.event.Event.{Event}
 use Rattle.pas_machine.specs.Machines.{StandsFor}
@@ -8,6 +8,6 @@ use Rattle.pas_check.proofs.reporting.count_given.Given as goal
 
 abbrev pub invariant-loop-before : goal.invariant-loop-before
 invariant-loop-before l = record {
-  gave : (es : List Event) → StandsFor l.machine es → l.given ≡ sum_below (256 * l.before) (λ i. gives_in es (address_at i));
-  few : l.given ≤ l.before * 2 ^ 32;
+  gave : (es : List Event) → StandsFor l.machine es → l.given ≡ sum_below l.before (λ i. gives_in es (address_at i));
+  few : l.given ≤ l.before * 2 ^ 24;
 }

@@ -1,14 +1,7 @@
-use Rattle.std.proofs.Common.{◌+◌, ap, ◌∙◌}
+use Rattle.std.proofs.Common.{◌∙◌}
 use Rattle.pas_machine.specs.Machines.{profile_of}
-use Rattle.pas_check.specs.Lines.{is_line}
-use Rattle.pas_check.proofs.Cuts.{totals_end}
 use Rattle.pas_check.proofs.Reportings.{totals_led}
 use Rattle.pas_check.proofs.reporting.take_totals.Goals as goal
-
-pub take_line-requires-clause-line : goal.take_line-requires-clause-line
-take_line-requires-clause-line c =
-    ap is_line (c.as_bytes.ensures.value ∙ c.deref.ensures.0 ∙ c.shown_totals-wanted.ensures)
-    ∙ totals_end c.total-totals.result.deeds c.total-totals.result.backed c.total-totals.result.live (c.total-totals.result.ended + c.total-totals.result.live) c.total-totals.result.ended
 
 pub returns-clause-led : goal.returns-clause-led
 returns-clause-led c = λ s more stands due.

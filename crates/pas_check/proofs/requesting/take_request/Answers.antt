@@ -1,7 +1,7 @@
-use Rattle.std.proofs.Common.{ℕ, ◌^◌, ◌<◌, List, Option, refl, sym, subst, ◌∙◌, arith}
+use Rattle.std.proofs.Common.{◌^◌, ◌<◌, Option, refl, sym, subst, ◌∙◌, arith}
 use Rattle.pas_profile.specs.Profiles.{IsValid}
 use Rattle.pas_profile.specs.declared.name.Block.{Block}
-use Rattle.pas_check.specs.Calls.{EndingTaken, IsRead, RequestTaken}
+use Rattle.pas_check.specs.Calls.{EndingTaken, RequestTaken}
 use Rattle.pas_check.specs.Leading.{IsWithin}
 use Rattle.pas_check.proofs.Requests.{request_begins, request_ends, request_goes_on, request_lacks}
 use Rattle.pas_check.proofs.Takings.{if_any, if_ok}
@@ -28,13 +28,12 @@ returns-in-Ok-false-clause-taken c =
     let new = c.take_ending.new.machine in
     let low : c.lines.cursor.lines < 2 ^ 32 = (let a = c.lines.invariant.within.lines in let b = c.lines.invariant.within.bytes in
     let short = c.requires.short in omega (arith, a, b, short)) in
-    let is : IsRead c.in-Some.line.now c.read_record-found.result = record { some = c.read_record-found.ensures.some; only = c.read_record-found.ensures.only } in
-    if_ok c.take_ending.result (λ (block : Option (Option Block)). (line : List ℕ) → IsRead line c.read_record-found.result → EndingTaken stood new c.args.actor c.args.wanted.now line block)
+    if_ok c.take_ending.result (λ (block : Option (Option Block)). EndingTaken stood new c.args.actor c.args.wanted.now c.in-Some.line.now block)
     (λ (block : Option (Option Block)). RequestTaken c.args.machine.now new c.args.text.now c.args.cursor.now c.next_line.new.cursor c.args.actor c.args.wanted.now block)
-    (λ block ending. request_ends c.args.machine.now c.args.text.now c.args.cursor.now c.args.actor c.args.wanted.now c.lines.machine c.lines.cursor c.next_line.new.cursor
+    (request_ends c.args.machine.now c.args.text.now c.args.cursor.now c.args.actor c.args.wanted.now c.lines.machine c.lines.cursor c.next_line.new.cursor
     c.lines.invariant.goes c.next_line.ensures.count
     c.in-Some.line.now c.requires.valid c.lines.invariant.profile low c.in-Some.ensures.some new stood c.in-Some.ensures.within
-    ((rw c.in-Ok-false.field-0-test at c.in-Ok-false.ensures.taken) c.in-Some.line.now is) block (ending c.in-Some.line.now is)) c.take_ending.ensures.taken
+    (rw c.in-Ok-false.field-0-test at c.in-Ok-false.ensures.taken)) c.take_ending.ensures.taken
 
 pub returns-in-Ok-false-clause-within : goal.returns-in-Ok-false-clause-within
 returns-in-Ok-false-clause-within c = if_any c.take_ending.result (IsWithin c.args.text.now c.next_line.new.cursor) c.in-Some.ensures.within
@@ -49,6 +48,5 @@ lines-preserved c =
       goes = request_goes_on c.args.machine.now c.args.text.now c.args.cursor.now c.args.actor c.args.wanted.now c.lines.machine c.lines.cursor
           c.next_line.new.cursor c.lines.invariant.goes c.next_line.ensures.count
           c.in-Some.line.now c.requires.valid c.lines.invariant.profile low c.in-Some.ensures.some c.take_preparing.new.machine c.in-Some.ensures.within
-          ((rw c.in-Ok-true.field-0-test at c.in-Ok-true.ensures.taken) c.in-Some.line.now
-          record { some = c.read_record-found.ensures.some; only = c.read_record-found.ensures.only });
+          (rw c.in-Ok-true.field-0-test at c.in-Ok-true.ensures.taken);
     }

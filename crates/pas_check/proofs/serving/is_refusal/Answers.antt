@@ -6,10 +6,10 @@ use Rattle.pas_check.proofs.Servings.{refusal_unread, refusal_seen}
 use Rattle.pas_check.proofs.serving.is_refusal.Goals as goal
 
 pub returns-in_default : goal.returns-in_default
-returns-in_default c = λ line is. refusal_unread c.args.machine.now c.args.actor c.args.wanted.now line (omega arith) (λ r fits has. sym c.in_default.is ∙ is.only r fits has)
+returns-in_default c = refusal_unread c.args.machine.now c.args.actor c.args.wanted.now c.args.line.now (omega arith) (λ r fits has. sym c.in_default.is ∙ c.read_record.ensures.only r fits has)
 
 pub returns : goal.returns
-returns c = λ line is.
-    refusal_seen c.args.machine.now c.args.actor c.args.wanted.now line (omega arith) c.in-Some.item
-    (subst (λ o. IfSome o (λ r. line ≡ line_of r)) c.in-Some.is is.some)
-    (λ r fits has. same_Some c.in-Some.item r (sym c.in-Some.is ∙ is.only r fits has)) c.refuses.result c.refuses.ensures
+returns c =
+    refusal_seen c.args.machine.now c.args.actor c.args.wanted.now c.args.line.now (omega arith) c.in-Some.item
+    (subst (λ o. IfSome o (λ r. c.args.line.now ≡ line_of r)) c.in-Some.is c.read_record.ensures.some)
+    (λ r fits has. same_Some c.in-Some.item r (sym c.in-Some.is ∙ c.read_record.ensures.only r fits has)) c.refuses.result c.refuses.ensures

@@ -1,4 +1,4 @@
-use Rattle.std.proofs.Common.{◌≡◌, ◌+◌, ◌-◌, ◌≤◌, ◌∙◌, length, take, drop, sym, ap, false, arith, length-drop}
+use Rattle.std.proofs.Common.{◌≡◌, ◌+◌, ◌-◌, ◌≤◌, ℕ, ◌∙◌, length, take, drop, sym, ap, true, false, arith, length-drop}
 use Rattle.std.proofs.lemmas.List.{take_rest}
 use Rattle.pas_check.specs.Inputs.{is_mark}
 use Rattle.pas_check.proofs.Marks.{past_mark, past_line, same_rest}

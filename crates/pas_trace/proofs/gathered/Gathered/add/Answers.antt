@@ -6,5 +6,4 @@ use Rattle.pas_trace.proofs.gathered.Gathered.add.Goals as goal
 pub returns : goal.returns
 returns c =
     let g = c.args.self.now in
-    let ops = c.push_reserved.ensures.items ∙ ap (λ ops. ops ++ c.args.op ∷ []) c.reserve.ensures.items in
-    ap (λ ops. map ops_of g.done.items ++ ops ∷ []) ops ∙ sym (add_last-end (map ops_of g.done.items) g.present.items c.args.op)
+    ap (λ ops. map ops_of g.done.items ++ ops ∷ []) c.in_ok-push.ensures.items ∙ sym (add_last-end (map ops_of g.done.items) g.present.items c.args.op)

@@ -5,5 +5,4 @@ use Rattle.pas_trace.proofs.names.Names.grow_to.Goals as goal
 
 pub loop-self-preserved : goal.loop-self-preserved
 loop-self-preserved c n =
-    let at = λ (xs : List Owner). get_or xs n record { thread = 0; heap = 0; phase = 0 } in
-    ap at c.push_reserved.ensures.items ∙ get_or-more _ _ n ∙ ap at c.reserve.ensures.items ∙ c.loop-self.invariant n
+    ap (λ (xs : List Owner). get_or xs n record { thread = 0; heap = 0; phase = 0 }) c.in_ok-push.ensures.items ∙ get_or-more c.loop-self.self.owners.items _ n ∙ c.loop-self.invariant n

@@ -11,14 +11,3 @@ pub returns-in-Some : goal.returns-in-Some
 returns-in-Some c items t =
     let f = c.in-Some.ensures c.args.self.now.header.version in
     record { line = f.line; cut = f.cut; shorter = f.shorter; taken = c.in_ok-take_item.ensures items f.line t (f.says c.args.self.now.started) }
-
-pub returns-in_err-take_item-2 : goal.returns-in_err-take_item-2
-returns-in_err-take_item-2 c items t =
-    let p = err_from_is_err_and c.from_residual-in_err-take_item-2.result c.from_residual-in_err-take_item-2.ensures.1 in
-    let f = c.in-Some-free_line.ensures c.args.self.now.header.version in
-    rw (p.1, p.2) (c.in-Some-free_line.rest.now, record { line = f.line; cut = f.cut; shorter = f.shorter; taken = c.in_err-take_item-2.ensures items f.line t (f.says c.args.self.now.started) })
-
-pub returns-in-Some-free_line : goal.returns-in-Some-free_line
-returns-in-Some-free_line c items t =
-    let f = c.in-Some-free_line.ensures c.args.self.now.header.version in
-    record { line = f.line; cut = f.cut; shorter = f.shorter; taken = c.in_ok-take_item-2.ensures items f.line t (f.says c.args.self.now.started) }

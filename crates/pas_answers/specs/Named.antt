@@ -1,0 +1,16 @@
+-- What the names of a trace stand for.
+use Rattle.std.specs.Prelude.{ℕ, ◌==◌, if◌then◌else◌, List, [], ◌∷◌, Option, None, Some}
+use Rattle.pas_profile.specs.declared.name.Block.{Block}
+
+-- a block, or nothing where the request was refused; in a list the newest stands first
+pub record Named : Type 0 where
+  pub name : ℕ
+  pub block : Option Block
+
+abbrev pub named : ℕ → Option Block → Named
+named name block = record { name = name; block = block }
+
+-- what the name stands for; None where no request had it
+abbrev pub standing_for : List Named → ℕ → Option (Option Block)
+standing_for [] name = None
+standing_for (n ∷ names) name = if n.name == name then Some n.block else standing_for names name

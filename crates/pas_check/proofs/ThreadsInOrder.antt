@@ -1,0 +1,63 @@
+-- Threads in order: which acts of theirs are left.
+use Rattle.std.proofs.Common.{◌≡◌, ℕ, zero, suc, ◌+◌, ◌-◌, ◌<◌, ◌≤◌, Bool, true, false, if◌then◌else◌, List, [], ◌∷◌, ◌++◌, map, refl, ap, sym, ◌∙◌, arith}
+use Rattle.std.specs.List.{filter}
+use Rattle.pas_trace.specs.Acts.{Act, numbers_from, threads_where}
+
+-- the numbers that are left
+number_next : (k n m : ℕ) → n ≡ m + 1 → numbers_from k n ≡ k ∷ numbers_from (k + 1) m
+number_next k zero m is = absurd (omega (arith, is))
+number_next k (suc n) m is = ap (λ (x : ℕ). k ∷ numbers_from (k + 1) x) (omega (arith, is))
+
+number_last : (k n : ℕ) → n ≡ 0 → numbers_from k n ≡ []
+number_last k zero is = refl
+number_last k (suc n) is = absurd (omega (arith, is))
+
+-- .. of those of which this is so
+chosen_next : {on : Bool} (chosen : ℕ → Bool) (k n m : ℕ) → n ≡ m + 1 → chosen k ≡ on
+    → filter chosen (numbers_from k n) ≡ (if on then k ∷ filter chosen (numbers_from (k + 1) m) else filter chosen (numbers_from (k + 1) m))
+chosen_next chosen k n m is same =
+    ap (λ (ks : List ℕ). filter chosen ks) (number_next k n m is)
+    ∙ ap (λ (b : Bool). if b then k ∷ filter chosen (numbers_from (k + 1) m) else filter chosen (numbers_from (k + 1) m)) same
+
+-- the acts for the threads from place i on, and after it: the thread there is one of them, or isn't, or there is none
+module _ (to : ℕ → Act) (i n : ℕ) (more : List Act) where
+  abbrev pub acts_there : (ℕ → Bool) → List Act
+  acts_there chosen = map to (filter chosen (numbers_from (i + 1) (n - i))) ++ more
+
+  abbrev pub acts_past : (ℕ → Bool) → List Act
+  acts_past chosen = map to (filter chosen (numbers_from (i + 1 + 1) (n - (i + 1)))) ++ more
+
+  pub next_chosen : (chosen : ℕ → Bool) → i < n → chosen (i + 1) ≡ true → acts_there chosen ≡ to (i + 1) ∷ acts_past chosen
+  next_chosen chosen lt on = ap (λ (ks : List ℕ). map to ks ++ more) (chosen_next {on = true} chosen (i + 1) (n - i) (n - (i + 1)) (omega (arith, lt)) on)
+
+  pub next_passed : (chosen : ℕ → Bool) → i < n → chosen (i + 1) ≡ false → acts_there chosen ≡ acts_past chosen
+  next_passed chosen lt off = ap (λ (ks : List ℕ). map to ks ++ more) (chosen_next {on = false} chosen (i + 1) (n - i) (n - (i + 1)) (omega (arith, lt)) off)
+
+  pub none_left : (chosen : ℕ → Bool) → n ≤ i → acts_there chosen ≡ more
+  none_left chosen le = ap (λ (ks : List ℕ). map to (filter chosen ks) ++ more) (number_last (i + 1) (n - i) (omega (arith, le)))
+
+  pub next_there : (chosen : ℕ → Bool) → i < n → acts_there chosen ≡ map to (filter chosen ((i + 1) ∷ [])) ++ acts_past chosen
+  next_there chosen lt = ap (λ (ks : List ℕ). map to (filter chosen ks) ++ more) (number_next (i + 1) (n - i) (n - (i + 1)) (omega (arith, lt))) ∙ apart (chosen (i + 1)) refl
+    where
+      rest : List ℕ
+      rest = filter chosen (numbers_from (i + 1 + 1) (n - (i + 1)))
+
+      apart : (on : Bool) → chosen (i + 1) ≡ on → map to (filter chosen ((i + 1) ∷ numbers_from (i + 1 + 1) (n - (i + 1)))) ++ more ≡ map to (filter chosen ((i + 1) ∷ [])) ++ acts_past chosen
+      apart true on = (λ t. map to (if on t then (i + 1) ∷ rest else rest) ++ more) ∙ (λ t. map to (if sym on t then (i + 1) ∷ [] else []) ++ (map to rest ++ more))
+      apart false off = (λ t. map to (if off t then (i + 1) ∷ rest else rest) ++ more) ∙ (λ t. map to (if sym off t then (i + 1) ∷ [] else []) ++ (map to rest ++ more))
+
+  -- .. of all threads
+  pub next_number : i < n → map to (numbers_from (i + 1) (n - i)) ++ more ≡ to (i + 1) ∷ (map to (numbers_from (i + 1 + 1) (n - (i + 1))) ++ more)
+  next_number lt = ap (λ (ks : List ℕ). map to ks ++ more) (number_next (i + 1) (n - i) (n - (i + 1)) (omega (arith, lt)))
+
+  pub no_number : n ≤ i → map to (numbers_from (i + 1) (n - i)) ++ more ≡ more
+  no_number le = ap (λ (ks : List ℕ). map to ks ++ more) (number_last (i + 1) (n - i) (omega (arith, le)))
+
+-- the same ones, where it is said otherwise
+chosen_alike : (p q : ℕ → Bool) → ((k : ℕ) → p k ≡ q k) → (ks : List ℕ) → filter p ks ≡ filter q ks
+chosen_alike p q same [] = refl
+chosen_alike p q same (k ∷ ks) =
+    ap (λ (b : Bool). if b then k ∷ filter p ks else filter p ks) (same k) ∙ ap (λ (xs : List ℕ). if q k then k ∷ xs else xs) (chosen_alike p q same ks)
+
+pub threads_alike : (p q : ℕ → Bool) (threads : ℕ) → ((k : ℕ) → p k ≡ q k) → threads_where p threads ≡ threads_where q threads
+threads_alike p q threads same = chosen_alike p q same (numbers_from 1 threads)
