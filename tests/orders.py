@@ -26,6 +26,7 @@ class Machine:
         self.deeds, self.backed = {}, set()
         self.live, self.covered, self.lives_on = {}, {}, defaultdict(set)
         self.gives, self.ends, self.newest = Counter(), Counter(), Counter()
+        self.guarded = set()
 
     def add(self, give):
         """A block lives from now on."""
@@ -110,7 +111,7 @@ class Back(Event):
         ahead.backs_by[self.page, self.actor] += by
 
     def fits(self, machine):
-        return self.page in machine.deeds and self.page not in machine.backed
+        return self.page in machine.deeds and self.page not in machine.backed and self.page not in machine.guarded
 
     def standing(self, machine, ahead):
         others = ahead.backs[self.page] > ahead.backs_by[self.page, self.actor]
@@ -306,6 +307,38 @@ class Refused(Event):
         if self.page is not None and machine.deeds.get(self.page) != self.directory:
             return False
         return not machine.has_bare_run(self.pages)
+
+
+class Raised(Event):
+    """A guard is up: its pages belong to the heap as large ones, and have no memory and no block; nobody backs them or gives one there until it is lowered."""
+
+    def __init__(self, low, high, heap):
+        self.outer, self.directory = {low, high}, (heap, "large")
+
+    def fits(self, machine):
+        return all(machine.deeds.get(page) == self.directory and page not in machine.backed and not machine.lives_on[page] and page not in machine.guarded for page in self.outer)
+
+    def do(self, machine):
+        machine.guarded |= self.outer
+
+    def undo(self, machine, memory):
+        machine.guarded -= self.outer
+
+
+class Lowered(Event):
+    """A guard that is up is lowered."""
+
+    def __init__(self, low, high):
+        self.outer = {low, high}
+
+    def fits(self, machine):
+        return self.outer <= machine.guarded
+
+    def do(self, machine):
+        machine.guarded -= self.outer
+
+    def undo(self, machine, memory):
+        machine.guarded |= self.outer
 
 
 class Watch(Event):

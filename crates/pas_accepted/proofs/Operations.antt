@@ -10,7 +10,7 @@ use Rattle.pas_cache.specs.Caches.{Cached}
 use Rattle.pas_report.specs.declared.record.Record.{Record}
 use Rattle.pas_trace.specs.declared.item.Request.{Request}
 use Rattle.pas_trace.specs.declared.plan.What.{What}
-use Rattle.pas_trace.specs.declared.plan.What.TheVariants.{Alloc, Free, FreeSized, Raw, RawSized, Remake, Flush, Stop, Tick, Pass, Idle}
+use Rattle.pas_trace.specs.declared.plan.What.TheVariants.{Alloc, Guarded, Free, FreeSized, Raw, RawSized, Remake, Flush, Stop, Tick, Pass, Idle}
 use Rattle.pas_answers.specs.Answers.{Answer, IsAnswered, IsFreedBy, Progress, after_answer, having, records_of, room_noted, said_by}
 use Rattle.pas_trace.specs.Named.{standing_for}
 use Rattle.pas_answers.specs.Refusals.{RefusesTruly}
@@ -60,6 +60,7 @@ module _ (f : Profile) (valid : IsValid f) (p : Progress) (s : Stand) (ts : List
         due = refl;
         left = refl;
       }
+  what_comes (Guarded keeper name heap size align) is truly begun = what_comes (Alloc name heap size align) is truly begun
   what_comes (Free name) is truly begun = named_comes name None is.0 is.1 (tidy_of (Free name) is) begun
   what_comes (FreeSized name room) is truly begun = named_comes name (Some room) is.0 is.1 (tidy_of (FreeSized name room) is) begun
   what_comes (Raw block) is truly begun = free_comes f valid p s ts tells k a is.1 (tidy_of (Raw block) is) legal (unsized block) is.0 begun
@@ -75,7 +76,7 @@ module _ (f : Profile) (valid : IsValid f) (p : Progress) (s : Stand) (ts : List
       record {
         end = end;
         leads = on_as f s end end _ _ (silent_lines k a.said rs is.1) refl (on_both f s u end [] (lines_by rs) begun (flush_leads f valid p s tells k (p.caches k).noted a.cache.noted a.steps h legal [] [] ts));
-        tells = told_after p s end k a.steps a.cache a.names _ tells refl (tells.names ∙ sym is.2) (logs_with p s k a.cache [] tells (ap (λ (d : Cached). d.log) is.0.cache)) (ap (λ (d : Cached). d.idle_since) is.0.cache) refl refl
+        tells = told_after p s end k a.steps a.cache a.names _ tells refl (tells.names ∙ sym is.2) (logs_with p s k a.cache [] tells (ap (λ (d : Cached). d.log) is.0.cache)) (ap (λ (d : Cached). d.idle_since) is.0.cache) refl refl refl
             (epoch_kept freeing refl k a.steps p.list (flush_only k (p.caches k).log (p.caches k).noted a.cache.noted a.steps h)) (tidy_of Flush is);
         due = refl;
         left = refl;
@@ -87,7 +88,7 @@ module _ (f : Profile) (valid : IsValid f) (p : Progress) (s : Stand) (ts : List
       record {
         end = end;
         leads = on_as f s end end _ _ (silent_lines k a.said rs is.1) refl (on_both f s u end [] (lines_by rs) begun (stop_leads f valid p s tells k a.cache a.steps is.0 legal [] ts));
-        tells = stop_tells f valid p s tells k a.cache a.steps is.0 legal a.names _ end refl (tells.names ∙ sym is.2) refl refl refl;
+        tells = stop_tells f valid p s tells k a.cache a.steps is.0 legal a.names _ end refl (tells.names ∙ sym is.2) refl refl refl refl;
         due = refl;
         left = refl;
       }

@@ -1,11 +1,11 @@
 -- Whenever a thread may be stopped as idle, the scavenger read the epoch just before.
 use Rattle.std.proofs.Common.{◌≡◌, ℕ, ◌+◌, Bool, true, false, List, [], ◌∷◌, ◌++◌, inl, inr, refl, sym, ◌∙◌, subst, append_assoc, true≢false}
-use Rattle.std.specs.Prelude.{map}
+use Rattle.std.specs.Prelude.{map, Option, None, Some}
 use Rattle.pas_profile.specs.declared.profile.Profile.{Profile}
 use Rattle.pas_profile.specs.declared.word.Word.TheVariants as Word
 use Rattle.pas_steps.specs.Lists.{Legal, word_after}
-use Rattle.pas_trace.specs.Acts.{Act, ReadsEpoch, StopsIdle, Wakes, Ends, active_threads, acts_from, acts_of, acts_of_chore, acts_of_op, acts_of_ops, acts_of_work, close_acts, idle_stops, idle_threads, numbers_from, phase_acts}
-use Rattle.pas_trace.specs.Asked.{work_of}
+use Rattle.pas_trace.specs.Acts.{Act, ReadsEpoch, Settles, StopsIdle, Wakes, Ends, Lowers, act_kept, active_threads, acts_from, acts_of, acts_of_chore, acts_of_op, acts_of_ops, acts_of_work, close_acts, idle_stops, idle_threads, numbers_from, phase_acts}
+use Rattle.pas_trace.specs.Asked.{keeper_of, work_of}
 use Rattle.pas_trace.specs.declared.plan.Chore.{Chore}
 use Rattle.pas_trace.specs.declared.plan.Op.{Op}
 use Rattle.pas_trace.specs.declared.plan.Work.{Work}
@@ -62,8 +62,12 @@ chore_on idle (Chore.Tick epoch) rest on known = (tt, on false)
 chore_on idle Chore.Pass rest on known = (tt, on false)
 chore_on idle (Chore.Idle n) rest on known = (tt, stops_on n idle rest on)
 
+own_on : (keeper : Option ℕ) (op : Op) (rest : List Act) → Anyhow rest → Anyhow (act_kept keeper op ∷ (Settles op.actor ∷ rest))
+own_on None op rest on known = (tt, (tt, on false))
+own_on (Some keeper) op rest on known = (tt, (tt, on false))
+
 work_on : (idle : List ℕ) (op : Op) (work : Work) (rest : List Act) → Anyhow rest → Anyhow (acts_of_work idle op work ++ rest)
-work_on idle op (Work.Own task) rest on known = (tt, (tt, on false))
+work_on idle op (Work.Own task) rest on known = own_on (keeper_of task) op rest on known
 work_on idle op (Work.Chore chore) rest on known = chore_on idle chore rest on known
 
 ops_on : (idle : List ℕ) (ops : List Op) (rest : List Act) → Anyhow rest → Anyhow (acts_of_ops idle ops ++ rest)
@@ -80,17 +84,21 @@ phase_on threads ops rest on known =
     let idle : List ℕ = idle_threads threads ops in
     subst (AreRead known) (sym (append_assoc (map Wakes (active_threads threads ops)) (acts_of_ops idle ops) rest)) (wakes_on (active_threads threads ops) (acts_of_ops idle ops ++ rest) (ops_on idle ops rest on) known)
 
-ends_on : (ks : List ℕ) → Anyhow (map Ends ks)
-ends_on [] known = tt
-ends_on (k ∷ ks) known = (tt, ends_on ks false)
+lowers_on : (ks : List ℕ) → Anyhow (map Lowers ks)
+lowers_on [] known = tt
+lowers_on (k ∷ ks) known = (tt, lowers_on ks false)
 
-close_on : (threads : ℕ) → Anyhow (close_acts threads)
-close_on threads known = (tt, ends_on (numbers_from 1 threads) false)
+ends_on : (ks : List ℕ) (rest : List Act) → Anyhow rest → Anyhow (map Ends ks ++ rest)
+ends_on [] rest on known = on known
+ends_on (k ∷ ks) rest on known = (tt, ends_on ks rest on false)
 
-from_on : (threads n : ℕ) (phases : List (List Op)) → Anyhow (acts_from threads n phases)
-from_on threads n [] known = close_on threads known
-from_on threads n (phase ∷ phases) known = (tt, phase_on threads phase (acts_from threads (n + 1) phases) (from_on threads (n + 1) phases) false)
+close_on : (threads keepers : ℕ) → Anyhow (close_acts threads keepers)
+close_on threads keepers known = (tt, ends_on (numbers_from 1 threads) (map Lowers (numbers_from (threads + 1) keepers)) (lowers_on (numbers_from (threads + 1) keepers)) false)
 
-pub acts_read : (threads : ℕ) (phases : List (List Op)) (known : Bool) → AreRead known (acts_of threads phases)
-acts_read threads [] known = close_on threads known
-acts_read threads (phase ∷ phases) known = phase_on threads phase (acts_from threads 2 phases) (from_on threads 2 phases) known
+from_on : (threads keepers n : ℕ) (phases : List (List Op)) → Anyhow (acts_from threads keepers n phases)
+from_on threads keepers n [] known = close_on threads keepers known
+from_on threads keepers n (phase ∷ phases) known = (tt, phase_on threads phase (acts_from threads keepers (n + 1) phases) (from_on threads keepers (n + 1) phases) false)
+
+pub acts_read : (threads keepers : ℕ) (phases : List (List Op)) (known : Bool) → AreRead known (acts_of threads keepers phases)
+acts_read threads keepers [] known = close_on threads keepers known
+acts_read threads keepers (phase ∷ phases) known = phase_on threads phase (acts_from threads keepers 2 phases) (from_on threads keepers 2 phases) known

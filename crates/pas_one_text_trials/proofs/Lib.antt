@@ -6,4 +6,5 @@ mod Trials5
 mod Trials6
 mod Trials7
 mod Trials8
+mod Trials9
 mod Queue

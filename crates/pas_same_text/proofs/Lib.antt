@@ -27,9 +27,11 @@ mod StopActs
 mod BackActs
 mod UsableBlocks
 mod WholeText
+mod Unguarded
 mod AllActs
 mod SearchedPages
 mod Stamped
+mod StillIndexes
 mod SameIndexes
 mod SearchMarks
 mod SearchedMarks
@@ -40,3 +42,8 @@ mod BitfitFits
 mod ReadyPages
 mod BitfitGiven
 mod BitfitRequests
+mod GoneLocals
+mod OneUp
+mod MadePlace
+mod ClassFits
+mod RefusedClasses

@@ -149,7 +149,7 @@ marked_later s q ys xs o = record { page = o.page; room = elim o.room [ inl some
 marked_earlier : (s : Slots) (q : ℕ) (ys xs : List Made) → IsMarkedBy s q ys → IsMarkedBy s q (ys ++ xs)
 marked_earlier s q ys xs o = record { page = o.page; room = elim o.room [ inl some ↦ inl some | inr r ↦ inr (room_earlier q (home_of s) ys xs r) ] }
 
-one_marked : (s : Slots) (q : ℕ) (steps : List Made) → IsClass s.class → StopStepsAt (home_of s) s steps → IsMarked q steps → IsMarkedBy s q steps
+pub one_marked : (s : Slots) (q : ℕ) (steps : List Made) → IsClass s.class → StopStepsAt (home_of s) s steps → IsMarked q steps → IsMarkedBy s q steps
 one_marked s q steps is h marked = subst (IsMarkedBy s q) (sym h.steps_are) (elim (marked_parts q h.left h.back (subst (IsMarked q) h.steps_are marked)) [
   | inl first ↦ marked_earlier s q h.left h.back (left_marked s s.right q h.left h.leaves first)
   | inr later ↦ marked_later s q h.left h.back (back_marked s h.mask q h.back is h.grains h.puts later)

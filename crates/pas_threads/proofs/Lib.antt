@@ -4,6 +4,10 @@ mod Dealt
 mod TakingTurns
 mod NamesOfPhases
 mod PhaseTeams
-mod StartAndEnd
+mod Start
 mod Performed
 mod BetweenPhases
+mod Keepers
+mod PhaseSums
+mod KeptPhases
+mod End

@@ -37,7 +37,7 @@ fn add_pass(passes: &mut Vec<SharedPass>, slot: Option<SharedPass>)
     passes.push_reserved(pass);
 }
 
-/// Takes the passes of all actors out, from the scavenger on, to the places of this list.
+/// Takes the passes of all actors out, from the scavenger on and the keepers last, to the places of this list.
 fn passes_of(team: &mut Team, mut passes: Vec<SharedPass>) -> Vec<SharedPass>
     requires none { passes.items ≡ [] }
     requires places { length team.old.threads.items < vec_capacity passes }
@@ -47,6 +47,11 @@ fn passes_of(team: &mut Team, mut passes: Vec<SharedPass>) -> Vec<SharedPass>
     add_pass(&mut passes, team.scavenger.pass.take());
     for place in 0..team.threads.len() {
         add_pass(&mut passes, team.threads[place].pass.take());
+    }
+    for place in 0..team.threads.len() {
+        if let Some(keeper) = team.threads[place].keeper.take() {
+            add_pass(&mut passes, Some(keeper.pass));
+        }
     }
     passes
 }

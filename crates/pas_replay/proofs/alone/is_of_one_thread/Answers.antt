@@ -10,10 +10,10 @@ bounds-as_slice c =
     let same = ap (λ (bounds : List ℕ). length bounds) c.as_slice.ensures in
     omega (arith, many, same)
 
-pub returns-then-plan-eq1 : goal.returns-then-plan-eq1
-returns-then-plan-eq1 c =
+pub returns-then-plan-eq1-plan-eq0 : goal.returns-then-plan-eq1-plan-eq0
+returns-then-plan-eq1-plan-eq0 c =
     let bounds = c.as_slice.result.now in
     let first = ap (λ (ns : List ℕ). slice_index ns 0) c.as_slice.ensures in (
-      λ is. bound_shows c.requires.1 c.if-plan-eq1.true (sym first ∙ eqb-true (slice_index bounds 0) 0 is),
+      λ is. bound_shows c.requires.1 c.if-plan-eq1.true c.if-plan-eq0.true (sym first ∙ eqb-true (slice_index bounds 0) 0 is),
       λ alone. eq-eqb (slice_index bounds 0) 0 (first ∙ one_shows c.requires.1 alone),
     )

@@ -7,7 +7,7 @@ use Rattle.pas_shared.proofs.Opened.{one_done}
 use Rattle.pas_answers.specs.Replays.{empty_cache}
 use Rattle.pas_threads.specs.Kits.{IsEquipped, AreEquipped}
 use Rattle.pas_threads.specs.declared.workers.Worker.{Worker}
-use Rattle.pas_threads.proofs.StartAndEnd.{equipped_more}
+use Rattle.pas_threads.proofs.Start.{equipped_more}
 use Rattle.pas_threads.proofs.making.workers_for.Goals as goal
 
 pub loop-pass-preserved : goal.loop-pass-preserved

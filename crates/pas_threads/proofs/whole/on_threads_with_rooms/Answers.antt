@@ -2,8 +2,9 @@ use Rattle.std.proofs.Common.{List, length, map, ap, arith}
 use Rattle.std.proofs.lemmas.List.{length-map}
 use Rattle.pas_trace.specs.Plans.{ops_of}
 use Rattle.pas_trace.specs.declared.plan.Phase.{Phase}
-use Rattle.pas_plans.proofs.PlanFacts.{plan_phases, plan_valid}
-use Rattle.pas_threads.proofs.StartAndEnd.{session_of, handed, all_back, all_of_region, shows, replayed_so}
+use Rattle.pas_plans.proofs.PlanFacts.{plan_phases, plan_valid, plan_operate}
+use Rattle.pas_threads.proofs.Start.{session_of, handed}
+use Rattle.pas_threads.proofs.End.{all_back, all_of_region, shows, replayed_so}
 use Rattle.pas_threads.proofs.whole.on_threads_with_rooms.Goals as goal
 
 pub replay-team-requires-clause-phases : goal.replay-team-requires-clause-phases
@@ -40,4 +41,4 @@ pub returns : goal.returns
 returns g c =
     let start = handed c.args.out.now c.as_slice.result.now c.requires.plan.2 c.requires.kit c.as_slice.ensures c.requires.empty c.requires.room in
     let replayed = replayed_so c.args.plan.now c.as_slice.result.now c.as_slice.ensures (c.replay-team.ensures.replayed (session_of c.args.plan.now) start.0 start.1) in
-    shows {plan = c.args.plan.now} c.passes_of-passes.result.items (plan_valid c.requires.plan.2) c.requires.kit.profile replayed c.passes_of-passes.ensures c.close.ensures
+    shows {plan = c.args.plan.now} c.passes_of-passes.result.items (plan_valid c.requires.plan.2) (plan_operate c.requires.plan.2) c.requires.kit.profile replayed c.passes_of-passes.ensures c.close.ensures

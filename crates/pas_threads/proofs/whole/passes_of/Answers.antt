@@ -3,7 +3,7 @@ use Rattle.std.proofs.lemmas.List.{length-map, length-append, length-set, get_or
 use Rattle.pas_shared.specs.declared.pass.SharedPass.{SharedPass}
 use Rattle.pas_threads.specs.Kits.{slots_of}
 use Rattle.pas_threads.specs.declared.workers.Worker.{Worker}
-use Rattle.pas_threads.proofs.StartAndEnd.{first_back, others_back}
+use Rattle.pas_threads.proofs.End.{first_back, others_back}
 use Rattle.pas_threads.proofs.whole.passes_of.Goals as goal
 
 -- the worker at this place, whose turn it is

@@ -42,6 +42,7 @@ returns c =
           (λ k lt. c.in_ok-utility.ensures.rooms k (omega (arith, lt)) ∙ ap (λ bs. Some (slice_index bs k)) c.as_slice.ensures)
           c.in_ok-region.ensures.passes c.in_ok-region.ensures.stand c.in_ok-places.ensures.places;
       unused = c.in_ok-caches.ensures.caches;
+      books = c.in_ok-books_for.ensures;
       places = same_Some _ _ (sym c.outcomes_from.ensures ∙ c.caches_for.ensures.outcomes ∙ c.rooms_of.ensures.outcomes ∙ c.in_ok-utility.ensures.outcomes);
       indexes = c.in_ok-indexes.ensures;
       no_name = c.in_ok-names.ensures.empty;

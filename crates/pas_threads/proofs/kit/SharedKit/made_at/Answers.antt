@@ -6,7 +6,7 @@ use Rattle.pas_shared.specs.declared.pass.SharedPass.{SharedPass}
 use Rattle.pas_shared.proofs.Opened.{fresh_many}
 use Rattle.pas_plans.proofs.PlanFacts.{plan_valid, plan_bounds}
 use Rattle.pas_threads.specs.Kits.{AreNew}
-use Rattle.pas_threads.proofs.StartAndEnd.{fresh_new, first_taken}
+use Rattle.pas_threads.proofs.Start.{fresh_new, first_taken}
 use Rattle.pas_threads.proofs.kit.SharedKit.made_at.Goals as goal
 
 pub try_new-requires : goal.try_new-requires
