@@ -30,8 +30,12 @@ SHAPES = {
     b"fs": ["thread", "name", "size", "align"],
     b"rs": ["thread", "address", "turn", "size", "align"],
     b"m": ["thread", "name", "old", "size", "align"],
+    b"guard": ["every"],
 }
-SINCE = {b"fs": 2, b"rs": 2, b"m": 4}
+SINCE = {b"fs": 2, b"rs": 2, b"m": 4, b"guard": 4}
+
+# The lines that may stand only before the first operation and `phase` line, and that are no operations.
+FIRST = (b"shared", b"guard")
 
 # The most pages of each version.
 PAGES = {1: 4096, 2: 4096, 3: 16384, 4: 16384}
@@ -49,7 +53,7 @@ def value_of(shape, word):
     if shape == "address":
         return int(word, 16) if re.fullmatch(rb"0x[0-9a-f]{8}", word) else None
     number = number_of(word)
-    limits = {"name": range(1, 1_000_001), "old": range(1, 1_000_001), "epoch": range(1 << 40), "turn": range((1 << 40) - 1)}
+    limits = {"name": range(1, 1_000_001), "old": range(1, 1_000_001), "every": range(1, 1_000_001), "epoch": range(1 << 40), "turn": range((1 << 40) - 1)}
     return number if number is not None and (shape not in limits or number in limits[shape]) else None
 
 
@@ -73,12 +77,13 @@ class Reader:
 
     def __init__(self, version, pages, threads, heaps):
         self.version, self.pages, self.threads, self.heaps = version, pages, threads, heaps
-        self.asked, self.phase, self.operations, self.begun = {}, 1, 0, False
+        self.asked, self.phase, self.operations, self.begun, self.guarded = {}, 1, 0, False, False
         self.records = threads * pages
 
     def cost(self, kind, has):
         if kind in (b"a", b"m"):
-            return (2 if has["size"] <= 2048 else 1 + -(-has["size"] // 4096)) + (kind == b"m")
+            large = has["size"] > 2048
+            return (1 + -(-has["size"] // 4096) if large else 2) + (2 if large and self.guarded else 0) + (kind == b"m")
         return {b"f": 1, b"r": 1, b"fs": 1, b"rs": 1, b"tick": 1, b"pass": 1 + self.pages, b"idle": self.threads}.get(kind, 0)
 
     def name_fault(self, kind, has):
@@ -99,12 +104,12 @@ class Reader:
         if not words or line.startswith(b"#"):
             return None
         kind = words[0]
-        if kind not in SHAPES or self.version < SINCE.get(kind, 1) or len(words) != 1 + len(SHAPES[kind]) or (kind == b"shared" and self.begun):
+        if kind not in SHAPES or self.version < SINCE.get(kind, 1) or len(words) != 1 + len(SHAPES[kind]) or (kind in FIRST and self.begun) or (kind == b"guard" and self.guarded):
             return "BadWord"
         has = {shape: value_of(shape, word) for shape, word in zip(SHAPES[kind], words[1:])}
         if None in has.values():
             return "BadNumber"
-        if "thread" in has and not 1 <= has["thread"] <= self.threads:
+        if ("thread" in has and not 1 <= has["thread"] <= self.threads) or (kind == b"guard" and self.threads > 8):
             return "BadThread"
         if "heap" in has and has["heap"] >= self.heaps:
             return "BadHeap"
@@ -114,10 +119,13 @@ class Reader:
             return "BadAlign"
         if fault := self.name_fault(kind, has):
             return fault
-        self.begun = self.begun or kind != b"shared"
+        self.begun = self.begun or kind not in FIRST
+        if kind == b"guard":
+            self.guarded = True
+            self.records += self.threads * self.pages
         if kind == b"phase":
             self.phase += 1
-        if kind in (b"shared", b"phase"):
+        if kind in FIRST or kind == b"phase":
             return None
         self.operations += 1
         self.records += self.cost(kind, has)
@@ -218,6 +226,16 @@ LATER_BORDER = {
     4: [b"m 1 1000000 3 0 16", b"m 1 9 3 16384 4096", b"m 2 8 1 2049 16", b" m  2 7 2 24 16 "],
 }
 
+# Lines behind the header of a region of so many threads, whose last one has this fault, or none.
+GUARDS = [
+    (8, [b"guard 1"], None), (8, [b"guard 1000000", b"shared 1"], None), (1, [b"shared 1", b" guard  7 ", b"shared 0", b"a 1 1 0 4096 16"], None),
+    (8, [b"# a", b"", b"guard 2"], None), (8, [b"guard 0"], "BadNumber"), (8, [b"guard 1000001"], "BadNumber"), (8, [b"guard 02"], "BadNumber"),
+    (8, [b"guard x"], "BadNumber"), (8, [b"guard 18446744073709551616"], "BadNumber"), (9, [b"guard 0"], "BadNumber"), (9, [b"guard 1"], "BadThread"),
+    (16, [b"guard 1000000"], "BadThread"), (8, [b"guard"], "BadWord"), (8, [b"guard 1 1"], "BadWord"), (8, [b"Guard 1"], "BadWord"), (8, [b"guard 1", b"guard 1"], "BadWord"),
+    (8, [b"guard 1", b"shared 1", b"guard x"], "BadWord"), (8, [b"guard 1", b"guard"], "BadWord"), (8, [b"a 1 1 0 24 16", b"guard 1"], "BadWord"), (8, [b"phase", b"guard 1"], "BadWord"),
+    (8, [b"flush 1", b"guard x"], "BadWord"), (16, [b"pass", b"guard 0"], "BadWord"), (1, [b"guard 1", b"flush 1", b"shared 1"], "BadWord"),
+]
+
 HEADERS = {
     True: [(1, 1, 1, 1), (4096, 16, 32, 1_000_000), (4096, 1, 1, 2), (1, 16, 32, 1)],
     False: [(0, 1, 1, 1), (16385, 1, 1, 1), (4, 0, 1, 1), (4, 17, 1, 1), (4, 1, 0, 1), (4, 1, 33, 1), (4, 1, 1, 0), (4, 1, 1, 1_000_001)],
@@ -258,6 +276,22 @@ def reasons():
             yield good + line
 
 
+def guards():
+    """Each table of lines with a `guard` line, alone and with lines behind it; in an earlier version the first such line is a bad word."""
+    for threads, lines, reason in GUARDS:
+        for version in PAGES:
+            text = b"pas %d pages 4 threads %d heaps 2 age 2\n" % (version, threads) + b"\n".join(lines)
+            first = next(at for at, line in enumerate(lines) if line.split()[:1] == [b"guard"] or line.split()[:1] == [b"Guard"])
+            wanted = (len(lines) + 1, reason) if reason else None
+            if version < 4 and (wanted is None or first + 2 <= wanted[0]):
+                wanted = (first + 2, "BadWord")
+            if first_fault(text) != wanted:
+                sys.exit(f"the table of guards is wrong at {lines!r} in version {version}")
+            yield text
+            yield text + b"\n"
+            yield text + b"\na 1 9 0 4096 16\nm 1 8 9 8192 16\nflush 1\n"
+
+
 def headers():
     for is_good, values in HEADERS.items():
         for pages, threads, heaps, age in values:
@@ -275,14 +309,14 @@ def headers():
 
 def cuts():
     """A trace that is cut at each byte."""
-    text = header(max(PAGES)) + b"\n".join(GOOD + [line for lines in LATER_BORDER.values() for line in lines]) + b"\n"
+    text = header(max(PAGES)) + b"guard 2\n" + b"\n".join(GOOD + [line for lines in LATER_BORDER.values() for line in lines]) + b"\n"
     for length in range(len(text) + 1):
         yield text[:length]
 
 
 def changes():
     """A trace in which one byte is another, is missing or comes twice: each byte above 127 among them."""
-    text = header(max(PAGES)) + b"\n".join(GOOD + [line for lines in LATER_BORDER.values() for line in lines]) + b"\n"
+    text = header(max(PAGES)) + b"guard 2\n" + b"\n".join(GOOD + [line for lines in LATER_BORDER.values() for line in lines]) + b"\n"
     draws = random.Random(1)
     for at in range(len(text)):
         for byte in (draws.randrange(256), draws.randrange(128, 256), draws.choice(b" \n#0x9a")):
@@ -315,13 +349,19 @@ def long_texts():
     for left in (3, 2):
         yield moved + b"tick 1\n" * (ticks - 2 - left) + b"m 1 2 1 24 16\n"
     yield header(4) + b"a 1 1 0 24 16\n" + b"flush 1\n" * (MOST_OPERATIONS - 1) + b"m 1 2 1 24 16\n"
+    # In a guarded trace a deed more for each page, and two more for a request for whole pages and for a reallocation to them.
+    kept = b"pas 4" + whole[5:] + b"guard 1000000\n" + b"pass\n" * 485
+    left = MOST_RECORDS - 2 * 4096 - 4097 * 485
+    for lines, cost in [(b"a 1 1 0 24 16\n", 2), (b"a 1 1 0 2049 16\n", 4), (b"a 1 1 0 8192 16\n", 5), (b"a 1 1 0 24 16\nm 1 2 1 4097 16\n", 8)]:
+        for more in (0, 1):
+            yield kept + b"tick 1\n" * (left - cost + more) + lines
 
 
 def main():
     if len(sys.argv) != 2 or sys.argv[1].startswith("-"):
         sys.exit(__doc__)
     count, wrong = 0, 0
-    for texts in (headers, reasons, faults, cuts, changes, long_texts):
+    for texts in (headers, guards, reasons, faults, cuts, changes, long_texts):
         for text in texts():
             count += 1
             if what := is_wrong(sys.argv[1], text):

@@ -53,6 +53,15 @@ class Wanted(NamedTuple):
     align: int
 
 
+class Guard(NamedTuple):
+    """A block between two pages, and its keeper."""
+
+    keeper: int
+    low: int
+    high: int
+    block: Block
+
+
 class Entry(NamedTuple):
     """A free that is logged; room is None where it names none."""
 
@@ -62,14 +71,14 @@ class Entry(NamedTuple):
 
 
 class Trace:
-    """A trace without a fault: its region, and the operations of each phase, as words."""
+    """A trace without a fault: its region, the operations of each phase, as words, and the names of the guarded requests."""
 
     def __init__(self, text):
         first, *lines = text.split("\n")
         words = first.split()
         version, self.pages, self.threads, self.heaps, self.age = (int(words[at]) for at in (1, 3, 5, 7, 9))
         self.classes = CLASSES[:CLASSES_OF[version]]
-        self.shared, self.phases = set(), [[]]
+        self.shared, self.phases, self.every, self.guarded, asked = set(), [[]], 0, set(), defaultdict(int)
         for line in lines:
             word, *rest = line.split() or ["#"]
             if line.startswith("#") or word == "#":
@@ -78,8 +87,19 @@ class Trace:
                 self.phases.append([])
             elif word == "shared":
                 self.shared.add(int(rest[0]))
+            elif word == "guard":
+                self.every = int(rest[0])
             else:
-                self.phases[-1].append((word, *(int(value, 0) for value in rest)))
+                values = [int(value, 0) for value in rest]
+                self.phases[-1].append((word, *values))
+                if word == "a" and values[3] > MOST_BITFIT and self.every:
+                    asked[values[0]] += 1
+                    self.guarded |= {values[1]} if asked[values[0]] % self.every == 0 else set()
+
+    @property
+    def actors(self):
+        """The last actor: the last thread, and in a guarded trace the last keeper."""
+        return self.threads * (2 if self.every else 1)
 
     def wanted(self, name, heap, size, align):
         """The directory and the room of a request: of the smallest class that suits, else of a bit-fit page, else whole pages."""
@@ -160,6 +180,7 @@ class Judge:
         self.names = {}
         self.logs = {thread: [] for thread in range(1, trace.threads + 1)}
         self.idle_since = dict.fromkeys(self.logs, 0)
+        self.guards = []
         self.epoch = 0
 
     def verdict(self):
@@ -170,6 +191,8 @@ class Judge:
             self.lines.expect("close")
             for thread in self.logs:
                 self.flush(thread)
+            for keeper in range(self.trace.threads + 1, self.trace.actors + 1):
+                self.sweep(keeper, is_close=True)
             self.report()
             if self.lines.peek():
                 raise Stopped
@@ -194,7 +217,9 @@ class Judge:
                 self.operate(word, *values)
 
     def operate(self, word, thread, *values):
-        if word == "a":
+        if word == "a" and values[0] in self.trace.guarded:
+            self.guard(thread, self.trace.wanted(*values))
+        elif word == "a":
             self.request(thread, self.trace.wanted(*values))
         elif word == "m":
             self.remake(thread, *values)
@@ -220,17 +245,49 @@ class Judge:
         if self.lines.peek() == f"{thread} no-space name {wanted.name}\n" or self.is_held(thread, wanted.name, directory):
             self.lines.at += 1
             return False
+        if not self.gives(thread, wanted):
+            raise Stopped
+        return True
+
+    def gives(self, actor, wanted):
+        """Whether the next line is a block of this actor for what is wanted, that the machine allows; it is taken then."""
         given = self.lines.match(GIVE)
         if not given:
-            raise Stopped
-        actor, address, turn, room, heap = int(given[0]), int(given[1], 16), *map(int, given[2:])
-        block = Block(address, turn, room, heap)
-        if (actor, room, heap) != (thread, wanted.room, wanted.heap) or address % wanted.align or not self.machine.may_give(block, directory):
-            raise Stopped
+            return False
+        block = Block(int(given[1], 16), *map(int, given[2:]))
+        is_wanted = (int(given[0]), block.room, block.heap) == (actor, wanted.room, wanted.heap) and block.address % wanted.align == 0
+        if not is_wanted or not self.machine.may_give(block, (wanted.heap, wanted.kind)):
+            return False
         self.lines.at += 1
         self.machine.give(block)
         self.names[wanted.name] = block
         return True
+
+    def guard(self, thread, wanted):
+        """The keeper sweeps, and tries the request; the thread is asked where it backed no page and gave no block."""
+        keeper, has_backed = self.trace.threads + thread, False
+        self.sweep(keeper)
+        while self.prepares(keeper, (wanted.heap, wanted.kind)):
+            has_backed = has_backed or self.lines.match(BACK) is not None
+            self.lines.at += 1
+        if self.gives(keeper, wanted):
+            block = self.names[wanted.name]
+            low, high = block.pages()[0] - 1, block.pages()[-1] + 1
+            if low == 0 or high > self.trace.pages:
+                raise Stopped
+            self.guards.append(Guard(keeper, low, high, block))
+            self.lines.expect(f"{keeper} guarded {low} {high} name {wanted.name}")
+        elif has_backed:
+            raise Stopped
+        else:
+            self.request(thread, wanted)
+
+    def sweep(self, keeper, is_close=False):
+        """Of each guard of the keeper, in the order in which they went up, a line where its block has ended, and at the close in any case."""
+        down = [guard for guard in self.guards if guard.keeper == keeper and (is_close or self.machine.ends[guard.block.address] > guard.block.turn)]
+        self.guards = [guard for guard in self.guards if guard not in down]
+        for guard in down:
+            self.lines.expect(f"{keeper} lowered {guard.low} {guard.high}")
 
     def prepares(self, thread, directory):
         """Whether the next line is a deed of the directory or a back, of this thread, that the machine allows; it is done then."""

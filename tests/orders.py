@@ -26,6 +26,7 @@ class Machine:
         self.deeds, self.backed = {}, set()
         self.live, self.covered, self.lives_on = {}, {}, defaultdict(set)
         self.gives, self.ends, self.newest = Counter(), Counter(), Counter()
+        self.guarded = set()
 
     def add(self, give):
         """A block lives from now on."""
@@ -58,6 +59,7 @@ class Ahead:
     def __init__(self):
         self.reads, self.unborn, self.differing = Counter(), Counter(), Counter()
         self.backs, self.backs_by, self.gives_on = Counter(), Counter(), Counter()
+        self.raises, self.raises_by, self.unbacks, self.standing_blocks = Counter(), Counter(), Counter(), Counter()
         self.watches = defaultdict(list)
         self.passing = defaultdict(lambda: defaultdict(list))
 
@@ -110,10 +112,13 @@ class Back(Event):
         ahead.backs_by[self.page, self.actor] += by
 
     def fits(self, machine):
-        return self.page in machine.deeds and self.page not in machine.backed
+        return self.page in machine.deeds and self.page not in machine.backed and self.page not in machine.guarded
 
     def standing(self, machine, ahead):
-        others = ahead.backs[self.page] > ahead.backs_by[self.page, self.actor]
+        is_guarded_later = ahead.raises[self.page] > ahead.raises_by[self.page, self.actor]
+        if is_guarded_later and not ahead.unbacks[self.page]:
+            return TOO_EARLY
+        others = is_guarded_later or ahead.backs[self.page] > ahead.backs_by[self.page, self.actor]
         return RISKY if others or any(isinstance(watch, Bare) for watch in ahead.watches[self.page]) else SAFE
 
     def do(self, machine):
@@ -196,7 +201,7 @@ class Give(Event):
 
 class End(Event):
     """A live block ends, which has the room that its free names, if any. Of what needs it to live only a free that names
-    another room can be ahead; what needs the page empty waits for it."""
+    another room and a keeper that leaves its guard up can be ahead; what needs the page empty waits for it."""
 
     def __init__(self, address, turn, room, epoch):
         self.address, self.turn, self.room, self.epoch = address, turn, room, epoch
@@ -206,7 +211,7 @@ class End(Event):
         return block is not None and block.turn == self.turn and self.room in (None, block.room)
 
     def standing(self, machine, ahead):
-        return TOO_EARLY if ahead.differing[self.address, self.turn] else SAFE
+        return TOO_EARLY if ahead.differing[self.address, self.turn] or ahead.standing_blocks[self.address, self.turn] else SAFE
 
     def do(self, machine):
         block = machine.live[self.address]
@@ -308,6 +313,64 @@ class Refused(Event):
         return not machine.has_bare_run(self.pages)
 
 
+class Raised(Event):
+    """A guard goes up: its pages belong to the heap as large ones, and have no memory and no block; nobody backs them or
+    gives one there until it is lowered."""
+
+    def __init__(self, low, high, heap):
+        self.outer, self.directory, self.is_lowered = (low, high), (heap, "large"), False
+
+    def note(self, ahead, by):
+        for page in self.outer:
+            ahead.raises[page] += by
+            ahead.raises_by[page, self.actor] += by
+
+    def fits(self, machine):
+        return all(machine.deeds.get(page) == self.directory and page not in machine.backed and not machine.lives_on[page]
+                   and page not in machine.guarded for page in self.outer)
+
+    def standing(self, machine, ahead):
+        """A guard that stays up has to wait for all that happens to its pages."""
+        if not any(ahead.backs[page] > ahead.backs_by[page, self.actor] or ahead.raises[page] > ahead.raises_by[page, self.actor] for page in self.outer):
+            return SAFE
+        return RISKY if self.is_lowered else TOO_EARLY
+
+    def do(self, machine):
+        machine.guarded.update(self.outer)
+
+    def undo(self, machine, memory):
+        machine.guarded.difference_update(self.outer)
+
+
+class Lowered(Event):
+    """A guard that is up is lowered, once its block has ended, if one is named."""
+
+    def __init__(self, low, high, block=None):
+        self.outer, self.block = (low, high), block
+
+    def fits(self, machine):
+        return machine.guarded.issuperset(self.outer) and (self.block is None or machine.ends[self.block[0]] > self.block[1])
+
+    def do(self, machine):
+        machine.guarded.difference_update(self.outer)
+
+    def undo(self, machine, memory):
+        machine.guarded.update(self.outer)
+
+
+class StaysUp(Event):
+    """A keeper sees that the block of a guard hasn't ended."""
+
+    def __init__(self, address, turn):
+        self.address, self.turn = address, turn
+
+    def note(self, ahead, by):
+        ahead.standing_blocks[self.address, self.turn] += by
+
+    def fits(self, machine):
+        return machine.ends[self.address] <= self.turn
+
+
 class Watch(Event):
     """The scavenger sees that no block, or none of some, lives on a page."""
 
@@ -351,6 +414,10 @@ class Unback(Watch):
     def fits(self, machine):
         return (self.page in machine.backed and not machine.lives_on[self.page]
                 and self.epoch >= machine.newest[self.page] + machine.age)
+
+    def note(self, ahead, by):
+        super().note(ahead, by)
+        ahead.unbacks[self.page] += by
 
     def standing(self, machine, ahead):
         if not ahead.gives_on[self.page]:
@@ -410,6 +477,8 @@ class Search:
             for event in reversed(events):
                 if isinstance(event, Give):
                     event.end = ends.get((event.address, event.turn))
+                if isinstance(event, Raised):
+                    event.is_lowered = any(isinstance(other, Lowered) and other.outer == event.outer for other in events[event.at:])
                 event.note(self.ahead, 1)
 
     def heads(self):

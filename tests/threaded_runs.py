@@ -2,10 +2,11 @@
 """tests/threaded_runs.py PROGRAM [--runs N] [--load] [--self-test] [TRACE..]
 
 Runs `pas run` again and again, and judges each transcript (tests/transcripts.py). Without traces it has small ones of its
-own, in which two to four threads and the scavenger race, each run N times (100); a TRACE is a file in the trace format, or
-the same packed by xz, and is run N times (5). With --load as many processes as the machine has processors keep it busy
-meanwhile. Says of each trace how many different transcripts there were and how many were wrong; the status is 1 where any
-was. With --self-test right transcripts are spoilt in place of it, a line or a digit each, and those are counted that are
+own, in which two to eight threads, their keepers and the scavenger race, each run N times (100); a TRACE is a file in the
+trace format, or the same packed by xz, and is run N times (5). With --load as many processes as the machine has processors
+keep it busy meanwhile. Says of each trace how many different transcripts there were, how many were wrong, and how many
+guards went up; the status is 1 where any was wrong, and where in thirty runs or more of its own traces no more than 2,000
+guards went up. With --self-test right transcripts are spoilt in place of it, a line or a digit each, and those are counted that are
 refused; where the program has no `run`, they are of `order`, sorted by actor."""
 
 import lzma
@@ -20,6 +21,7 @@ from transcripts import by_phase_and_actor, judge, read_trace
 MOST_SECONDS = 120
 LEAST_REFUSED = 0.95
 SPOILS = 40
+MANY_GUARDS, MANY_RUNS = 2_000, 30
 
 
 def asked(thread, names, heap, size, align=16):
@@ -36,9 +38,10 @@ def in_turn(*lists):
     return [line for at in range(max(map(len, lists))) for lines in lists for line in lines[at:at + 1]]
 
 
-def trace(pages, threads, heaps, age, *phases, shared=(), version=1):
+def trace(pages, threads, heaps, age, *phases, shared=(), version=1, guard=None):
     """The text of a trace with these lines in its phases."""
     head = [f"pas {version} pages {pages} threads {threads} heaps {heaps} age {age}"] + [f"shared {heap}" for heap in shared]
+    head += [f"guard {guard}"] if guard else []
     return "\n".join(head + [line for at, phase in enumerate(phases) for line in (["phase"] if at else []) + phase]) + "\n"
 
 
@@ -171,6 +174,50 @@ def reallocations():
     return trace(40, 2, 2, 2, in_turn(*own), in_turn(*again), version=4)
 
 
+def guarded(threads, every, pages, requests):
+    """Requests for one or two whole pages, each so many guarded, of threads that free all their blocks but the first two, and, a phase later,
+    those of another; a small block now and then; and a scavenger that takes pages back. Then thread 1 asks alone, while the others are idle."""
+    turns, left = [], {}
+    for thread in range(1, threads + 1):
+        names, lines = range(1000 * thread, 1000 * thread + requests), []
+        for at, name in enumerate(names):
+            lines += asked(thread, [name], 0, 4096 * (at % 2) + 2100) + (asked(thread, [name + 500], 0, 600) if at % 16 == 5 else [])
+            lines += freed(thread, [name]) + [f"flush {thread}"] if at > 1 else []
+        turns.append(lines)
+        left[thread] = names[:2]
+    scavenger = [line for epoch in range(1, 2 * requests) for line in (f"tick {epoch}", "pass")]
+    others = [[line for name in left[thread % threads + 1] for line in freed(thread, [name]) + [f"flush {thread}"] + asked(thread, [name + 500 * threads + 9000], 0, 5000)]
+              for thread in range(1, threads + 1)]
+    alone = ["idle 0", f"tick {2 * requests}", "pass"] + asked(1, range(20_000, 20_006), 0, 4096) + freed(1, range(20_000, 20_003)) + ["flush 1"]
+    return trace(pages, threads, 1, 1, in_turn(*turns, scavenger), in_turn(*others, ["pass", "idle 1", "pass"]), alone, version=4, guard=every)
+
+
+def guards_of_two():
+    return guarded(2, 1, 24, 30)
+
+
+def guards_of_three():
+    return guarded(3, 2, 30, 30)
+
+
+def guards_of_four():
+    return guarded(4, 1, 40, 24)
+
+
+def guards_of_eight():
+    """Eight threads free what they asked for in the phase and in the one before; behind each such phase stands one of the scavenger alone."""
+    phases, before = [], {thread: [] for thread in range(1, 9)}
+    for turn in range(6):
+        turns = []
+        for thread in range(1, 9):
+            names, others = range(1000 * thread + 10 * turn, 1000 * thread + 10 * turn + 4), before[thread % 8 + 1]
+            lines = [line for name in names for line in asked(thread, [name], thread % 2, 4096 * (name % 2) + 2100)]
+            turns.append(lines + freed(thread, [*names[1:], *others]) + [f"flush {thread}"])
+        before = {thread: [1000 * thread + 10 * turn] for thread in before}
+        phases += [in_turn(*turns), [f"tick {turn + 1}", "pass"]]
+    return trace(90, 8, 2, 1, *phases, version=4, guard=3)
+
+
 def one_thread():
     """One thread, so there is no race."""
     names = range(1, 91)
@@ -179,7 +226,7 @@ def one_thread():
 
 
 OWN = [two_frees, the_one_page, whose_page, shared_pages, bit_fit, large_blocks, large_and_small, full_logs, ticks_beside, passes_beside,
-       idle_threads, raw_frees, sized_frees, four_more_classes, reallocations, one_thread]
+       idle_threads, raw_frees, sized_frees, four_more_classes, reallocations, guards_of_two, guards_of_three, guards_of_four, guards_of_eight, one_thread]
 
 
 def named(path):
@@ -214,7 +261,7 @@ def keep(name, text, transcript):
 
 
 def run_often(program, name, text, runs, load):
-    """Runs a trace so often, says what came of it, and answers how many transcripts were wrong."""
+    """Runs a trace so often, says what came of it, and answers how many transcripts were wrong, and how many guards went up."""
     found = {}
     with load:
         for _ in range(runs):
@@ -222,10 +269,11 @@ def run_often(program, name, text, runs, load):
             found[transcript] = found.get(transcript, 0) + 1
     wrong = {transcript: reason for transcript in found if (reason := judged(program, text, transcript))}
     count = sum(found[transcript] for transcript in wrong)
-    print(f"{name}: {runs} runs, {len(found)} different transcripts, {count} wrong", flush=True)
+    guards = sum(transcript.count(" guarded ") * times for transcript, times in found.items() if transcript)
+    print(f"{name}: {runs} runs, {len(found)} different transcripts, {count} wrong" + (f", {guards} guards" if guards else ""), flush=True)
     for transcript, reason in list(wrong.items())[:3]:
         print(f"  {reason:.300}\n  in {keep(name, text, transcript)}", flush=True)
-    return count
+    return count, guards
 
 
 def spoilt(transcript, numbers):
@@ -296,9 +344,11 @@ def main():
     if "--self-test" in options:
         return self_test(program, traces)
     load = Load(os.cpu_count() if "--load" in options else 0)
-    wrong = sum(run_often(program, name, text, runs or (5 if paths else 100), load) for name, text in traces)
-    print(f"{wrong} wrong")
-    return 1 if wrong else 0
+    runs = runs or (5 if paths else 100)
+    told = [run_often(program, name, text, runs, load) for name, text in traces]
+    wrong, guards = (sum(counts) for counts in zip(*told))
+    print(f"{wrong} wrong, {guards} guards went up")
+    return 1 if wrong or (not paths and runs >= MANY_RUNS and guards <= MANY_GUARDS) else 0
 
 
 if __name__ == "__main__":

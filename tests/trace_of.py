@@ -34,6 +34,9 @@ BY_HAND = {
         [HEAD_LINE.format(1, 4096, 2, 1), "a 1 1 0 24 16", "a 2 2 0 30 16", "a 1 3 0 70 16", "f 1 1", "f 2 2", "f 1 3"], []),
     "moves of version 4": ([request(1, 64, 24), *moved(1, 64, 64, 32), *moved(1, 64, 96, 33), free(1, 96)], ["--version", "4"],
                            [HEAD_LINE.format(4, 16384, 1, 1), "a 1 1 0 24 16", "m 1 2 1 32 16", "m 1 3 2 33 16", "f 1 3"], []),
+    "each second request for whole pages is guarded": (
+        [request(1, 4096, 5000), free(1, 4096)], ["--version", "4", "--guard", "2", "--heaps", "site"],
+        [HEAD_LINE.format(4, 16384, 1, 1), "guard 2", "# heap 0: 1 requests, 0x0", "a 1 1 0 5000 16", "f 1 1"], []),
     "sized frees, by the request that the room is of": (
         [request(1, 64, 24), *moved(1, 64, 64, 32), *moved(1, 64, 64, 10), free(1, 64), request(1, 64, 100, "a", 64), *moved(1, 64, 80, 300), free(1, 80)],
         ["--version", "4", "--sized"], [HEAD_LINE.format(4, 16384, 1, 1), "a 1 1 0 24 16", "m 1 2 1 32 16", "m 1 3 2 10 16", "fs 1 3 24 16",
@@ -91,7 +94,9 @@ SPOILT = {
     MOVES.replace("pas 4", "pas 3"): "line 3: BadWord", MOVES + "fs 1 3 24\n": "line 5: BadWord", MOVES + "fs 1 3 x 16\n": "line 5: BadNumber",
     MOVES + "m 3 4 3 9 16\n": "line 5: BadThread", MOVES + "m 1 4 3 8193 16\n": "line 5: BadSize", MOVES + "fs 1 3 9 24\n": "line 5: BadAlign",
     MOVES + "fs 1 3 49 16\n": "line 5: the block has 48 bytes", MOVES + "f 1 1\n": "line 5: the block has ended before",
-    MOVES + "f 1 3\nm 1 4 3 9 16\n": "line 6: what is moved has ended before",
+    MOVES + "f 1 3\nm 1 4 3 9 16\n": "line 6: what is moved has ended before", MOVES + "guard 1\n": "line 5: BadWord",
+    MOVES.replace("age 2\n", "age 2\nguard 1\nguard 1\n"): "line 3: BadWord", MOVES.replace("age 2\n", "age 2\nguard 0\n"): "line 2: BadNumber",
+    MOVES.replace("threads 2", "threads 9").replace("age 2\n", "age 2\nguard 1\n"): "line 2: BadThread",
 }
 
 
@@ -111,9 +116,10 @@ def test_limits(program, room):
     """A trace that is cut is a trace, and one more line is too much."""
     megabytes = [request(1, 64 * each, 4 << 20) for each in range(1, 2100)]
     made = trace_of(write_log(room / "hand.log", megabytes))
-    run, more = called_with(program, "order", made.stdout), called_with(program, "order", made.stdout + f"a 1 5000 0 {4 << 20} 16\n")
-    check(run.returncode == 0 and "cut: " in made.stderr and "2,000,000 lines of a transcript" in made.stderr, f"a trace at the limit: {run.stdout[:80]} {made.stderr}")
-    check(more.returncode == 1 and more.stdout.endswith("TraceTooLarge\n"), f"beyond the limit: {more.stdout[:80]}")
+    for options, made in [((), made), (words := ("--version", "4", "--guard", "9"), trace_of(room / "hand.log", *words))]:
+        run, more = called_with(program, "order", made.stdout), called_with(program, "order", made.stdout + f"a 1 5000 0 {4 << 20} 16\n")
+        check(run.returncode == 0 and "cut: " in made.stderr and "2,000,000 lines of a transcript" in made.stderr, f"a trace at the limit: {options} {run.stdout[:80]} {made.stderr}")
+        check(more.returncode == 1 and more.stdout.endswith("TraceTooLarge\n"), f"beyond the limit: {options} {more.stdout[:80]}")
     sites = [request(1, 64 * each, 8, site=1000 + each % 50) for each in range(1, 500)]
     made = trace_of(write_log(room / "hand.log", sites), "--heaps", "site")
     check(called_with(program, "order", made.stdout).returncode == 0 and "19 other call sites" in made.stdout, f"fifty call sites: {made.stdout[:900]}")
@@ -135,7 +141,7 @@ def test_limits(program, room):
     said = told_on_terminal([sys.executable, str(TRACE_OF), str(many), "-o", str(room / "many.trace")])
     check(re.search(r"\rrecords [1-9][0-9]?%", said), f"it doesn't tell how far it is: {said}")
     check((room / "many.trace").read_text() == made.stdout, "on a terminal the trace is another")
-    print("six traces at the limits; how far it is, on a terminal alone")
+    print("seven traces at the limits; how far it is, on a terminal alone")
 
 
 def test_refusals(room):
@@ -144,7 +150,9 @@ def test_refusals(room):
     refusals = [
         ((room / "none",), "none: No such file"), ((room / "other",), "other: no log of tools/record/record"), ((bad,), "record 1 has the unknown kind 122"),
         ((bad, "--pages", "5000"), "version 1 has at most 4,096 pages"), ((bad, "--pages", "0"), "0 is no number from 1 to 16,384"),
-        ((bad, "--sized"), "frees with a size come with version 2"), ((bad, "--version", "5"), "invalid choice"), ((bad, "--tick", "x"), "x is no number"),
+        ((bad, "--sized"), "frees with a size come with version 2"), ((bad, "--guard", "2"), "guards come with version 4"),
+        ((bad, "--version", "4", "--guard", "2", "--threads", "9"), "a trace with guards has at most 8 threads"),
+        ((bad, "--version", "5"), "invalid choice"), ((bad, "--tick", "x"), "x is no number"),
     ]
     for words, said in refusals:
         made = trace_of(*map(str, words))

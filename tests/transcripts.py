@@ -9,10 +9,11 @@ is looked for (tests/orders.py)."""
 
 import re
 import sys
+from collections import Counter
 from typing import NamedTuple
 
-from orders import (GRAIN, GRAINS, PAGE, Back, Bare, Deed, End, Ended, Give, InUse, Machine, NoBlock, NotOffered, Read, Refused, SizeDiffers, Tick,
-                    Unback, Undecided, Young, find_order)
+from orders import (GRAIN, GRAINS, PAGE, Back, Bare, Deed, End, Ended, Give, InUse, Lowered, Machine, NoBlock, NotOffered, Raised, Read, Refused,
+                    SizeDiffers, StaysUp, Tick, Unback, Undecided, Young, find_order)
 
 CLASSES = [16, 32, 48, 64, 80, 96, 112, 128, 160, 192, 224, 256, 320, 384, 448, 512, 640, 768, 896, 1024]
 # How many of them traces of a version have.
@@ -36,6 +37,8 @@ SHAPES = {
     "unaligned": "A turn N",
     "skipped": "name N",
     "kept": "A turn N name N",
+    "guarded": "N N name N",
+    "lowered": "N N",
     "tick": "N",
     "pass": "N",
     "unback": "page N epoch N",
@@ -45,6 +48,8 @@ SHAPES = {
     "not-offered": "page N",
     "stopped": "N",
 }
+# The lines that a keeper may have.
+KEPT = ("deed", "back", "give", "guarded", "lowered")
 OUTCOMES = ("unback", "bare", "young", "in-use", "not-offered")
 CHORES = ("tick", "pass", "idle")
 ENDS = {"freed": End, "ended": Ended, "no-block": NoBlock, "size-differs": SizeDiffers}
@@ -108,6 +113,22 @@ class Trace(NamedTuple):
     age: int
     shared: set
     phases: list
+    guard: int = 0
+
+    @property
+    def actors(self):
+        """The last actor: the last thread, or the last keeper in a guarded trace."""
+        return self.threads * (2 if self.guard else 1)
+
+    def guarded(self):
+        """The names of the guarded requests: of each thread's requests for whole pages each whose number is a multiple of
+        that of the `guard` line."""
+        names, counts = set(), Counter()
+        for word, *rest in (operation for phase in self.phases for operation in phase):
+            if word == "a" and rest[3] > MOST_BITFIT and self.guard:
+                counts[rest[0]] += 1
+                names.update({rest[1]} if counts[rest[0]] % self.guard == 0 else ())
+        return names
 
     def wanted(self, name, heap, size, align):
         """By the route of the request: the smallest class that suits, else a bit-fit page, else whole pages."""
@@ -136,7 +157,7 @@ def read_trace(text):
     """The trace of a text without a fault."""
     first, *lines = text.split("\n")
     words = first.split()
-    shared, phases = set(), [[]]
+    shared, phases, guard = set(), [[]], 0
     for line in lines:
         word, *rest = line.split() or ["#"]
         if word.startswith("#"):
@@ -145,12 +166,14 @@ def read_trace(text):
             phases.append([])
         elif word == "shared":
             shared.add(int(rest[0]))
+        elif word == "guard":
+            guard = int(rest[0])
         else:
             phases[-1].append((word, *(int(value, 0) for value in rest)))
-    return Trace(int(words[1]), int(words[3]), int(words[5]), int(words[9]), shared, phases)
+    return Trace(int(words[1]), int(words[3]), int(words[5]), int(words[9]), shared, phases, guard)
 
 
-def line_of(text, threads):
+def line_of(text, trace):
     """The line that a text is."""
     words = text.split(" ", 2)
     pattern = PATTERNS.get(words[1]) if len(words) > 1 else None
@@ -158,7 +181,9 @@ def line_of(text, threads):
     if not match:
         raise Wrong(f"no such line: {text}")
     actor, *values = match.groups()
-    if int(actor) > threads or (int(actor) == 0) != (words[1] in OUTCOMES + ("tick", "pass", "stopped")):
+    if int(actor) > trace.actors or (int(actor) == 0) != (words[1] in OUTCOMES + ("tick", "pass", "stopped")):
+        raise Wrong(f"not a line of this actor: {text}")
+    if (int(actor) > trace.threads and words[1] not in KEPT) or (int(actor) <= trace.threads and words[1] in ("guarded", "lowered")):
         raise Wrong(f"not a line of this actor: {text}")
     return Line(int(actor), words[1], tuple(value if value[0] in "bcls" else int(value, 0) for value in values), text)
 
@@ -201,17 +226,17 @@ def parts_of(trace, text):
         if mark not in texts:
             raise Wrong(f"no line {mark}")
         at = texts.index(mark)
-        parts.append(by_actor([line_of(line, trace.threads) for line in texts[:at]], trace.threads))
+        parts.append(by_actor([line_of(line, trace) for line in texts[:at]], trace.actors))
         texts = texts[at + 1:]
     return parts, texts
 
 
-def by_actor(lines, threads):
+def by_actor(lines, actors):
     """The lines of each actor, which stand actor by actor."""
     for before, after in zip(lines, lines[1:]):
         if before.actor > after.actor:
             raise Wrong(f"it stands after a line of actor {before.actor}: {after.text}")
-    return [Lines([line for line in lines if line.actor == actor]) for actor in range(threads + 1)]
+    return [Lines([line for line in lines if line.actor == actor]) for actor in range(actors + 1)]
 
 
 class Accounts:
@@ -223,6 +248,8 @@ class Accounts:
         self.logs = {thread: [] for thread in range(1, trace.threads + 1)}
         self.since = dict.fromkeys(self.logs, 0)
         self.epoch = 0
+        self.guarded = trace.guarded()
+        self.up = {thread: [] for thread in self.logs}
 
     def phase(self, phase, lines):
         """The events of each actor in a phase. Of a thread that has no operation in it, the scavenger has them."""
@@ -231,10 +258,15 @@ class Accounts:
         idle = [thread for thread in self.logs if thread not in acting]
         sequences = [self.scavenged([each for each in operations if each[0] in CHORES], idle, lines)]
         for thread in sorted(acting - {0}):
-            sequences.append([])
+            own, kept = [], []
             for operation in operations:
                 if operation[0] not in CHORES and operation[1] == thread:
-                    sequences[-1] += self.answered(operation, lines[thread])
+                    if operation[0] == "a" and operation[2] in self.guarded:
+                        kept += self.tried(thread, operation[2:], lines[self.trace.threads + thread])
+                        if operation[2] in self.named:
+                            continue
+                    own += self.answered(operation, lines[thread])
+            sequences += [own, kept] if self.trace.guard else [own]
         for actor, rest in enumerate(lines):
             rest.end(f"nothing that actor {actor} does in phase {phase + 1} says this")
         return sequences
@@ -256,6 +288,45 @@ class Accounts:
             address, turn, *sizing = values
             return self.freed(thread, address, turn, sizing, lines)
         return self.flushed(thread, lines)
+
+    def swept(self, thread, lines):
+        """A keeper lowers those of its guards whose blocks have ended, in the order in which they went up."""
+        events, left = [], []
+        for guard in self.up[thread]:
+            low, high, *block = guard
+            if lines.peek() == "lowered" and lines.lines[lines.at].values == (low, high):
+                lines.take("", "lowered")
+                events.append(Lowered(low, high, block))
+            else:
+                left.append(guard)
+                events.append(StaysUp(*block))
+        self.up[thread] = left
+        return events
+
+    def lowered(self, thread, lines):
+        """A keeper lowers all its guards, in the order in which they went up."""
+        for low, high, *_ in self.up[thread]:
+            lines.take_exactly(f"the keeper of thread {thread} leaves a guard up", "lowered", low, high)
+        return [Lowered(low, high) for low, high, *_ in self.up[thread]]
+
+    def tried(self, thread, values, lines):
+        """What a keeper does for a guarded request: guards are lowered; then deeds and backs, a block between two pages and
+        the line that says so, or deeds alone. The guard stands from before the first back on."""
+        wanted = self.trace.wanted(*values)
+        events = self.swept(thread, lines)
+        if not any(line.word == "guarded" and line.values[2] == wanted.name for line in lines.lines[lines.at:]):
+            while lines.peek() == "deed" and lines.lines[lines.at].values[1:] == wanted.directory:
+                events.append(Deed(lines.take("", "deed").values[0], wanted.directory))
+            return events
+        made = self.requested(wanted, lines)
+        if not isinstance(made[-1], Give):
+            raise Wrong(f"no block of the keeper for name {wanted.name}")
+        give = made[-1]
+        low, high = give.pages[0] - 1, give.pages[-1] + 1
+        lines.take_exactly(f"the block of name {wanted.name} stands between pages {low} and {high}", "guarded", low, high, wanted.name)
+        self.up[thread].append((low, high, give.address, give.turn))
+        deeds = [event for event in made if isinstance(event, Deed)]
+        return events + deeds + [Raised(low, high, wanted.directory[0])] + made[len(deeds):]
 
     def reallocated(self, thread, name, old, size, align, lines):
         """A block that suits is kept; for another one its heap is asked, and where that gives one the old one is freed then, as any
@@ -383,10 +454,12 @@ class Accounts:
         return {"bare": Bare, "not-offered": NotOffered}[line.word](*line.values)
 
     def closed(self, lines):
-        """The events of the close: each thread in order is stopped."""
+        """The events of the close: each thread in order is stopped, and then each keeper lowers all its guards."""
         events = []
         for thread in self.logs:
             events += self.flushed(thread, lines[thread])
+        for thread in self.logs if self.trace.guard else ():
+            events += self.lowered(thread, lines[self.trace.threads + thread])
         for actor, rest in enumerate(lines):
             rest.end(f"nothing that actor {actor} does at the close says this")
         return [events]

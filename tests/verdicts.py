@@ -32,7 +32,7 @@ MOST_BYTES = 16_777_216
 FEW_LINES = 200
 EXAMPLES = pathlib.Path(__file__).resolve().parent.parent / "examples"
 WORDS = ["deed", "back", "unback", "give", "freed", "ended", "no-block", "size-differs", "outside", "unaligned", "no-space", "held", "kept", "skipped",
-         "tick", "pass", "bare", "young", "in-use", "not-offered", "stopped", "phase", "close", "report", "page", "heap", "class", "shared", "bitfit",
+         "guarded", "lowered", "tick", "pass", "bare", "young", "in-use", "not-offered", "stopped", "phase", "close", "report", "page", "heap", "class", "shared", "bitfit",
          "large", "turn", "room", "epoch", "name", "asked", "stamp", "word", "value", "live", "free", "marks", "total", "deeds", "backed", "given"]
 MARKS = ["backed", "offered", "parked", "hinted"]
 BYTES = [chr(code) for code in range(32, 127)]
@@ -68,20 +68,20 @@ def other_words(line):
             yield front + marks + ("+".join(mark for at, mark in enumerate(MARKS) if bits >> at & 1) or "none") + "\n"
 
 
-def other_actors(line, threads):
+def other_actors(line, actors):
     """The line with another actor."""
     actor, space, rest = line.partition(" ")
     if space and actor.isdigit():
-        yield from (f"{other} {rest}" for other in range(threads + 2) if other != int(actor))
+        yield from (f"{other} {rest}" for other in range(actors + 2) if other != int(actor))
 
 
-def kinds_of_edits(lines, at, threads):
+def kinds_of_edits(lines, at, actors):
     """The edits of one line, by their kinds."""
     line = lines[at]
     moved = [Edit(at, 1, ()), Edit(at, 1, (line, line))]
     if at + 1 < len(lines) and lines[at + 1] != line:
         moved.append(Edit(at, 2, (lines[at + 1], line)))
-    others = [off_by_one(line), other_words(line), other_actors(line, threads)]
+    others = [off_by_one(line), other_words(line), other_actors(line, actors)]
     return [moved] + [[Edit(at, 1, (other,)) for other in kind if other != line] for kind in others]
 
 
@@ -92,13 +92,13 @@ def byte_edit(lines, draw):
     return Edit(at, 1, (draw.choice([line[:place] + byte + line[place + 1:], line[:place] + byte + line[place:], line[:place] + line[place + 1:]]),))
 
 
-def draw_edits(lines, threads, count, draw):
+def draw_edits(lines, actors, count, draw):
     """So many edits, all unlike, in the order of their lines: of each kind alike, as long as there are more; then of bytes."""
     edits = set()
     for _ in range(8 * count):
         if len(edits) == count:
             break
-        kinds = kinds_of_edits(lines, draw.randrange(len(lines)), threads)
+        kinds = kinds_of_edits(lines, draw.randrange(len(lines)), actors)
         edits.add(draw.choice(draw.choice([kind for kind in kinds if kind])))
     while len(edits) < count:
         edit = byte_edit(lines, draw)
@@ -199,7 +199,7 @@ def try_edits(program, path, count, seed, part, parts, most_lines):
     """Of every so many edits one is tried. How many there were of each outcome, and what is wrong."""
     trace, text = read_pair(program, path, most_lines)
     lines = lines_of(text)
-    edits = draw_edits(lines, int(trace.split()[5]), count, random.Random(f"{seed} {path.name}"))[part::parts]
+    edits = draw_edits(lines, Trace(trace).actors, count, random.Random(f"{seed} {path.name}"))[part::parts]
     verdict, verdicts = judged(trace, text, edits)
     trace, text, starts = trace.encode(), text.encode(), [0, *itertools.accumulate(map(len, lines))]
     said = told(program, trace, text)

@@ -5,7 +5,8 @@ raises a Fault, the first of the text, or a Wrong, where a line frees or moves w
 A line `fs THREAD NAME SIZE ALIGN` or `rs THREAD ADDRESS TURN SIZE ALIGN` (from version 2 on) frees with the room of a request for this size and
 alignment. Version 3 has four more classes and up to 16,384 pages. A line `m THREAD NAME OLD SIZE ALIGN` (version 4) keeps the block of OLD where the
 size, 0 counting as 1, is at most its room and its address suits the alignment, and NAME stands for it then; else NAME stands for a new block in the
-same heap, and the block of OLD ends. It costs one line of a transcript more than a request."""
+same heap, and the block of OLD ends. It costs one line of a transcript more than a request. With a line `guard N` (version 4, at most 8 threads) each
+request for whole pages costs two lines more, and each page one more a thread."""
 import re
 from typing import NamedTuple
 
@@ -16,7 +17,7 @@ MOST_PAGES = {1: 4096, 2: 4096, 3: 16384, 4: 16384}
 LINES = {
     "shared": (1, "heap"), "phase": (1, ""), "a": (1, "thread new heap size align"), "f": (1, "thread old"), "r": (1, "thread address turn"),
     "flush": (1, "thread"), "stop": (1, "thread"), "tick": (1, "epoch"), "pass": (1, ""), "idle": (1, "epoch"),
-    "fs": (2, "thread old size align"), "rs": (2, "thread address turn size align"), "m": (4, "thread new old size align"),
+    "guard": (4, "every"), "fs": (2, "thread old size align"), "rs": (2, "thread address turn size align"), "m": (4, "thread new old size align"),
 }
 
 
@@ -45,7 +46,7 @@ class Reading:
         if self.pages > MOST_PAGES[self.version] or self.threads > 16 or self.heaps > 32 or age > 1_000_000:
             raise Fault("line 1: BadHeader")
         self.names, self.rooms, self.live = {}, [], set()
-        self.phase, self.operations, self.cost, self.moved, self.kept = 1, 0, self.threads * self.pages, 0, 0
+        self.phase, self.operations, self.cost, self.moved, self.kept, self.guard = 1, 0, self.threads * self.pages, 0, 0, 0
 
     def room(self, size, align):
         """The room of a request, and whether it is for whole pages."""
@@ -60,8 +61,8 @@ class Reading:
         old, new = self.names.get(values.get("old")), values.get("new")
         reasons = {
             "BadNumber": any(not 1 <= values[it] <= 1_000_000 for it in ("old", "new") if it in values) or values.get("epoch", 0) >= 1 << 40
-                         or values.get("turn", 0) >= (1 << 40) - 1,
-            "BadThread": not 1 <= values.get("thread", 1) <= self.threads,
+                         or values.get("turn", 0) >= (1 << 40) - 1 or not 1 <= values.get("every", 1) <= 1_000_000,
+            "BadThread": not 1 <= values.get("thread", 1) <= self.threads or ("every" in values and self.threads > 8),
             "BadHeap": values.get("heap", 0) >= self.heaps,
             "BadSize": values.get("size", 0) > 4096 * self.pages,
             "BadAlign": values.get("align", 16) not in [16 << each for each in range(9)],
@@ -74,7 +75,7 @@ class Reading:
     def cost_of(self, word, values):
         if word in ("a", "m"):
             room, is_whole = self.room(values["size"], values["align"])
-            return (1 + room // 4096 if is_whole else 2) + (word == "m")
+            return (1 + room // 4096 + 2 * (self.guard > 0) if is_whole else 2) + (word == "m")
         return {"pass": 1 + self.pages, "idle": self.threads, "flush": 0, "stop": 0}.get(word, 1)
 
     def give(self, values):
@@ -113,7 +114,8 @@ class Reading:
     def take(self, at, line):
         word, *rest = line.split(" ")
         since, shapes = LINES.get(word, (9, ""))
-        if self.version < since or len(rest) != len(shapes.split()) or (word == "shared" and (self.operations or self.phase > 1)):
+        is_late = (word in ("shared", "guard") and (self.operations or self.phase > 1)) or (word == "guard" and self.guard)
+        if self.version < since or len(rest) != len(shapes.split()) or is_late:
             raise Fault(f"line {at}: BadWord")
         if any(not re.fullmatch(r"0x[0-9a-f]{8}" if shape == "address" else r"0|[1-9]\d*", each) for shape, each in zip(shapes.split(), rest)):
             raise Fault(f"line {at}: BadNumber")
@@ -122,6 +124,8 @@ class Reading:
             raise Fault(f"line {at}: {reason}")
         if word == "phase":
             self.phase += 1
+        elif word == "guard":
+            self.guard, self.cost = values["every"], self.cost + self.threads * self.pages
         elif word != "shared":
             self.operations, self.cost = self.operations + 1, self.cost + self.cost_of(word, values)
             if self.operations > 1_000_000:

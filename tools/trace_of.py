@@ -27,8 +27,8 @@ HERE = Path(__file__).resolve().parent
 sys.path[:0] = [str(HERE), str(HERE / "record")]
 import recorded
 from progress import Progress
-from trace_text import (LEAST_ALIGN, MOST_AGE, MOST_EPOCH, MOST_HEAPS, MOST_OPERATIONS, MOST_PAGES, MOST_THREADS, PAGE,
-                        Full, Trace, Wanted, room_of)
+from trace_text import (LEAST_ALIGN, MOST_AGE, MOST_EPOCH, MOST_GUARDED, MOST_HEAPS, MOST_OPERATIONS, MOST_PAGES, MOST_THREADS,
+                        PAGE, Full, Trace, Wanted, room_of)
 
 TELL_EACH = 20_000
 
@@ -115,7 +115,7 @@ class Conversion:
     def __init__(self, options: argparse.Namespace, heaps: Heaps) -> None:
         self.heaps, self.is_sized, self.cut = heaps, options.sized, Counter()
         self.wanted = Wanted(options.version, options.pages, options.age,
-                             options.tick, options.passes, options.idle, options.idle_age)
+                             options.tick, options.passes, options.idle, options.idle_age, options.guard)
         self.trace, self.numbers = Trace(self.wanted), Numbers(options.threads)
         self.blocks: dict[int, Block | None] = {}
         self.moving: dict[int, Block | None] = {}
@@ -241,8 +241,8 @@ def read_options() -> argparse.Namespace:
                         help="one heap, or one for each call site, or one for each power of two of sizes (one)")
     parser.add_argument("--pages", type=number_within(1, max(MOST_PAGES.values())),
                         help="the pages of the region (the most that the version has)")
-    parser.add_argument("--threads", type=number_within(1, MOST_THREADS), default=MOST_THREADS,
-                        help="the most threads at once (16)")
+    parser.add_argument("--threads", type=number_within(1, MOST_THREADS),
+                        help="the most threads at once (16, or 8 with guards)")
     parser.add_argument("--age", type=number_within(1, MOST_AGE), default=2, help="the age of the header (2)")
     parser.add_argument("--tick", type=every, metavar="N", help="a tick after each N operations of threads")
     parser.add_argument("--pass", type=every, metavar="N", dest="passes",
@@ -251,12 +251,19 @@ def read_options() -> argparse.Namespace:
     parser.add_argument("--idle-age", type=number_within(0, MOST_EPOCH), default=1, metavar="E",
                         help="the epochs of an idle line (1)")
     parser.add_argument("--sized", action="store_true", help="a free names its size and alignment (from version 2 on)")
+    parser.add_argument("--guard", type=every, metavar="N",
+                        help="each N-th request of a thread for whole pages is guarded (from version 4 on)")
     options = parser.parse_args()
     options.pages = options.pages or MOST_PAGES[options.version]
     if options.pages > MOST_PAGES[options.version]:
         parser.error(f"version {options.version} has at most {MOST_PAGES[options.version]:,} pages")
     if options.sized and options.version < 2:
         parser.error("frees with a size come with version 2")
+    if options.guard and options.version < 4:
+        parser.error("guards come with version 4")
+    options.threads = options.threads or (MOST_GUARDED if options.guard else MOST_THREADS)
+    if options.guard and options.threads > MOST_GUARDED:
+        parser.error(f"a trace with guards has at most {MOST_GUARDED} threads")
     return options
 
 

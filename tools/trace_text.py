@@ -7,7 +7,7 @@ from typing import NamedTuple
 PAGE = 4096
 LEAST_ALIGN = 16
 MOST_PAGES = {1: 4096, 2: 4096, 3: 16384, 4: 16384}
-MOST_THREADS, MOST_HEAPS, MOST_AGE, MOST_EPOCH = 16, 32, 1_000_000, 2**40 - 1
+MOST_THREADS, MOST_GUARDED, MOST_HEAPS, MOST_AGE, MOST_EPOCH = 16, 8, 32, 1_000_000, 2**40 - 1
 MOST_OPERATIONS, MOST_BOUND, MOST_BYTES = 1_000_000, 2_000_000, 16_777_216
 CLASSES = [16, 32, 48, 64, 80, 96, 112, 128, 160, 192, 224, 256, 320, 384, 448, 512]
 MORE_CLASSES = [640, 768, 896, 1024]
@@ -31,7 +31,8 @@ def room_of(version: int, size: int, align: int) -> tuple[int, bool]:
 
 
 class Wanted(NamedTuple):
-    """What the header says, and after how many operations of threads the scavenger has one."""
+    """What the header says, after how many operations of threads the scavenger has one, and which of a thread's requests for
+    whole pages is guarded."""
 
     version: int
     pages: int
@@ -40,6 +41,7 @@ class Wanted(NamedTuple):
     passes: int | None
     idle: int | None
     idle_age: int
+    guard: int | None = None
 
 
 class Trace:
@@ -52,12 +54,13 @@ class Trace:
         self.phase = self.threads = 1
 
     def add(self, line: str, cost: int, thread: int, idles: int = 0) -> None:
-        """An operation, and the lines of a transcript that all may bring: each page's deed to each thread, a line a
-        thread for each idle operation, and what each other one costs."""
+        """An operation, and the lines of a transcript that all may bring: each page's deed to each thread and each keeper,
+        a line a thread for each idle operation, and what each other one costs."""
         threads, idles = max(self.threads, thread), self.idles + idles
+        deeds = self.wanted.pages * (2 if self.wanted.guard else 1)
         if self.operations == MOST_OPERATIONS:
             raise Full(f"{MOST_OPERATIONS:,} operations")
-        if threads * (self.wanted.pages + idles) + self.cost + cost > MOST_BOUND:
+        if threads * (deeds + idles) + self.cost + cost > MOST_BOUND:
             raise Full(f"what may bring {MOST_BOUND:,} lines of a transcript")
         if self.bytes + len(line) + 1 + ROOM_FOR_HEAD > MOST_BYTES:
             raise Full(f"{MOST_BYTES:,} bytes")
@@ -101,10 +104,11 @@ class Trace:
 
     def cost_of(self, size: int, align: int) -> int:
         room, is_large = room_of(self.wanted.version, size, align)
-        return 1 + room // PAGE if is_large else 2
+        return 1 + room // PAGE + (2 if self.wanted.guard else 0) if is_large else 2
 
     def text(self, heaps: int, comments: list[str]) -> str:
         """The whole trace."""
         wanted = self.wanted
         head = f"pas {wanted.version} pages {wanted.pages} threads {self.threads} heaps {heaps} age {wanted.age}"
-        return "\n".join([head, *(comment[:MOST_OF_COMMENT] for comment in comments), *self.lines]) + "\n"
+        guard = [f"guard {wanted.guard}"] if wanted.guard else []
+        return "\n".join([head, *guard, *(comment[:MOST_OF_COMMENT] for comment in comments), *self.lines]) + "\n"

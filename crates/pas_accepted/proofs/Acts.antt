@@ -1,29 +1,41 @@
 -- Each act of a replay in the order of the text.
-use Rattle.std.proofs.Common.{◌≡◌, ℕ, ◌+◌, ◌==◌, max, nat_le, true, false, List, [], ◌∷◌, ◌++◌, inl, inr, refl, ap, sym, ◌∙◌, subst, append-nil, arith}
-use Rattle.std.specs.Prelude.{map}
+use Rattle.std.proofs.Common.{◌≡◌, ℕ, ◌+◌, ◌==◌, max, nat_le, true, false, List, [], ◌∷◌, ◌++◌, inl, inr, refl, ap, sym, ◌∙◌, subst, append-nil, append_assoc, arith}
+use Rattle.std.specs.Prelude.{map, MatchResult, Option, None, Some}
 use Rattle.std.proofs.lemmas.Bool.{false_from_ne_true, le-leb, leb-true}
+use Rattle.std.proofs.lemmas.Option.{none-some}
 use Rattle.pas_profile.specs.Profiles.{IsValid}
+use Rattle.pas_profile.specs.declared.name.Block.{Block}
 use Rattle.pas_profile.specs.declared.profile.Profile.{Profile}
 use Rattle.pas_profile.specs.declared.word.Word.TheVariants as Word
+use Rattle.pas_core.proofs.OneActor.{legal_before}
 use Rattle.pas_steps.specs.Desks.{made, triples}
 use Rattle.pas_steps.specs.Events.{events_by}
 use Rattle.pas_steps.specs.Lists.{Legal, part, word_after}
 use Rattle.pas_steps.specs.declared.step.Made.{Made}
 use Rattle.pas_steps.specs.declared.step.Step.TheVariants.{Tick}
 use Rattle.pas_cache.specs.Caches.{Cached}
+use Rattle.pas_cache.specs.Refusals.{IsTrulyRefused}
 use Rattle.pas_report.specs.Lines.{line_of}
 use Rattle.pas_report.specs.declared.record.Record.{Record}
 use Rattle.pas_report.specs.declared.record.Said.{Said}
-use Rattle.pas_trace.specs.Acts.{Act, Operates, Settles, Ticks, MakesPass, ReadsEpoch, StopsIdle, MarksPhase, Wakes, MarksClose, Ends}
-use Rattle.pas_answers.specs.Answers.{IsIdleFor, IsStopped, Progress, after_reading, after_settling, after_stop, after_tick, after_wake, begun as woken, epoch_look, records_of, settled, stopped, with_cache, with_records}
-use Rattle.pas_answers.specs.Reaching.{Advances}
-use Rattle.pas_answers.specs.Refusals.{ActRefusesTruly}
+use Rattle.pas_trace.specs.declared.item.Request.{Request}
+use Rattle.pas_trace.specs.declared.plan.Op.{Op}
+use Rattle.pas_trace.specs.declared.plan.What.{What}
+use Rattle.pas_trace.specs.declared.plan.What.TheVariants as What
+use Rattle.pas_trace.specs.Asked.{keeper_in}
+use Rattle.pas_trace.specs.Acts.{Act, Operates, Guards, Settles, Ticks, MakesPass, ReadsEpoch, StopsIdle, MarksPhase, Wakes, MarksClose, Ends, Lowers}
+use Rattle.pas_answers.specs.Answers.{Answer, IsAnswered, IsIdleFor, IsServed, IsStopped, Progress, having, said_by, wanted_by, after_reading, after_settling, after_stop, after_tick, after_wake, begun as woken, epoch_look, records_of, settled, stopped, with_cache, with_records}
+use Rattle.pas_answers.specs.Guarding.{IsTried, Tried, after_trying}
+use Rattle.pas_answers.specs.Reaching.{Advances, AnswersTried}
+use Rattle.pas_answers.specs.Refusals.{ActRefusesTruly, RefusesTruly, TriedRefusesTruly}
 use Rattle.pas_answers.proofs.Consequences.{tidy_piece}
 use Rattle.pas_answers.proofs.Tidy.{look_tidy, tick_tidy}
-use Rattle.pas_check.specs.Begins.{stopping}
-use Rattle.pas_check.specs.States.{Does, Due, Stand, Task, Writes, with_at}
+use Rattle.pas_check.specs.Begins.{stopping, sweeping}
+use Rattle.pas_check.specs.States.{Does, Due, Stand, Task, Tries, Writes, with_at}
 use Rattle.pas_check.specs.Tasks.{emptying}
 use Rattle.pas_accepted.proofs.Going.{LeadsOn, on_as, on_both, on_line, on_task}
+use Rattle.pas_accepted.proofs.Guarding.{given_comes, lowered_comes, thread_comes}
+use Rattle.pas_accepted.proofs.GuardsInBooks.{booked_as}
 use Rattle.pas_accepted.proofs.LogEntries.{logged_as}
 use Rattle.pas_accepted.proofs.Operations.{what_comes}
 use Rattle.pas_accepted.proofs.Passes.{pass_comes}
@@ -35,21 +47,23 @@ use Rattle.pas_accepted.proofs.Telling.{Comes, Tells}
 abbrev pub Written : Profile → Progress → Stand → Progress → List Task → Type 0
 Written f p s q ts = (rs : List Record) × (q.records ≡ p.records ++ rs) × Comes f s rs q ts
 
--- the epoch that the scavenger read is that of the word, where a thread may be stopped by it
-abbrev pub ReadsWell : Act → Progress → Type 0
-ReadsWell (StopsIdle k n) p = p.epoch ≡ word_after p.list Word.Epoch
-ReadsWell act p = Unit {0}
+-- The epoch that the scavenger read is that of the word, where a thread may be stopped by it. A keeper acts only for requests whose guards it keeps.
+abbrev pub IsInPlace : Act → Progress → Type 0
+IsInPlace (StopsIdle k n) p = p.epoch ≡ word_after p.list Word.Epoch
+IsInPlace (Guards keeper op) p = keeper_in op.what ≡ Some keeper
+IsInPlace act p = Unit {0}
 
 module _ (f : Profile) (valid : IsValid f) (p : Progress) (s : Stand) (ts : List Task) (tells : Tells p s) (due : s.due ≡ []) where
   -- ---- one look at the epoch
-  look_tells : (k epoch : ℕ) (t : Stand) (caches : ℕ → Cached) (read : ℕ) → t.events ≡ s.events → t.names ≡ s.names → ((j : ℕ) → (caches j).log ≡ map logged_as (t.logs j)) → ((j : ℕ) → t.idle_since j ≡ (caches j).idle_since) → t.epoch ≡ s.epoch
-      → Tells record { names = p.names; caches = caches; epoch = read; list = triples k (epoch_look epoch) ++ p.list; records = p.records } t
-  look_tells k epoch t caches read events names logs awake same = record {
+  look_tells : (k epoch : ℕ) (t : Stand) (caches : ℕ → Cached) (read : ℕ) → t.events ≡ s.events → t.names ≡ s.names → ((j : ℕ) → (caches j).log ≡ map logged_as (t.logs j)) → ((j : ℕ) → t.idle_since j ≡ (caches j).idle_since) → t.epoch ≡ s.epoch → t.guards ≡ s.guards
+      → Tells record { names = p.names; caches = caches; books = p.books; epoch = read; list = triples k (epoch_look epoch) ++ p.list; records = p.records } t
+  look_tells k epoch t caches read events names logs awake same guards = record {
     events = events ∙ tells.events;
     names = names ∙ tells.names;
     logs = logs;
     awake = awake;
     epoch = same ∙ tells.epoch;
+    books = booked_as p.books s.guards t.guards guards tells.books;
     tidy = tidy_piece k (epoch_look epoch) p.list tells.tidy (look_tidy Word.Epoch epoch (part k p.list) refl (tells.tidy k));
   }
 
@@ -60,7 +74,7 @@ module _ (f : Profile) (valid : IsValid f) (p : Progress) (s : Stand) (ts : List
         end = t;
         leads = on_task f s (Does (Wakes k)) ts due left;
         tells = look_tells k epoch t (with_cache p.caches k (woken (p.caches k) epoch)) p.epoch refl refl (λ j. table_same (λ (d : Cached). d.log) p.caches k (woken (p.caches k) epoch) refl j ∙ tells.logs j)
-            (λ j. sym (table_at (λ (d : Cached). d.idle_since) (λ (n : ℕ). n) (j == k) (woken (p.caches k) epoch) (p.caches j) s.epoch (s.idle_since j) (is ∙ sym tells.epoch) (sym (tells.awake j)))) refl;
+            (λ j. sym (table_at (λ (d : Cached). d.idle_since) (λ (n : ℕ). n) (j == k) (woken (p.caches k) epoch) (p.caches j) s.epoch (s.idle_since j) (is ∙ sym tells.epoch) (sym (tells.awake j)))) refl refl;
         due = due;
         left = refl;
       }
@@ -68,7 +82,7 @@ module _ (f : Profile) (valid : IsValid f) (p : Progress) (s : Stand) (ts : List
   read_comes : (epoch : ℕ) → s.left ≡ Does ReadsEpoch ∷ ts → Comes f s [] (after_reading p epoch) ts
   read_comes epoch left =
       let t : Stand = record s { left = ts } in
-      record { end = t; leads = on_task f s (Does ReadsEpoch) ts due left; tells = look_tells 0 epoch t p.caches epoch refl refl tells.logs tells.awake refl; due = due; left = refl }
+      record { end = t; leads = on_task f s (Does ReadsEpoch) ts due left; tells = look_tells 0 epoch t p.caches epoch refl refl tells.logs tells.awake refl refl; due = due; left = refl }
 
   -- ---- what is handed on
   settled_comes : (k : ℕ) → s.left ≡ Does (Settles k) ∷ ts → Comes f s [] (after_settling p k) ts
@@ -81,6 +95,7 @@ module _ (f : Profile) (valid : IsValid f) (p : Progress) (s : Stand) (ts : List
       logs = λ j. table_same (λ (d : Cached). d.log) p.caches k (settled (p.caches k)) refl j ∙ tells.logs j;
       awake = λ j. tells.awake j ∙ sym (table_same (λ (d : Cached). d.idle_since) p.caches k (settled (p.caches k)) refl j);
       epoch = tells.epoch;
+      books = tells.books;
       tidy = tells.tidy;
     };
     due = due;
@@ -88,13 +103,14 @@ module _ (f : Profile) (valid : IsValid f) (p : Progress) (s : Stand) (ts : List
   }
 
   -- ---- marks and ticks
-  same_tells : (t : Stand) (records : List Record) → t.events ≡ s.events → t.names ≡ s.names → t.logs ≡ s.logs → t.idle_since ≡ s.idle_since → t.epoch ≡ s.epoch → Tells record { names = p.names; caches = p.caches; epoch = p.epoch; list = p.list; records = records } t
-  same_tells t records events names logs awake epoch = record {
+  same_tells : (t : Stand) (records : List Record) → t.events ≡ s.events → t.names ≡ s.names → t.logs ≡ s.logs → t.idle_since ≡ s.idle_since → t.epoch ≡ s.epoch → t.guards ≡ s.guards → Tells record { names = p.names; caches = p.caches; books = p.books; epoch = p.epoch; list = p.list; records = records } t
+  same_tells t records events names logs awake epoch guards = record {
     events = events ∙ tells.events;
     names = names ∙ tells.names;
     logs = λ j. tells.logs j ∙ ap (λ table. map logged_as (table j)) (sym logs);
     awake = λ j. ap (λ (table : ℕ → ℕ). table j) awake ∙ tells.awake j;
     epoch = epoch ∙ tells.epoch;
+    books = booked_as p.books s.guards t.guards guards tells.books;
     tidy = tells.tidy;
   }
 
@@ -107,7 +123,7 @@ module _ (f : Profile) (valid : IsValid f) (p : Progress) (s : Stand) (ts : List
   phase_comes n left = record {
     end = record s { due = []; left = ts };
     leads = wrote (MarksPhase n) (Record.Phase n) (record s { left = ts }) left (on_task f s (Does (MarksPhase n)) ts due left);
-    tells = same_tells (record s { due = []; left = ts }) _ refl refl refl refl refl;
+    tells = same_tells (record s { due = []; left = ts }) _ refl refl refl refl refl refl;
     due = refl;
     left = refl;
   }
@@ -116,7 +132,7 @@ module _ (f : Profile) (valid : IsValid f) (p : Progress) (s : Stand) (ts : List
   close_comes left = record {
     end = record s { due = []; left = ts };
     leads = wrote MarksClose Record.Close (record s { left = ts }) left (on_task f s (Does MarksClose) ts due left);
-    tells = same_tells (record s { due = []; left = ts }) _ refl refl refl refl refl;
+    tells = same_tells (record s { due = []; left = ts }) _ refl refl refl refl refl refl;
     due = refl;
     left = refl;
   }
@@ -136,6 +152,7 @@ module _ (f : Profile) (valid : IsValid f) (p : Progress) (s : Stand) (ts : List
           logs = tells.logs;
           awake = tells.awake;
           epoch = ap (λ n. max n asked) tells.epoch;
+          books = tells.books;
           tidy = tidy_piece 0 (made (Tick asked) answer ∷ []) p.list tells.tidy (tick_tidy asked answer (part 0 p.list) (tells.tidy 0));
         };
         due = refl;
@@ -151,7 +168,7 @@ module _ (f : Profile) (valid : IsValid f) (p : Progress) (s : Stand) (ts : List
       record {
         end = end;
         leads = on_as f s end end _ _ (ap lines_by (append-nil rs)) refl (on_both f s (emptying s k [] [] ts) end [] (lines_by rs) (on_task f s (Does (Ends k)) ts due left) (stop_leads f valid p s tells k c steps h legal [] ts));
-        tells = stop_tells f valid p s tells k c steps h legal p.names _ end refl tells.names refl refl refl;
+        tells = stop_tells f valid p s tells k c steps h legal p.names _ end refl tells.names refl refl refl refl;
         due = refl;
         left = refl;
       }
@@ -180,7 +197,7 @@ module _ (f : Profile) (valid : IsValid f) (p : Progress) (s : Stand) (ts : List
         end = end;
         leads = on_as f s end end _ _ (lines_both rs (stopped k)) refl
             (on_both f s old end (lines_by rs) (line_of item ∷ []) (on_both f s u old [] (lines_by rs) begun (stop_leads f valid p s tells k c steps h legal more ts)) (on_line f old end (line_of item) (inr (refl, refl))));
-        tells = stop_tells f valid p s tells k c steps h legal p.names _ end refl tells.names refl refl refl;
+        tells = stop_tells f valid p s tells k c steps h legal p.names _ end refl tells.names refl refl refl refl;
         due = refl;
         left = refl;
       }
@@ -189,7 +206,7 @@ module _ (f : Profile) (valid : IsValid f) (p : Progress) (s : Stand) (ts : List
   busy_comes k n reads busy left = record {
     end = record s { left = ts };
     leads = on_as f s _ (record s { left = ts }) [] [] refl (ap (λ t. record (stopping t s k) { left = ts }) (sym (idle_isnt k n reads busy))) (on_task f s (Does (StopsIdle k n)) ts due left);
-    tells = same_tells (record s { left = ts }) p.records refl refl refl refl refl;
+    tells = same_tells (record s { left = ts }) p.records refl refl refl refl refl refl;
     due = due;
     left = refl;
   }
@@ -201,16 +218,44 @@ module _ (f : Profile) (valid : IsValid f) (p : Progress) (s : Stand) (ts : List
   legal_end : (q r : Progress) → q ≡ r → Legal f q.list → Legal f r.list
   legal_end q r same legal = subst (λ (x : Progress). Legal f x.list) same legal
 
-  pub act_written : (act : Act) (q : Progress) → s.left ≡ Does act ∷ ts → (did : Advances f act p q) → ActRefusesTruly f act p q did → ReadsWell act p → Legal f q.list → Written f p s q ts
-  act_written (MarksPhase n) q left did truly reads legal = at_end q _ did (Record.Phase n ∷ [], refl, phase_comes n left)
-  act_written MarksClose q left did truly reads legal = at_end q _ did (Record.Close ∷ [], refl, close_comes left)
-  act_written (Wakes k) q left did truly reads legal = at_end q _ did.1 ([], sym (append-nil p.records), woken_comes k did.0 left (legal_end q _ did.1 legal).0.answer_is)
-  act_written (Operates op) q left did truly reads legal =
+  -- ---- a guarded request
+  tried_written : (keeper : ℕ) (op : Op) (r : Request) (t : Tried) (is : IsTried f keeper r (part keeper p.list) (p.books keeper) t) (q : Progress) → LeadsOn f s [] (record (sweeping s keeper false (Tries keeper op.actor r false ∷ [])) { left = ts })
+      → ((a : Answer) (so : IsAnswered f op.actor op.what (having p.names (part op.actor (after_trying p keeper t).list) (p.caches op.actor)) a)
+      → RefusesTruly f op.actor op.what (having p.names (part op.actor (after_trying p keeper t).list) (p.caches op.actor)) a so (after_trying p keeper t).list
+      → (served : IsServed f op.actor r (having p.names (part op.actor (after_trying p keeper t).list) (p.caches op.actor)) a)
+      × MatchResult served.answer (λ block. Unit {0}) (IsTrulyRefused f (wanted_by f r) (p.caches op.actor).locals (after_trying p keeper t).list (triples op.actor a.steps ++ (after_trying p keeper t).list)))
+      → (o : Option Block) → t.block ≡ o → (answers : AnswersTried f op r o (after_trying p keeper t) q) → TriedRefusesTruly f op r o (after_trying p keeper t) q answers → Legal f q.list → Written f p s q ts
+  tried_written keeper op r t is q begun serve (Some block) gave answers truly legal =
+      at_end q _ answers (t.records, refl, given_comes f valid p s ts tells keeper op.actor r t is (legal_end q _ answers legal) begun block gave)
+  tried_written keeper op r t is q begun serve None none answers truly legal =
+      let a : Answer = answers.0 in
+      let there = legal_end q _ answers.2 legal in
+      let so = serve a answers.1 truly in
+      at_end q _ answers.2 (
+        t.records ++ (records_of (events_by op.actor (part op.actor (after_trying p keeper t).list) a.steps) ++ said_by op.actor a.said),
+        append_assoc p.records t.records _,
+        thread_comes f valid p s ts tells keeper op.actor r t is (legal_before f op.actor a.steps (after_trying p keeper t).list there) begun none a so.0 so.1 there,
+      )
+
+  guarded_written : (keeper line k : ℕ) (what : What) (q : Progress) → keeper_in what ≡ Some keeper → s.left ≡ Does (Guards keeper (record { line = line; actor = k; what = what })) ∷ ts → (did : Advances f (Guards keeper (record { line = line; actor = k; what = what })) p q)
+      → ActRefusesTruly f (Guards keeper (record { line = line; actor = k; what = what })) p q did → Legal f q.list → Written f p s q ts
+  guarded_written keeper line k (What.Guarded own name heap size align) q kept left did truly legal =
+      let op : Op = record { line = line; actor = k; what = What.Guarded own name heap size align } in
+      tried_written keeper op (record { name = name; heap = heap; size = size; align = align }) did.0 did.1 q (on_task f s (Does (Guards keeper op)) ts due left) (λ a so so_truly. (so, so_truly)) did.0.block refl did.2 truly legal
+  guarded_written keeper line k what q kept left did truly legal = absurd (none-some keeper kept)
+
+  pub act_written : (act : Act) (q : Progress) → s.left ≡ Does act ∷ ts → (did : Advances f act p q) → ActRefusesTruly f act p q did → IsInPlace act p → Legal f q.list → Written f p s q ts
+  act_written (MarksPhase n) q left did truly placed legal = at_end q _ did (Record.Phase n ∷ [], refl, phase_comes n left)
+  act_written MarksClose q left did truly placed legal = at_end q _ did (Record.Close ∷ [], refl, close_comes left)
+  act_written (Wakes k) q left did truly placed legal = at_end q _ did.1 ([], sym (append-nil p.records), woken_comes k did.0 left (legal_end q _ did.1 legal).0.answer_is)
+  act_written (Operates op) q left did truly placed legal =
       at_end q _ did.2 (_, refl, what_comes f valid p s ts tells due op.actor did.0 (legal_end q _ did.2 legal) op.what did.1 truly (on_task f s (Does (Operates op)) ts due left))
-  act_written (Settles k) q left did truly reads legal = at_end q _ did ([], sym (append-nil p.records), settled_comes k left)
-  act_written (Ticks asked) q left did truly reads legal = at_end q _ did.1 (_, refl, tick_comes asked did.0 left (legal_end q _ did.1 legal).0.answer_is)
-  act_written MakesPass q left did truly reads legal = at_end q _ did.4 (_, refl, pass_comes f valid p s ts tells due left did.0 did.1 did.2 did.3 (legal_end q _ did.4 legal))
-  act_written ReadsEpoch q left did truly reads legal = at_end q _ did.1 ([], sym (append-nil p.records), read_comes did.0 left)
-  act_written (StopsIdle k n) q left (inl so) truly reads legal = at_end q _ so.4 (_, refl, idle_comes k n so.1 so.2 reads so.0 so.3 (legal_end q _ so.4 legal) left)
-  act_written (StopsIdle k n) q left (inr stays) truly reads legal = at_end q p stays.1 ([], sym (append-nil p.records), busy_comes k n reads stays.0 left)
-  act_written (Ends k) q left did truly reads legal = at_end q _ did.3 (_, refl, ended_comes k did.0 did.1 did.2 (legal_end q _ did.3 legal) left)
+  act_written (Guards keeper op) q left did truly placed legal = guarded_written keeper op.line op.actor op.what q placed left did truly legal
+  act_written (Settles k) q left did truly placed legal = at_end q _ did ([], sym (append-nil p.records), settled_comes k left)
+  act_written (Ticks asked) q left did truly placed legal = at_end q _ did.1 (_, refl, tick_comes asked did.0 left (legal_end q _ did.1 legal).0.answer_is)
+  act_written MakesPass q left did truly placed legal = at_end q _ did.4 (_, refl, pass_comes f valid p s ts tells due left did.0 did.1 did.2 did.3 (legal_end q _ did.4 legal))
+  act_written ReadsEpoch q left did truly placed legal = at_end q _ did.1 ([], sym (append-nil p.records), read_comes did.0 left)
+  act_written (StopsIdle k n) q left (inl so) truly placed legal = at_end q _ so.4 (_, refl, idle_comes k n so.1 so.2 placed so.0 so.3 (legal_end q _ so.4 legal) left)
+  act_written (StopsIdle k n) q left (inr stays) truly placed legal = at_end q p stays.1 ([], sym (append-nil p.records), busy_comes k n placed stays.0 left)
+  act_written (Ends k) q left did truly placed legal = at_end q _ did.3 (_, refl, ended_comes k did.0 did.1 did.2 (legal_end q _ did.3 legal) left)
+  act_written (Lowers keeper) q left did truly placed legal = at_end q _ did.3 (_, refl, lowered_comes f valid p s ts tells due keeper did.0 did.1 did.2 (legal_end q _ did.3 legal) left)

@@ -67,7 +67,7 @@ module _ (f : Profile) (valid : IsValid f) (p : Progress) (s : Stand) (ts : List
         end = t;
         leads = on_as f s t t _ _ (ap (λ ms. lines_by (records_of (events_by k (part k p.list) ms) ++ said_by k a.said)) none ∙ ap (λ o. lines_by (said_by k o)) is) refl (on_both f s u t [] (line ∷ []) begun (on_line f u t line (inr (refl, refl))));
         tells = told_after p s t k a.steps a.cache a.names _ tells (tells.events ∙ ap (λ ms. visible (triples k ms ++ p.list)) (sym none)) (tells.names ∙ sym names)
-            (λ j. table_same (λ (d : Cached). d.log) p.caches k a.cache (ap (λ (d : Cached). d.log) cache) j ∙ tells.logs j) (ap (λ (d : Cached). d.idle_since) cache) refl refl (ap (λ ms. word_after (triples k ms ++ p.list) Word.Epoch) none) tidy;
+            (λ j. table_same (λ (d : Cached). d.log) p.caches k a.cache (ap (λ (d : Cached). d.log) cache) j ∙ tells.logs j) (ap (λ (d : Cached). d.idle_since) cache) refl refl refl (ap (λ ms. word_after (triples k ms ++ p.list) Word.Epoch) none) tidy;
         due = refl;
         left = refl;
       }
@@ -82,7 +82,7 @@ module _ (f : Profile) (valid : IsValid f) (p : Progress) (s : Stand) (ts : List
       record {
         end = t;
         leads = on_as f u t t _ _ (silent_lines k a.said rs silent) refl (flush_leads f valid p s tells k (p.caches k).noted a.cache.noted a.steps h.0 legal (entry ∷ []) [] ts);
-        tells = told_after p s t k a.steps a.cache a.names _ tells refl (tells.names ∙ sym names) (logs_with p s k a.cache (entry ∷ []) tells (log ∙ ap (λ es. es ++ logged_as entry ∷ []) h.1)) idle refl refl
+        tells = told_after p s t k a.steps a.cache a.names _ tells refl (tells.names ∙ sym names) (logs_with p s k a.cache (entry ∷ []) tells (log ∙ ap (λ es. es ++ logged_as entry ∷ []) h.1)) idle refl refl refl
             (epoch_kept freeing_kinds refl k a.steps p.list (flush_only k (p.caches k).log (p.caches k).noted a.cache.noted a.steps h.0)) tidy;
         due = refl;
         left = refl;
@@ -95,7 +95,7 @@ module _ (f : Profile) (valid : IsValid f) (p : Progress) (s : Stand) (ts : List
         end = t;
         leads = on_as f t t t _ _ (silent_lines k a.said rs silent ∙ ap (λ ms. lines_by (records_of (events_by k (part k p.list) ms))) h.0) refl (on_same f t t refl);
         tells = told_after p s t k a.steps a.cache a.names _ tells (tells.events ∙ ap (λ ms. visible (triples k ms ++ p.list)) (sym h.0)) (tells.names ∙ sym names)
-            (logs_with p s k a.cache more tells (log ∙ ap (λ es. es ++ logged_as entry ∷ []) (h.1 ∙ tells.logs k) ∙ sym (map-append logged_as (s.logs k) (entry ∷ [])))) idle refl refl (ap (λ ms. word_after (triples k ms ++ p.list) Word.Epoch) h.0) tidy;
+            (logs_with p s k a.cache more tells (log ∙ ap (λ es. es ++ logged_as entry ∷ []) (h.1 ∙ tells.logs k) ∙ sym (map-append logged_as (s.logs k) (entry ∷ [])))) idle refl refl refl (ap (λ ms. word_after (triples k ms ++ p.list) Word.Epoch) h.0) tidy;
         due = refl;
         left = refl;
       }

@@ -1,6 +1,7 @@
 mod Going
 mod Pieces
 mod LogEntries
+mod GuardsInBooks
 mod Telling
 mod FlushKinds
 mod SizedEnds
@@ -13,8 +14,11 @@ mod Stopping
 mod Frees
 mod Remakes
 mod Operations
+mod Sweeps
+mod Guarding
 mod Acts
 mod Order
 mod Reports
+mod Regions
 pub mod OnePlan
 pub mod Whole

@@ -1,5 +1,6 @@
 -- A thread's operation, by what it asks for.
 use Rattle.std.proofs.Common.{◌≡◌, ℕ, List, [], ◌∷◌, ◌++◌, None, Some, refl, ap, sym, ◌∙◌, Option}
+use Rattle.std.specs.Prelude.{MatchResult}
 use Rattle.pas_profile.specs.Profiles.{IsValid}
 use Rattle.pas_profile.specs.declared.profile.Profile.{Profile}
 use Rattle.pas_steps.specs.Desks.{triples}
@@ -7,11 +8,12 @@ use Rattle.pas_steps.specs.Events.{events_by}
 use Rattle.pas_steps.specs.Lists.{Legal, part, visible}
 use Rattle.pas_free_log.specs.Frames.{freeing}
 use Rattle.pas_cache.specs.Caches.{Cached}
+use Rattle.pas_cache.specs.Refusals.{IsTrulyRefused}
 use Rattle.pas_report.specs.declared.record.Record.{Record}
 use Rattle.pas_trace.specs.declared.item.Request.{Request}
 use Rattle.pas_trace.specs.declared.plan.What.{What}
-use Rattle.pas_trace.specs.declared.plan.What.TheVariants.{Alloc, Free, FreeSized, Raw, RawSized, Remake, Flush, Stop, Tick, Pass, Idle}
-use Rattle.pas_answers.specs.Answers.{Answer, IsAnswered, IsFreedBy, Progress, after_answer, having, records_of, room_noted, said_by}
+use Rattle.pas_trace.specs.declared.plan.What.TheVariants.{Alloc, Guarded, Free, FreeSized, Raw, RawSized, Remake, Flush, Stop, Tick, Pass, Idle}
+use Rattle.pas_answers.specs.Answers.{Answer, IsAnswered, IsFreedBy, IsServed, Progress, after_answer, having, records_of, room_noted, said_by, wanted_by}
 use Rattle.pas_trace.specs.Named.{standing_for}
 use Rattle.pas_answers.specs.Refusals.{RefusesTruly}
 use Rattle.pas_answers.proofs.Tidy.{Tidy, answer_tidy}
@@ -42,11 +44,10 @@ module _ (f : Profile) (valid : IsValid f) (p : Progress) (s : Stand) (ts : List
       freed_comes f valid p s ts tells k a same tidy legal name room (standing_for p.names name) is
       (on_as f s _ _ [] [] refl (ap (λ x. record (freeing_named f s k name (room_noted room) x) { left = ts }) (sym (ap (λ ns. standing_for ns name) tells.names))) begun)
 
-  -- THE OPERATION
-  pub what_comes : (what : What) (is : IsAnswered f k what (having p.names (part k p.list) (p.caches k)) a) → RefusesTruly f k what (having p.names (part k p.list) (p.caches k)) a is p.list → LeadsOn f s [] (record (begun_what f s k what) { left = ts })
-      → Comes f s (records_of (events_by k (part k p.list) a.steps) ++ said_by k a.said) (after_answer p k a) ts
-  what_comes (Alloc name heap size align) is truly begun =
-      let r : Request = record { name = name; heap = heap; size = size; align = align } in
+  -- a request
+  request_comes : (r : Request) (is : IsServed f k r (having p.names (part k p.list) (p.caches k)) a) → MatchResult is.answer (λ block. Unit {0}) (IsTrulyRefused f (wanted_by f r) (p.caches k).locals p.list (triples k a.steps ++ p.list))
+      → LeadsOn f s [] (record s { due = Serves k r None ∷ []; left = ts }) → Comes f s (records_of (events_by k (part k p.list) a.steps) ++ said_by k a.said) (after_answer p k a) ts
+  request_comes r is truly begun =
       let w : Stand = record s { left = ts } in
       let u : Stand = record s { due = Serves k r None ∷ []; left = ts } in
       let end : Stand = asked_then f p s ts tells k r a is legal in
@@ -60,6 +61,12 @@ module _ (f : Profile) (valid : IsValid f) (p : Progress) (s : Stand) (ts : List
         due = refl;
         left = refl;
       }
+
+  -- THE OPERATION
+  pub what_comes : (what : What) (is : IsAnswered f k what (having p.names (part k p.list) (p.caches k)) a) → RefusesTruly f k what (having p.names (part k p.list) (p.caches k)) a is p.list → LeadsOn f s [] (record (begun_what f s k what) { left = ts })
+      → Comes f s (records_of (events_by k (part k p.list) a.steps) ++ said_by k a.said) (after_answer p k a) ts
+  what_comes (Alloc name heap size align) is truly begun = request_comes (record { name = name; heap = heap; size = size; align = align }) is truly begun
+  what_comes (Guarded keeper name heap size align) is truly begun = request_comes (record { name = name; heap = heap; size = size; align = align }) is truly begun
   what_comes (Free name) is truly begun = named_comes name None is.0 is.1 (tidy_of (Free name) is) begun
   what_comes (FreeSized name room) is truly begun = named_comes name (Some room) is.0 is.1 (tidy_of (FreeSized name room) is) begun
   what_comes (Raw block) is truly begun = free_comes f valid p s ts tells k a is.1 (tidy_of (Raw block) is) legal (unsized block) is.0 begun
@@ -75,7 +82,7 @@ module _ (f : Profile) (valid : IsValid f) (p : Progress) (s : Stand) (ts : List
       record {
         end = end;
         leads = on_as f s end end _ _ (silent_lines k a.said rs is.1) refl (on_both f s u end [] (lines_by rs) begun (flush_leads f valid p s tells k (p.caches k).noted a.cache.noted a.steps h legal [] [] ts));
-        tells = told_after p s end k a.steps a.cache a.names _ tells refl (tells.names ∙ sym is.2) (logs_with p s k a.cache [] tells (ap (λ (d : Cached). d.log) is.0.cache)) (ap (λ (d : Cached). d.idle_since) is.0.cache) refl refl
+        tells = told_after p s end k a.steps a.cache a.names _ tells refl (tells.names ∙ sym is.2) (logs_with p s k a.cache [] tells (ap (λ (d : Cached). d.log) is.0.cache)) (ap (λ (d : Cached). d.idle_since) is.0.cache) refl refl refl
             (epoch_kept freeing refl k a.steps p.list (flush_only k (p.caches k).log (p.caches k).noted a.cache.noted a.steps h)) (tidy_of Flush is);
         due = refl;
         left = refl;
@@ -87,7 +94,7 @@ module _ (f : Profile) (valid : IsValid f) (p : Progress) (s : Stand) (ts : List
       record {
         end = end;
         leads = on_as f s end end _ _ (silent_lines k a.said rs is.1) refl (on_both f s u end [] (lines_by rs) begun (stop_leads f valid p s tells k a.cache a.steps is.0 legal [] ts));
-        tells = stop_tells f valid p s tells k a.cache a.steps is.0 legal a.names _ end refl (tells.names ∙ sym is.2) refl refl refl;
+        tells = stop_tells f valid p s tells k a.cache a.steps is.0 legal a.names _ end refl (tells.names ∙ sym is.2) refl refl refl refl;
         due = refl;
         left = refl;
       }

@@ -1,11 +1,11 @@
--- Whenever a thread may be stopped as idle, the scavenger read the epoch just before.
-use Rattle.std.proofs.Common.{◌≡◌, ℕ, ◌+◌, Bool, true, false, List, [], ◌∷◌, ◌++◌, inl, inr, refl, sym, ◌∙◌, subst, append_assoc, true≢false}
-use Rattle.std.specs.Prelude.{map}
+-- Acts stand in their places: whenever a thread may be stopped as idle, the scavenger read the epoch just before; and a keeper acts only for requests whose guards it keeps.
+use Rattle.std.proofs.Common.{◌≡◌, ℕ, ◌+◌, Bool, true, false, List, [], ◌∷◌, ◌++◌, inl, inr, refl, ap, sym, ◌∙◌, subst, append_assoc, true≢false}
+use Rattle.std.specs.Prelude.{map, Option, None, Some}
 use Rattle.pas_profile.specs.declared.profile.Profile.{Profile}
 use Rattle.pas_profile.specs.declared.word.Word.TheVariants as Word
 use Rattle.pas_steps.specs.Lists.{Legal, word_after}
-use Rattle.pas_trace.specs.Acts.{Act, ReadsEpoch, StopsIdle, Wakes, Ends, active_threads, acts_from, acts_of, acts_of_chore, acts_of_op, acts_of_ops, acts_of_work, close_acts, idle_stops, idle_threads, numbers_from, phase_acts}
-use Rattle.pas_trace.specs.Asked.{work_of}
+use Rattle.pas_trace.specs.Acts.{Act, Guards, ReadsEpoch, Settles, StopsIdle, Wakes, Ends, Lowers, act_kept, active_threads, acts_from, acts_of, acts_of_chore, acts_of_op, acts_of_ops, acts_of_work, close_acts, idle_stops, idle_threads, numbers_from, phase_acts}
+use Rattle.pas_trace.specs.Asked.{keeper_in, keeper_of, of_task, work_of}
 use Rattle.pas_trace.specs.declared.plan.Chore.{Chore}
 use Rattle.pas_trace.specs.declared.plan.Op.{Op}
 use Rattle.pas_trace.specs.declared.plan.Work.{Work}
@@ -13,7 +13,7 @@ use Rattle.pas_free_log.specs.Frames.{freeing}
 use Rattle.pas_answers.specs.Answers.{Progress}
 use Rattle.pas_answers.specs.Reaching.{Advances}
 use Rattle.pas_check.proofs.Ticks.{epoch_kept}
-use Rattle.pas_accepted.proofs.Acts.{ReadsWell}
+use Rattle.pas_accepted.proofs.Acts.{IsInPlace}
 use Rattle.pas_accepted.proofs.FlushKinds.{stop_only}
 
 -- ---- whether the epoch that the scavenger read is known to be that of the word
@@ -22,20 +22,22 @@ read_after known ReadsEpoch = true
 read_after known (StopsIdle k n) = known
 read_after known act = false
 
-abbrev pub IsReadFor : Bool → Act → Type 0
-IsReadFor known (StopsIdle k n) = known ≡ true
-IsReadFor known act = Unit {0}
+abbrev pub MayStand : Bool → Act → Type 0
+MayStand known (StopsIdle k n) = known ≡ true
+MayStand known (Guards keeper op) = keeper_in op.what ≡ Some keeper
+MayStand known act = Unit {0}
 
-abbrev pub AreRead : Bool → List Act → Type 0
-AreRead known [] = Unit {0}
-AreRead known (act ∷ acts) = IsReadFor known act × AreRead (read_after known act) acts
+abbrev pub AreInPlace : Bool → List Act → Type 0
+AreInPlace known [] = Unit {0}
+AreInPlace known (act ∷ acts) = MayStand known act × AreInPlace (read_after known act) acts
 
 abbrev pub IsRead : Bool → Progress → Type 0
 IsRead known p = known ≡ true → p.epoch ≡ word_after p.list Word.Epoch
 
-pub reads_well : (known : Bool) (act : Act) (p : Progress) → IsReadFor known act → IsRead known p → ReadsWell act p
-reads_well known (StopsIdle k n) p is read = read is
-reads_well known act p is read = tt
+pub in_place : (known : Bool) (act : Act) (p : Progress) → MayStand known act → IsRead known p → IsInPlace act p
+in_place known (StopsIdle k n) p is read = read is
+in_place known (Guards keeper op) p is read = is
+in_place known act p is read = tt
 
 never : {A : Type 0} → false ≡ true → A
 never is = absurd (true≢false (sym is))
@@ -51,9 +53,9 @@ still_read f known act p q did legal read = never
 
 -- ---- it is so in the acts of every plan
 abbrev Anyhow : List Act → Type 0
-Anyhow acts = (known : Bool) → AreRead known acts
+Anyhow acts = (known : Bool) → AreInPlace known acts
 
-stops_on : (n : ℕ) (idle : List ℕ) (rest : List Act) → Anyhow rest → AreRead true (idle_stops n idle ++ rest)
+stops_on : (n : ℕ) (idle : List ℕ) (rest : List Act) → Anyhow rest → AreInPlace true (idle_stops n idle ++ rest)
 stops_on n [] rest on = on true
 stops_on n (k ∷ idle) rest on = (refl, stops_on n idle rest on)
 
@@ -62,14 +64,18 @@ chore_on idle (Chore.Tick epoch) rest on known = (tt, on false)
 chore_on idle Chore.Pass rest on known = (tt, on false)
 chore_on idle (Chore.Idle n) rest on known = (tt, stops_on n idle rest on)
 
-work_on : (idle : List ℕ) (op : Op) (work : Work) (rest : List Act) → Anyhow rest → Anyhow (acts_of_work idle op work ++ rest)
-work_on idle op (Work.Own task) rest on known = (tt, (tt, on false))
-work_on idle op (Work.Chore chore) rest on known = chore_on idle chore rest on known
+own_on : (keeper : Option ℕ) (op : Op) (rest : List Act) → keeper_in op.what ≡ keeper → Anyhow rest → Anyhow (act_kept keeper op ∷ (Settles op.actor ∷ rest))
+own_on None op rest kept on known = (tt, (tt, on false))
+own_on (Some keeper) op rest kept on known = (kept, (tt, on false))
+
+work_on : (idle : List ℕ) (op : Op) (work : Work) (rest : List Act) → work_of op.what ≡ work → Anyhow rest → Anyhow (acts_of_work idle op work ++ rest)
+work_on idle op (Work.Own task) rest is on known = own_on (keeper_of task) op rest (ap (of_task keeper_of) is) on known
+work_on idle op (Work.Chore chore) rest is on known = chore_on idle chore rest on known
 
 ops_on : (idle : List ℕ) (ops : List Op) (rest : List Act) → Anyhow rest → Anyhow (acts_of_ops idle ops ++ rest)
 ops_on idle [] rest on known = on known
 ops_on idle (op ∷ ops) rest on known =
-    subst (AreRead known) (sym (append_assoc (acts_of_op idle op) (acts_of_ops idle ops) rest)) (work_on idle op (work_of op.what) (acts_of_ops idle ops ++ rest) (ops_on idle ops rest on) known)
+    subst (AreInPlace known) (sym (append_assoc (acts_of_op idle op) (acts_of_ops idle ops) rest)) (work_on idle op (work_of op.what) (acts_of_ops idle ops ++ rest) refl (ops_on idle ops rest on) known)
 
 wakes_on : (ks : List ℕ) (rest : List Act) → Anyhow rest → Anyhow (map Wakes ks ++ rest)
 wakes_on [] rest on known = on known
@@ -78,19 +84,23 @@ wakes_on (k ∷ ks) rest on known = (tt, wakes_on ks rest on false)
 phase_on : (threads : ℕ) (ops : List Op) (rest : List Act) → Anyhow rest → Anyhow (phase_acts threads ops ++ rest)
 phase_on threads ops rest on known =
     let idle : List ℕ = idle_threads threads ops in
-    subst (AreRead known) (sym (append_assoc (map Wakes (active_threads threads ops)) (acts_of_ops idle ops) rest)) (wakes_on (active_threads threads ops) (acts_of_ops idle ops ++ rest) (ops_on idle ops rest on) known)
+    subst (AreInPlace known) (sym (append_assoc (map Wakes (active_threads threads ops)) (acts_of_ops idle ops) rest)) (wakes_on (active_threads threads ops) (acts_of_ops idle ops ++ rest) (ops_on idle ops rest on) known)
 
-ends_on : (ks : List ℕ) → Anyhow (map Ends ks)
-ends_on [] known = tt
-ends_on (k ∷ ks) known = (tt, ends_on ks false)
+lowers_on : (ks : List ℕ) → Anyhow (map Lowers ks)
+lowers_on [] known = tt
+lowers_on (k ∷ ks) known = (tt, lowers_on ks false)
 
-close_on : (threads : ℕ) → Anyhow (close_acts threads)
-close_on threads known = (tt, ends_on (numbers_from 1 threads) false)
+ends_on : (ks : List ℕ) (rest : List Act) → Anyhow rest → Anyhow (map Ends ks ++ rest)
+ends_on [] rest on known = on known
+ends_on (k ∷ ks) rest on known = (tt, ends_on ks rest on false)
 
-from_on : (threads n : ℕ) (phases : List (List Op)) → Anyhow (acts_from threads n phases)
-from_on threads n [] known = close_on threads known
-from_on threads n (phase ∷ phases) known = (tt, phase_on threads phase (acts_from threads (n + 1) phases) (from_on threads (n + 1) phases) false)
+close_on : (threads keepers : ℕ) → Anyhow (close_acts threads keepers)
+close_on threads keepers known = (tt, ends_on (numbers_from 1 threads) (map Lowers (numbers_from (threads + 1) keepers)) (lowers_on (numbers_from (threads + 1) keepers)) false)
 
-pub acts_read : (threads : ℕ) (phases : List (List Op)) (known : Bool) → AreRead known (acts_of threads phases)
-acts_read threads [] known = close_on threads known
-acts_read threads (phase ∷ phases) known = phase_on threads phase (acts_from threads 2 phases) (from_on threads 2 phases) known
+from_on : (threads keepers n : ℕ) (phases : List (List Op)) → Anyhow (acts_from threads keepers n phases)
+from_on threads keepers n [] known = close_on threads keepers known
+from_on threads keepers n (phase ∷ phases) known = (tt, phase_on threads phase (acts_from threads keepers (n + 1) phases) (from_on threads keepers (n + 1) phases) false)
+
+pub acts_in_place : (threads keepers : ℕ) (phases : List (List Op)) (known : Bool) → AreInPlace known (acts_of threads keepers phases)
+acts_in_place threads keepers [] known = close_on threads keepers known
+acts_in_place threads keepers (phase ∷ phases) known = phase_on threads phase (acts_from threads keepers 2 phases) (from_on threads keepers 2 phases) known

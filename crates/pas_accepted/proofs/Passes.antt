@@ -59,6 +59,7 @@ module _ (f : Profile) (valid : IsValid f) (p : Progress) (s : Stand) (ts : List
           logs = tells.logs;
           awake = tells.awake;
           epoch = tells.epoch ∙ sym (epoch_kept passing refl 0 steps p.list h.kinds);
+          books = tells.books;
           tidy = tidy_piece 0 steps p.list tells.tidy (tidy_over passing refl steps (part 0 p.list) h.kinds (tells.tidy 0));
         };
         due = refl;

@@ -58,11 +58,11 @@ module _ (f : Profile) (p : Progress) (s : Stand) (ts : List Task) (tells : Tell
   abbrev pub asked_then : Stand
   asked_then = record s { events = visible (triples k placed.steps ++ p.list); names = record { name = r.name; block = block_of is.answer } ∷ s.names; due = []; left = ts }
 
-  pub asked_tells : (records : List Record) → Tells record { names = placed.names; caches = with_cache p.caches k placed.cache; epoch = p.epoch; list = triples k placed.steps ++ p.list; records = records } asked_then
+  pub asked_tells : (records : List Record) → Tells record { names = placed.names; caches = with_cache p.caches k placed.cache; books = p.books; epoch = p.epoch; list = triples k placed.steps ++ p.list; records = records } asked_then
   asked_tells records = told_after p s asked_then k placed.steps placed.cache placed.names records tells refl
       (ap (λ ns. record { name = r.name; block = block_of is.answer } ∷ ns) tells.names ∙ sym is.names_are)
       (λ j. table_same (λ (d : Cached). d.log) p.caches k placed.cache (log_kept f (wanted_by f r) placed.found (p.caches k) placed.cache placed.steps is.answer (route_in f r.size r.align) is.serves) j ∙ tells.logs j)
-      (idle_kept f (wanted_by f r) placed.found (p.caches k) placed.cache placed.steps is.answer (route_in f r.size r.align) is.serves) refl refl (epoch_kept allocating refl k placed.steps p.list is.kinds)
+      (idle_kept f (wanted_by f r) placed.found (p.caches k) placed.cache placed.steps is.answer (route_in f r.size r.align) is.serves) refl refl refl (epoch_kept allocating refl k placed.steps p.list is.kinds)
       (answer_tidy f k (Alloc r.name r.heap r.size r.align) (having p.names (part k p.list) (p.caches k)) placed is (piece_of f k placed.steps p.list legal) (tells.tidy k))
 
 -- ---- tables
@@ -95,7 +95,7 @@ module _ (f : Profile) (valid : IsValid f) (p : Progress) (s : Stand) (ts : List
         end = t;
         leads = on_as f s t t _ _ (ap (λ ms. lines_by (records_of (events_by k (part k p.list) ms) ++ said_by k a.said)) none ∙ ap (λ o. lines_by (said_by k o)) is) refl (on_both f s u t [] (line ∷ []) begun (on_line f u t line (inr (refl, refl))));
         tells = told_after p s t k a.steps a.cache a.names _ tells (tells.events ∙ ap (λ ms. visible (triples k ms ++ p.list)) (sym none)) (ap (λ ns. record { name = name; block = found } ∷ ns) tells.names ∙ sym names)
-            (λ j. table_same (λ (d : Cached). d.log) p.caches k a.cache (ap (λ (d : Cached). d.log) cache) j ∙ tells.logs j) (ap (λ (d : Cached). d.idle_since) cache) refl refl (ap (λ ms. word_after (triples k ms ++ p.list) Word.Epoch) none) tidy;
+            (λ j. table_same (λ (d : Cached). d.log) p.caches k a.cache (ap (λ (d : Cached). d.log) cache) j ∙ tells.logs j) (ap (λ (d : Cached). d.idle_since) cache) refl refl refl (ap (λ ms. word_after (triples k ms ++ p.list) Word.Epoch) none) tidy;
         due = refl;
         left = refl;
       }
@@ -103,13 +103,14 @@ module _ (f : Profile) (valid : IsValid f) (p : Progress) (s : Stand) (ts : List
   -- ---- another block in its place
   -- what is known after other steps, tables and names that are the same
   tells_as : (names names' : List Named) (caches caches' : Caches) (list list' : Whole) (epoch epoch' : ℕ) (records records' : List Record) (t : Stand) → names' ≡ names → caches' ≡ caches → list' ≡ list
-      → Tells record { names = names; caches = caches; epoch = epoch; list = list; records = records } t → Tells record { names = names'; caches = caches'; epoch = epoch'; list = list'; records = records' } t
+      → Tells record { names = names; caches = caches; books = p.books; epoch = epoch; list = list; records = records } t → Tells record { names = names'; caches = caches'; books = p.books; epoch = epoch'; list = list'; records = records' } t
   tells_as names names' caches caches' list list' epoch epoch' records records' t same_names same_caches same_list known_there = record {
     events = known_there.events ∙ ap visible (sym same_list);
     names = known_there.names ∙ sym same_names;
     logs = λ j. ap (λ (cs : Caches). (cs j).log) same_caches ∙ known_there.logs j;
     awake = λ j. known_there.awake j ∙ ap (λ (cs : Caches). (cs j).idle_since) (sym same_caches);
     epoch = known_there.epoch ∙ ap (λ (l : Whole). word_after l Word.Epoch) (sym same_list);
+    books = known_there.books;
     tidy = subst (Each Tidy) (sym same_list) known_there.tidy;
   }
 

@@ -67,7 +67,7 @@ directory_told (Some x) d is all word = ap (λ y. Some y) (same_from_deed_word x
 deed_told : (f : Profile) (l : Whole) (page : ℕ) (d : Directory) → Legal f l → IsKind d.kind → word_after l (Word.Deed page) ≡ deed_word_of d → deed_in (visible l) page ≡ Some d
 deed_told f l page d legal is word = directory_told (deed_in (visible l) page) d is (λ x found. (directory_is_of f l legal page x found).kind) (sym (deed_of f l legal page) ∙ word)
 
-deed_known : (f : Profile) (l : Whole) (k page : ℕ) (d : Directory) → Legal f l → IsKind d.kind → KnowsDeed page d (part k l) → deed_in (visible l) page ≡ Some d
+pub deed_known : (f : Profile) (l : Whole) (k page : ℕ) (d : Directory) → Legal f l → IsKind d.kind → KnowsDeed page d (part k l) → deed_in (visible l) page ≡ Some d
 deed_known f l k page d legal is knows =
     let some : known_deed (part k l) page ≢ 0 = λ none. deed_word_of-positive d (sym knows ∙ none) in
     deed_told f l page d legal is (sym (known_is (known_deed (part k l) page) (word_after l (Word.Deed page)) (deeds_known f l legal k page) some) ∙ knows)
@@ -81,7 +81,7 @@ prepared_by : (k : ℕ) (d : Directory) (e : Event) → Prepares d e → actor_o
 prepared_by k d e (Prepares.Deeds j page) own = inl (page, ap (λ i. Event.Deed i page d) own)
 prepared_by k d e (Prepares.Backs j page) own = inr (page, ap (λ i. Event.Back i page) own)
 
-all_prepared : (k : ℕ) (d : Directory) (es : List Event) → AllByRecursion (Prepares d) es → AllByRecursion (λ e. actor_of e ≡ k) es → AllByRecursion (IsPreparing k d) es
+pub all_prepared : (k : ℕ) (d : Directory) (es : List Event) → AllByRecursion (Prepares d) es → AllByRecursion (λ e. actor_of e ≡ k) es → AllByRecursion (IsPreparing k d) es
 all_prepared k d [] all own = tt
 all_prepared k d (e ∷ es) all own = (prepared_by k d e all.0 own.0, all_prepared k d es all.1 own.1)
 
@@ -97,7 +97,7 @@ prepares_lead f w k r replaced (e ∷ es) all run =
 deeds_prepare : (d : Directory) (e : Event) → IsDeedOf d e → Prepares d e
 deeds_prepare d e (IsDeedOf.Deeds k page) = Prepares.Deeds k page
 
-all_deeds : (d : Directory) (es : List Event) → AllByRecursion (IsDeedOf d) es → AllByRecursion (Prepares d) es
+pub all_deeds : (d : Directory) (es : List Event) → AllByRecursion (IsDeedOf d) es → AllByRecursion (Prepares d) es
 all_deeds d [] all = tt
 all_deeds d (e ∷ es) all = (deeds_prepare d e all.0, all_deeds d es all.1)
 

@@ -52,8 +52,8 @@ module _ (f : Profile) (valid : IsValid f) (p : Progress) (s : Stand) (tells : T
       on_as f u (emptied p s k h.flushed [] more ts) (emptied p s k steps [] more ts) _ _ (ap (λ es. lines_by (records_of es)) events_are) (ap (λ es. record u { events = es; due = more }) same_visible)
       (flush_leads f valid p s tells k (p.caches k).noted c.noted h.flushed h.empties flush_legal [] more ts)
 
-  pub stop_tells : (names : List Named) (records : List Record) (t : Stand) → t.events ≡ visible (triples k steps ++ p.list) → t.names ≡ names → t.logs ≡ with_at s.logs k [] → t.idle_since ≡ s.idle_since → t.epoch ≡ s.epoch
-      → Tells record { names = names; caches = with_cache p.caches k c; epoch = p.epoch; list = triples k steps ++ p.list; records = records } t
-  stop_tells names records t events named logs awake epoch =
+  pub stop_tells : (names : List Named) (records : List Record) (t : Stand) → t.events ≡ visible (triples k steps ++ p.list) → t.names ≡ names → t.logs ≡ with_at s.logs k [] → t.idle_since ≡ s.idle_since → t.epoch ≡ s.epoch → t.guards ≡ s.guards
+      → Tells record { names = names; caches = with_cache p.caches k c; books = p.books; epoch = p.epoch; list = triples k steps ++ p.list; records = records } t
+  stop_tells names records t events named logs awake epoch guards =
       told_after p s t k steps c names records tells events named (λ j. logs_with p s k c [] tells (ap (λ (d : Cached). d.log) h.cache) j ∙ ap (λ (table : ℕ → List Known). map logged_as (table j)) (sym logs))
-      (ap (λ (d : Cached). d.idle_since) h.cache) awake epoch (epoch_kept freeing refl k steps p.list (stop_only k (p.caches k) c steps h)) (stop_tidy f k (p.caches k) c steps (part k p.list) (piece_of f k steps p.list legal) h (tells.tidy k))
+      (ap (λ (d : Cached). d.idle_since) h.cache) awake epoch guards (epoch_kept freeing refl k steps p.list (stop_only k (p.caches k) c steps h)) (stop_tidy f k (p.caches k) c steps (part k p.list) (piece_of f k steps p.list legal) h (tells.tidy k))

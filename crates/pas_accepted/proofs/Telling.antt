@@ -17,17 +17,19 @@ use Rattle.pas_answers.proofs.Parts.{Each, legal_part, of_front}
 use Rattle.pas_answers.proofs.Tidy.{Tidy}
 use Rattle.pas_check.specs.States.{Stand, Task}
 use Rattle.pas_accepted.proofs.Going.{LeadsOn}
+use Rattle.pas_accepted.proofs.GuardsInBooks.{AreBooked, booked_as}
 use Rattle.pas_accepted.proofs.LogEntries.{logged_as}
 use Rattle.pas_accepted.proofs.Pieces.{lines_by, table_same}
 
 -- The events so far are those that are visible in the list, the names and the logs are the replay's, the threads read their epochs at the same places,
--- and the greatest tick is the epoch. Nobody has an unstamped page.
+-- and the greatest tick is the epoch. The guards are those in the keepers' books. Nobody has an unstamped page.
 pub record Tells (p : Progress) (s : Stand) : Type 0 where
   pub events : s.events ≡ visible p.list
   pub names : s.names ≡ p.names
   pub logs : (k : ℕ) → (p.caches k).log ≡ map logged_as (s.logs k)
   pub awake : (k : ℕ) → s.idle_since k ≡ (p.caches k).idle_since
   pub epoch : s.epoch ≡ word_after p.list Word.Epoch
+  pub books : AreBooked p.books s.guards
   pub tidy : Each Tidy p.list
 
 -- The lines of these records lead on to a state in which nothing is due, these tasks are left, and what is known is what the replay has come to.
@@ -44,14 +46,15 @@ piece_of f k steps l legal = of_front f steps (part k l) (subst (AreOfRegion f) 
 
 -- after a piece of actor k, whose cache holds c then
 pub told_after : (p : Progress) (s t : Stand) (k : ℕ) (steps : List Made) (c : Cached) (names : List Named) (records : List Record) → Tells p s → t.events ≡ visible (triples k steps ++ p.list) → t.names ≡ names
-    → ((j : ℕ) → (with_cache p.caches k c j).log ≡ map logged_as (t.logs j)) → c.idle_since ≡ (p.caches k).idle_since → t.idle_since ≡ s.idle_since → t.epoch ≡ s.epoch
+    → ((j : ℕ) → (with_cache p.caches k c j).log ≡ map logged_as (t.logs j)) → c.idle_since ≡ (p.caches k).idle_since → t.idle_since ≡ s.idle_since → t.epoch ≡ s.epoch → t.guards ≡ s.guards
     → word_after (triples k steps ++ p.list) Word.Epoch ≡ word_after p.list Word.Epoch → Tidy (steps ++ part k p.list)
-    → Tells record { names = names; caches = with_cache p.caches k c; epoch = p.epoch; list = triples k steps ++ p.list; records = records } t
-told_after p s t k steps c names records tells events named logs idle awake epoch still tidy = record {
+    → Tells record { names = names; caches = with_cache p.caches k c; books = p.books; epoch = p.epoch; list = triples k steps ++ p.list; records = records } t
+told_after p s t k steps c names records tells events named logs idle awake epoch guards still tidy = record {
   events = events;
   names = named;
   logs = logs;
   awake = λ j. ap (λ (table : ℕ → ℕ). table j) awake ∙ tells.awake j ∙ sym (table_same (λ (d : Cached). d.idle_since) p.caches k c idle j);
   epoch = epoch ∙ tells.epoch ∙ sym still;
+  books = booked_as p.books s.guards t.guards guards tells.books;
   tidy = tidy_piece k steps p.list tells.tidy tidy;
 }

@@ -6,7 +6,7 @@ use Rattle.pas_profile.specs.declared.event.Event.{Event}
 use Rattle.pas_profile.specs.declared.profile.Profile.{Profile}
 use Rattle.pas_core.proofs.OneActor.{legal_before}
 use Rattle.pas_steps.specs.Lists.{Legal, Whole, visible}
-use Rattle.pas_trace.specs.Acts.{Act, acts_of}
+use Rattle.pas_trace.specs.Acts.{Act}
 use Rattle.pas_trace.specs.declared.plan.Plan.{Plan}
 use Rattle.pas_report.specs.Lines.{lines_of}
 use Rattle.pas_report.specs.Marks.{Marked, marks_after}
@@ -16,7 +16,7 @@ use Rattle.pas_report.specs.declared.record.Record.{Record}
 use Rattle.pas_answers.specs.Answers.{Progress}
 use Rattle.pas_answers.specs.Reaching.{Reaches}
 use Rattle.pas_answers.specs.Refusals.{AllRefuseTruly}
-use Rattle.pas_answers.specs.Replays.{IsReplay, at_start, phases_of, threads_of}
+use Rattle.pas_answers.specs.Replays.{IsReplay, acts_of_plan, at_start, keepers_of, phases_of, region_of, threads_of}
 use Rattle.pas_answers.specs.Ways.{InOrder}
 use Rattle.pas_answers.proofs.Reached.{was_so}
 use Rattle.pas_check.specs.Accepted.{IsAccepted, IsWhole}
@@ -25,8 +25,9 @@ use Rattle.pas_check.specs.States.{Does, Reports, Stand, Task, at_first}
 use Rattle.pas_check.proofs.Cuts.{cut_records}
 use Rattle.pas_accepted.proofs.Acts.{Written, act_written}
 use Rattle.pas_accepted.proofs.Going.{on_as, on_both, on_same}
-use Rattle.pas_accepted.proofs.Order.{AreRead, IsRead, acts_read, read_after, reads_well, still_read}
+use Rattle.pas_accepted.proofs.Order.{AreInPlace, IsRead, acts_in_place, read_after, in_place, still_read}
 use Rattle.pas_accepted.proofs.Pieces.{lines_both, lines_by}
+use Rattle.pas_accepted.proofs.Regions.{whole_in}
 use Rattle.pas_accepted.proofs.Reports.{cut_report, report_lines, report_whole}
 use Rattle.pas_accepted.proofs.Telling.{Comes, Tells}
 
@@ -49,24 +50,24 @@ written_both f p q r s us ts one rest = (
 )
 
 acts_written : (f : Profile) → IsValid f → (acts : List Act) (known : Bool) (p q : Progress) (s : Stand) (ts : List Task) → Tells p s → s.due ≡ [] → s.left ≡ map Does acts ++ ts → (is : Reaches f acts p q) → AllRefuseTruly f acts p q is
-    → AreRead known acts → IsRead known p → Legal f q.list → Written f p s q ts
+    → AreInPlace known acts → IsRead known p → Legal f q.list → Written f p s q ts
 acts_written f valid [] known p q s ts tells due left is truly are read legal = written_none f p q s ts tells due left is
 acts_written f valid (act ∷ acts) known p q s ts tells due left is truly are read legal =
     let next : Progress = is.0 in
     let more : List Task = map Does acts ++ ts in
     let there : Legal f next.list = was_so f (Legal f) (legal_before f) acts next q is.2 legal in
-    let one : Written f p s next more = act_written f valid p s more tells due act next left is.1 truly.0 (reads_well known act p are.0 read) there in
+    let one : Written f p s next more = act_written f valid p s more tells due act next left is.1 truly.0 (in_place known act p are.0 read) there in
     written_both f p next q s more ts one
     (acts_written f valid acts (read_after known act) next q one.2.end ts one.2.tells one.2.due one.2.left is.2 truly.1 are.1 (still_read f known act p next is.1 there read) legal)
 
 -- ---- before the first act
 first_tells : (plan : Plan) → Tells at_start (at_first plan)
-first_tells plan = record { events = refl; names = refl; logs = λ k. refl; awake = λ k. refl; epoch = refl; tidy = λ k. record { kept = tt; stamped = λ page. refl } }
+first_tells plan = record { events = refl; names = refl; logs = λ k. refl; awake = λ k. refl; epoch = refl; books = record { told = λ j. refl; aligned = λ j. tt }; tidy = λ k. record { kept = tt; stamped = λ page. refl } }
 
-pub acts_of_replay : (plan : Plan) (whole : Whole) (records : List Record) → IsValid plan.profile → (is : IsReplay InOrder plan whole records) → Written plan.profile at_start (at_first plan) is.reached (Reports ∷ [])
+pub acts_of_replay : (plan : Plan) (whole : Whole) (records : List Record) → IsValid (region_of plan) → (is : IsReplay InOrder plan whole records) → Written (region_of plan) at_start (at_first plan) is.reached (Reports ∷ [])
 acts_of_replay plan whole records valid is =
-    acts_written plan.profile valid (acts_of (threads_of plan) (phases_of plan)) false at_start is.reached (at_first plan) (Reports ∷ []) (first_tells plan) refl refl is.answers is.refusals (acts_read (threads_of plan) (phases_of plan) false)
-    (λ bad. absurd (true≢false (sym bad))) (subst (Legal plan.profile) is.one_order is.legal)
+    acts_written (region_of plan) valid (acts_of_plan plan) false at_start is.reached (at_first plan) (Reports ∷ []) (first_tells plan) refl refl is.answers is.refusals (acts_in_place (threads_of plan) (keepers_of plan) (phases_of plan) false)
+    (λ bad. absurd (true≢false (sym bad))) (subst (Legal (region_of plan)) is.one_order is.legal)
 
 -- the report comes after them
 reported : (f : Profile) (s : Stand) (q : Progress) (whole : Whole) (rs : List Record) → AreTrueMarks f whole → whole ≡ q.list → Comes f s rs q (Reports ∷ []) → IsWhole f s (lines_by rs ++ report_lines f (visible whole) (marks_after whole))
@@ -82,5 +83,6 @@ transcript_whole f s q whole records marks order same written =
     (subst (λ (rs : List Record). IsWhole f s (lines_by rs ++ report_lines f (visible whole) (marks_after whole))) (sym (same ∙ written.1)) (reported f s q whole written.0 marks order written.2))
 
 -- EVERY TRANSCRIPT of a replay in the order of the text is accepted
-pub replay_accepted : (plan : Plan) (whole : Whole) (records : List Record) → IsValid plan.profile → IsReplay InOrder plan whole records → IsAccepted plan (lines_of records ++ report_text plan.profile (visible whole) (marks_after whole))
-replay_accepted plan whole records valid is = transcript_whole plan.profile (at_first plan) is.reached whole records is.marks is.one_order is.records_are (acts_of_replay plan whole records valid is)
+pub replay_accepted : (plan : Plan) (whole : Whole) (records : List Record) → IsValid (region_of plan) → IsReplay InOrder plan whole records → IsAccepted plan (lines_of records ++ report_text plan.profile (visible whole) (marks_after whole))
+replay_accepted plan whole records valid is = whole_in plan.profile (region_of plan).threads (at_first plan) (lines_in (lines_of records ++ report_text plan.profile (visible whole) (marks_after whole)))
+    (transcript_whole (region_of plan) (at_first plan) is.reached whole records is.marks is.one_order is.records_are (acts_of_replay plan whole records valid is))

@@ -7,13 +7,13 @@ ghost use Rattle.pas_report.specs.Lines.{lines_of};
 ghost use Rattle.pas_report.specs.Marks.{marks_after};
 ghost use Rattle.pas_report.specs.Reports.{report_text};
 ghost use Rattle.pas_report.specs.declared.record.Record.{Record};
-ghost use Rattle.pas_answers.specs.Replays.{IsReplay};
+ghost use Rattle.pas_answers.specs.Replays.{IsReplay, region_of};
 ghost use Rattle.pas_answers.specs.Ways.{InOrder};
 ghost use Rattle.pas_check.specs.Accepted.{IsAccepted};
 
 /// The transcript of a replay in the order of the text is accepted: the lines of its records, and then the report of the machine that the visible events of
 /// its list reach, with the marks that the words after the list say.
 pub fn replays_are_accepted()
-    ensures { (plan : Plan) (whole : Whole) (records : List Record) → IsValid plan.profile → IsReplay InOrder plan whole records
+    ensures { (plan : Plan) (whole : Whole) (records : List Record) → IsValid (region_of plan) → IsReplay InOrder plan whole records
         → IsAccepted plan (lines_of records ++ report_text plan.profile (visible whole) (marks_after whole)) }
 {}

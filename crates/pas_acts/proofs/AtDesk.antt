@@ -127,7 +127,7 @@ module _ {f : Profile} {k : ℕ} {what : What} {meant came : Option Block} {σ �
       rests_after (cost_of_what what) piece may.rests moves cache pushed_so did.room (omega (arith, events, both, count)) (omega (arith, paid, owed))
 
 -- what its cache noted is handed on
-settled_rest : {f : Profile} {c c' : Cached} (w : View) → c' ≡ settled c → AtRest f c w → AtRest f c' w
+pub settled_rest : {f : Profile} {c c' : Cached} (w : View) → c' ≡ settled c → AtRest f c w → AtRest f c' w
 settled_rest {f} {c} {c'} w is rest = subst (λ (d : Cached). AtRest f d w) (sym is) record { locals = rest.locals; few = rest.few; entries = rest.entries; few_entries = rest.few_entries }
 
 -- what an operation costs its thread
@@ -168,6 +168,7 @@ module _ {Door : Type 0} (Answers : Door → Door → ℕ → ℕ → Option ℕ
           room = did.room;
           each = piece_of k (part k p.list) a.steps did.said;
           caches = λ j ne. other_cache midway.caches k j (settled (midway.caches k)) ne ∙ other_cache p.caches k j c1 ne;
+          books = refl;
           names = refl;
           epoch = refl;
           paid = omega (arith, cost, paid);
@@ -211,6 +212,7 @@ module _ {f : Profile} {k : ℕ} {σ σ' : Standing} {c c1 : Cached} {out out' :
         room = did.room;
         each = events_of_piece k (part k p.list) flush;
         caches = λ j ne. other_cache p.caches k j c1 ne;
+        books = refl;
         names = refl;
         epoch = refl;
         paid = omega (arith, size, paid);
@@ -241,6 +243,7 @@ has_stayed {f} {k} {n} {epoch} {σ} {c} {out} {later} {p} at read short =
       room = refl;
       each = tt;
       caches = λ j ne. refl;
+      books = refl;
       names = refl;
       epoch = refl;
       paid = omega arith;
@@ -272,6 +275,7 @@ has_begun {f} {k} {σ} {σ'} {c} {c'} {out} {later} {p} at did =
         room = refl;
         each = tt;
         caches = λ j ne. other_cache p.caches k j (begun (p.caches k) did.epoch) ne;
+        books = refl;
         names = refl;
         epoch = refl;
         paid = omega (arith, paid);

@@ -67,7 +67,7 @@ has_ticked {f} {σ} {σ'} {out} {out'} {later} {p} epoch at ticks room =
     let added : records_in out' ≡ records_in out ++ said = ticks.added ∙ ap (λ (k : ℕ). records_in out ++ Record.Said k (Said.Tick ticks.epoch) ∷ []) at.sits.actor
     ∙ ap (λ (e : ℕ). records_in out ++ Record.Said 0 (Said.Tick e) ∷ []) (ticks.raised 0) in
     let says : Says 0 out out' p q = record { said = said; records_are = refl; pushed = added; room = room; each = (λ k. refl, tt) } in
-    record { reached = q; reaches = (q, (ticks.answer, refl), refl); stands = room_again (Ticks epoch) later at moves says (omega arith) (omega arith); moves = moves; says = says; caches = refl; names = refl }
+    record { reached = q; reaches = (q, (ticks.answer, refl), refl); stands = room_again (Ticks epoch) later at moves says (omega arith) (omega arith); moves = moves; says = says; caches = refl; books = refl; names = refl }
 
 pub has_passed : {f : Profile} {σ σ' : Standing} {spare spare' : ℕ} {found : List (ℕ × Outcome)} {out out' : Records} {later : Later} {p : Progress} → HasRoomAt f σ out (for_act f MakesPass later) p
     → AnswersPass σ σ' spare spare' found (records_in out) (records_in out') → length (records_in out') ≤ length (records_in out) + (1 + f.pages) → room_of out' ≡ room_of out → ScavengerActs f MakesPass σ σ' out out' later p
@@ -92,6 +92,7 @@ has_passed {f} {σ} {σ'} {spare} {spare'} {found} {out} {out'} {later} {p} at p
       moves = moves;
       says = says;
       caches = refl;
+      books = refl;
       names = refl;
     }
 
@@ -101,4 +102,4 @@ has_read {f} {σ} {σ'} {out} {later} {p} epoch at makes =
     let q = after_reading p epoch in
     let moves : Moves 0 HasNothing HasNothing σ σ' p q = record { steps = epoch_look epoch; list_is = refl; calls = reads epoch makes } in
     let says : Says 0 out out p q = record { said = []; records_are = sym (append-nil p.records); pushed = sym (append-nil (records_in out)); room = refl; each = tt } in
-    (record { reached = q; reaches = (q, (epoch, refl), refl); stands = room_again ReadsEpoch later at moves says (omega arith) (omega arith); moves = moves; says = says; caches = refl; names = refl }, refl)
+    (record { reached = q; reaches = (q, (epoch, refl), refl); stands = room_again ReadsEpoch later at moves says (omega arith) (omega arith); moves = moves; says = says; caches = refl; books = refl; names = refl }, refl)

@@ -1,31 +1,34 @@
 -- What each thread knows of the names when a phase begins.
 use Rattle.std.proofs.Common.{◌≡◌, ℕ, ◌<◌, ◌≤◌, ◌==◌, ◌||◌, Bool, true, false, if◌then◌else◌, inl, inr, List, [], ◌∷◌, ◌++◌, length, Option, Some, None, refl, ap, sym, ◌∙◌, subst, arith, length-append}
 use Rattle.std.specs.Prelude.{MatchOption}
+use Rattle.std.specs.List.{AllByRecursion}
 use Rattle.std.proofs.lemmas.Bool.{ne_eqb, eq-eqb, cases_eq, true≢false, or_parts}
 use Rattle.pas_profile.specs.declared.profile.Profile.{Profile}
 use Rattle.pas_profile.specs.declared.name.Block.{Block}
 use Rattle.pas_trace.proofs.Costs.{some_cost}
 pub use Rattle.pas_trace.proofs.EveryPlan.{below_front}
-use Rattle.pas_trace.specs.Asked.{work_of, of_task, request_of, freed_of, request_in}
+use Rattle.pas_trace.specs.Asked.{work_of, of_task, request_of, freed_of, request_in, keeper_in}
 use Rattle.pas_trace.specs.EveryPlan.{is_asked, asked_with, asked_after, asked_by, AreSound, IsSoundTask, IsSoundWork, IsActorBy, IsThread}
 use Rattle.pas_trace.specs.EveryPhase.{FreesItsOwn}
 use Rattle.pas_trace.specs.declared.plan.What.{What}
-use Rattle.pas_trace.specs.declared.plan.What.TheVariants.{Alloc, Remake}
+use Rattle.pas_trace.specs.declared.plan.What.TheVariants.{Alloc, Guarded, Remake}
 use Rattle.pas_trace.specs.declared.item.Request.{Request}
 use Rattle.pas_trace.specs.declared.plan.Task.{Task}
 use Rattle.pas_trace.specs.declared.plan.Work.{Work}
 use Rattle.pas_trace.specs.declared.plan.Op.{Op}
-use Rattle.pas_trace.specs.Acts.{Act, Operates, Settles, own_acts}
+use Rattle.pas_trace.specs.Acts.{Act, Settles, act_kept, own_acts}
 use Rattle.pas_answers.specs.Answers.{Named, standing_for, Progress}
 use Rattle.pas_answers.specs.Calls.{block_behind, MayStand}
-use Rattle.pas_answers.specs.Fit.{IsFitTask, IsFitWork, IsFitWhat, AreFit, AreBelow, cost_of_what, own_costs_of}
+use Rattle.pas_answers.specs.Fit.{KeepsAbove, IsFitTask, IsFitWork, IsFitWhat, AreFit, AreBelow, cost_of_what, own_costs_of}
 use Rattle.pas_answers.specs.Names.{block_named, names_held}
 use Rattle.pas_answers.specs.Replays.{at_start}
 use Rattle.pas_answers.specs.declared.names.Names.{Names}
-use Rattle.pas_acts.specs.NameBooks.{requests_in, room_for, name_asked, names_asked, names_of, ArePlaced, came_to, known_in, table, NamesAt, Requests}
+use Rattle.pas_acts.specs.NameBooks.{requests_in, room_for, name_asked, name_asked_by, names_asked, names_of, ArePlaced, came_to, known_in, table, NamesAt, Requests}
 use Rattle.pas_acts.specs.Works.{KnowsNames}
 use Rattle.pas_acts.specs.declared.names.NameBook.{NameBook}
 use Rattle.pas_acts.proofs.Noting.{is_same, not_before}
+use Rattle.pas_acts.proofs.Pairing.{kept_cost}
+use Rattle.pas_acts.proofs.Places.{kept_asks}
 
 -- ---- a phase and the rest
 pub sound_front : (f : Profile) (asked : List ℕ) (xs ys : List Op) → AreSound f asked (xs ++ ys) → AreSound f asked xs
@@ -35,6 +38,10 @@ sound_front f asked (x ∷ xs) ys sound = (sound.0, sound.1, sound_front f (aske
 pub sound_back : (f : Profile) (asked : List ℕ) (xs ys : List Op) → AreSound f asked (xs ++ ys) → AreSound f (asked_by asked xs) ys
 sound_back f asked [] ys sound = sound
 sound_back f asked (x ∷ xs) ys sound = sound_back f (asked_after x.what asked) xs ys sound.2
+
+above_front : (f : Profile) (xs ys : List Op) → AllByRecursion (KeepsAbove f) (xs ++ ys) → AllByRecursion (KeepsAbove f) xs
+above_front f [] ys above = tt
+above_front f (x ∷ xs) ys above = (above.0, above_front f xs ys above.1)
 
 -- ---- the thread's own operations fit
 -- what was asked for among the first was so among the second
@@ -56,6 +63,7 @@ smaller_if false what few many small n none = small n (not_before what many n no
 fit_task : (f : Profile) (limit : ℕ) (few many : List ℕ) (task : Task) → IsSmaller few many → IsSoundTask f many task → MatchOption (request_of task) (Unit {0}) (λ r. r.name < limit) → MatchOption (freed_of task) (Unit {0}) (λ n. is_asked few n ≡ true)
     → IsFitTask f limit few task
 fit_task f limit few many (Task.Request name heap size align) small sound below frees = (below, (sound.0, small name sound.1))
+fit_task f limit few many (Task.Guarded keeper name heap size align) small sound below frees = (below, (sound.0, small name sound.1, sound.2))
 fit_task f limit few many (Task.Free name room) small sound below frees = (below, (frees, sound.1))
 fit_task f limit few many (Task.Remake name old heap size align) small sound below frees = (below, (sound.0, small name sound.1, frees))
 fit_task f limit few many task small sound below frees = (below, sound)
@@ -65,24 +73,26 @@ fit_work : (f : Profile) (limit k : ℕ) (few many : List ℕ) (work : Work) →
 fit_work f limit k few many (Work.Own task) some small actor sound below frees = (actor, fit_task f limit few many task small sound below frees)
 fit_work f limit k few many (Work.Chore chore) some small actor sound below frees = absurd (omega (arith, some, actor))
 
-fit_if : (t : Bool) (f : Profile) (limit : ℕ) (asked : List ℕ) (op : Op) (acts : List Act) → (t ≡ true → IsThread f op.actor × IsFitWhat f limit asked op.what) → AreFit f limit (if t then asked_after op.what asked else asked) acts
-    → AreFit f limit asked (if t then Operates op ∷ (Settles op.actor ∷ acts) else acts)
-fit_if true f limit asked op acts here rest = let fit = here refl in (fit.0, fit.1, rest)
-fit_if false f limit asked op acts here rest = rest
+fit_if : (t : Bool) (f : Profile) (limit : ℕ) (asked : List ℕ) (keeper : Option ℕ) (op : Op) (acts : List Act) → MatchOption keeper (Unit {0}) (λ k. IsThread f k × (op.actor < k)) → (t ≡ true → IsThread f op.actor × IsFitWhat f limit asked op.what)
+    → AreFit f limit (if t then asked_after op.what asked else asked) acts → AreFit f limit asked (if t then act_kept keeper op ∷ (Settles op.actor ∷ acts) else acts)
+fit_if true f limit asked None op acts above here rest = let fit = here refl in (fit.0, fit.1, rest)
+fit_if true f limit asked (Some keeper) op acts above here rest = let fit = here refl in (above.0, above.1, fit.0, fit.1, rest)
+fit_if false f limit asked keeper op acts above here rest = rest
 
-own_fit : (f : Profile) (limit k : ℕ) (few many : List ℕ) (ops : List Op) → 1 ≤ k → IsSmaller few many → AreSound f many ops → AreBelow limit ops → FreesItsOwn k few ops → AreFit f limit few (own_acts k ops)
-own_fit f limit k few many [] some small sound below frees = tt
-own_fit f limit k few many (op ∷ ops) some small sound below frees =
+own_fit : (f : Profile) (limit k : ℕ) (few many : List ℕ) (ops : List Op) → 1 ≤ k → IsSmaller few many → AreSound f many ops → AllByRecursion (KeepsAbove f) ops → AreBelow limit ops → FreesItsOwn k few ops → AreFit f limit few (own_acts k ops)
+own_fit f limit k few many [] some small sound above below frees = tt
+own_fit f limit k few many (op ∷ ops) some small sound above below frees =
     let t = op.actor == k in
-    fit_if t f limit few op (own_acts k ops)
+    fit_if t f limit few (keeper_in op.what) op (own_acts k ops) above.0
     (λ is.
     let same = is_same op.actor k is in
     fit_work f limit op.actor few many (work_of op.what) (omega (arith, some, same)) small sound.0 sound.1 below.0 (frees.0 same))
-    (own_fit f limit k (if t then asked_after op.what few else few) (asked_after op.what many) ops some (smaller_if t op.what few many small) sound.2 below.1 frees.1)
+    (own_fit f limit k (if t then asked_after op.what few else few) (asked_after op.what many) ops some (smaller_if t op.what few many small) sound.2 above.1 below.1 frees.1)
 
 -- ---- there is room for its requests
 few_asked : (what : What) → length (name_asked what) ≤ cost_of_what what
 few_asked (Alloc name heap size align) = let one = some_cost size in omega (arith, one)
+few_asked (Guarded keeper name heap size align) = let one = some_cost size in omega (arith, one)
 few_asked (Remake name old heap size align) = omega arith
 few_asked what = omega arith
 
@@ -91,13 +101,15 @@ own_asked k [] = omega arith
 own_asked k (op ∷ ops) =
     let rest = own_asked k ops in
     let acts = own_acts k ops in
-    let Holds = λ (t : Bool). length (names_asked (if t then Operates op ∷ (Settles op.actor ∷ acts) else acts)) ≤ own_costs_of k (if t then Operates op ∷ (Settles op.actor ∷ acts) else acts) in
+    let head = act_kept (keeper_in op.what) op in
+    let Holds = λ (t : Bool). length (names_asked (if t then head ∷ (Settles op.actor ∷ acts) else acts)) ≤ own_costs_of k (if t then head ∷ (Settles op.actor ∷ acts) else acts) in
     elim (cases_eq op.actor k) [
       | inl same ↦
-          let cost = ap (λ (t : Bool). if t then cost_of_what op.what else 0) (eq-eqb op.actor k same) in
+          let cost = kept_cost k (keeper_in op.what) op ∙ ap (λ (t : Bool). if t then cost_of_what op.what else 0) (eq-eqb op.actor k same) in
           let one = few_asked op.what in
-          let both = length-append (name_asked op.what) (names_asked acts) in
-          subst Holds (sym (eq-eqb op.actor k same)) (omega (arith, rest, cost, one, both))
+          let asks = ap (λ (ns : List ℕ). length ns) (kept_asks (keeper_in op.what) op) in
+          let both = length-append (name_asked_by head) (names_asked acts) in
+          subst Holds (sym (eq-eqb op.actor k same)) (omega (arith, rest, cost, one, asks, both))
       | inr other ↦ subst Holds (sym (ne_eqb op.actor k other)) rest
     ]
 
@@ -140,13 +152,14 @@ pub names_before : {f : Profile} {book : NameBook} {p : Progress} {names : List 
 names_before {f} {book} k phase rest book1 requests at some frees same placed none room are =
     let few = own_asked k phase in
     knows_by book1 requests at same none are (own_acts k phase)
-    (own_fit f (names_held book.names) k at.asked at.asked phase some (λ n is. is) (sound_front f at.asked phase rest at.sound) (below_front (names_held book.names) phase rest at.below) frees) placed (omega (arith, few, room))
+    (own_fit f (names_held book.names) k at.asked at.asked phase some (λ n is. is) (sound_front f at.asked phase rest at.sound) (above_front f phase rest at.above) (below_front (names_held book.names) phase rest at.below) frees) placed (omega (arith, few, room))
 
 -- ---- before the first phase no name stands for a block
-unfoldable pub names_at_start : (f : Profile) (ops : List Op) (book : NameBook) → AreSound f [] ops → AreBelow (names_held book.names) ops → ((n : ℕ) → block_named book.names n ≡ None) → NamesAt f ops book at_start
-names_at_start f ops book sound below none = record {
+unfoldable pub names_at_start : (f : Profile) (ops : List Op) (book : NameBook) → AreSound f [] ops → AllByRecursion (KeepsAbove f) ops → AreBelow (names_held book.names) ops → ((n : ℕ) → block_named book.names n ≡ None) → NamesAt f ops book at_start
+names_at_start f ops book sound above below none = record {
   asked = [];
   sound = sound;
+  above = above;
   below = below;
   tells = none;
   stand = λ n block is. absurd (let bad : None ≡ Some block = sym (none n) ∙ is in cc);

@@ -3,17 +3,17 @@ use Rattle.std.proofs.Common.{◌≡◌, ◌≢◌, ℕ, zero, suc, ◌+◌, ◌
 use Rattle.std.proofs.lemmas.List.{take_more, length-take, append-nil, get_or-replicate, length-replicate, get_or_past}
 use Rattle.std.proofs.lemmas.Bool.{cases_lt, ne_eqb, eq-eqb, cases_eq, true≢false, or_parts}
 use Rattle.pas_profile.specs.declared.profile.Profile.{Profile}
-use Rattle.pas_trace.specs.Asked.{request_in}
+use Rattle.pas_trace.specs.Asked.{request_in, keeper_in}
 use Rattle.pas_trace.specs.EveryPlan.{is_asked, asked_with, asked_after, asked_by, AreSound, IsSoundWhat}
 use Rattle.pas_trace.specs.declared.plan.What.{What}
-use Rattle.pas_trace.specs.declared.plan.What.TheVariants.{Alloc, Remake}
+use Rattle.pas_trace.specs.declared.plan.What.TheVariants.{Alloc, Guarded, Remake}
 use Rattle.pas_trace.specs.declared.item.Request.{Request}
 use Rattle.pas_trace.specs.declared.plan.Op.{Op}
-use Rattle.pas_trace.specs.Acts.{Act, Operates, Settles, own_acts}
+use Rattle.pas_trace.specs.Acts.{Act, Settles, act_kept, own_acts}
 use Rattle.pas_answers.specs.Fit.{IsBelow, AreBelow}
 use Rattle.pas_acts.specs.NameBooks.{name_asked, names_asked, place_in, ArePlaced}
 use Rattle.pas_acts.specs.declared.names.NameBook.{NameBook}
-use Rattle.pas_acts.proofs.Places.{placed_all}
+use Rattle.pas_acts.proofs.Places.{kept_asks, placed_all}
 
 -- ---- counts
 pub none_yet : (n k : ℕ) → ◌≡◌ {A = ℕ} (get_or (replicate n 0) k 0) 0
@@ -26,12 +26,12 @@ none_yet n k = elim (cases_lt k n) [
 abbrev pub asks : ℕ → List Op → List ℕ
 asks k ops = names_asked (own_acts k ops)
 
-own_one : (t : Bool) (op : Op) (acts : List Act) → names_asked (if t then Operates op ∷ (Settles op.actor ∷ acts) else acts) ≡ (if t then name_asked op.what else []) ++ names_asked acts
-own_one true op acts = refl
-own_one false op acts = refl
+own_one : (t : Bool) (o : Option ℕ) (op : Op) (acts : List Act) → names_asked (if t then act_kept o op ∷ (Settles op.actor ∷ acts) else acts) ≡ (if t then name_asked op.what else []) ++ names_asked acts
+own_one true o op acts = ap (λ (ns : List ℕ). ns ++ names_asked acts) (kept_asks o op)
+own_one false o op acts = refl
 
 pub asks_more : (k : ℕ) (op : Op) (ops : List Op) → asks k (op ∷ ops) ≡ (if op.actor == k then name_asked op.what else []) ++ asks k ops
-asks_more k op ops = own_one (op.actor == k) op (own_acts k ops)
+asks_more k op ops = own_one (op.actor == k) (keeper_in op.what) op (own_acts k ops)
 
 pub asks_last : (k : ℕ) (ops : List Op) (op : Op) → asks k (ops ++ op ∷ []) ≡ asks k ops ++ (if op.actor == k then name_asked op.what else [])
 asks_last k [] op = asks_more k op [] ∙ append-nil (if op.actor == k then name_asked op.what else [])
@@ -67,6 +67,7 @@ count_small k ops i lt =
 -- not asked for afterwards: neither before nor by the operation
 pub not_before : (what : What) (asked : List ℕ) (n : ℕ) → is_asked (asked_after what asked) n ≡ false → (is_asked (name_asked what) n ≡ false) × (is_asked asked n ≡ false)
 not_before (Alloc name heap size align) asked n none = let both = or_parts (name == n) (is_asked asked n) none in (ap (λ (t : Bool). t || false) both.0, both.1)
+not_before (Guarded keeper name heap size align) asked n none = let both = or_parts (name == n) (is_asked asked n) none in (ap (λ (t : Bool). t || false) both.0, both.1)
 not_before (Remake name old heap size align) asked n none = let both = or_parts (name == n) (is_asked asked n) none in (ap (λ (t : Bool). t || false) both.0, both.1)
 not_before what asked n none = (refl, none)
 
@@ -98,12 +99,14 @@ below_at limit (op ∷ ops) (suc i) d below lt = below_at limit ops i d below.1 
 -- a name that an operation asks for wasn't asked for before
 asks_new : (f : Profile) (asked : List ℕ) (what : What) (name : ℕ) → IsSoundWhat f asked what → name_asked what ≡ name ∷ [] → is_asked asked name ≡ false
 asks_new f asked (Alloc n heap size align) name sound is = subst (λ (m : ℕ). is_asked asked m ≡ false) (cc) sound.1
+asks_new f asked (Guarded keeper n heap size align) name sound is = subst (λ (m : ℕ). is_asked asked m ≡ false) (cc) sound.1
 asks_new f asked (Remake n old heap size align) name sound is = subst (λ (m : ℕ). is_asked asked m ≡ false) (cc) sound.1
 asks_new f asked what name sound is = absurd (let bad : [] ≡ name ∷ [] = is in cc)
 
 -- .. and is below the limit
 pub asks_below : (limit : ℕ) (what : What) (name : ℕ) → IsBelow limit what → name_asked what ≡ name ∷ [] → name < limit
 asks_below limit (Alloc n heap size align) name below is = subst (λ (m : ℕ). m < limit) (cc) below
+asks_below limit (Guarded keeper n heap size align) name below is = subst (λ (m : ℕ). m < limit) (cc) below
 asks_below limit (Remake n old heap size align) name below is = subst (λ (m : ℕ). m < limit) (cc) below
 asks_below limit what name below is = absurd (let bad : [] ≡ name ∷ [] = is in cc)
 

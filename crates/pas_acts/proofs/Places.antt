@@ -5,8 +5,9 @@ use Rattle.std.proofs.lemmas.Bool.{ne_eqb, eq-eqb, cases_eq, false≢true}
 use Rattle.pas_profile.specs.declared.name.Block.{Block}
 use Rattle.pas_profile.specs.declared.profile.Profile.{Profile}
 use Rattle.pas_trace.specs.declared.plan.What.{What}
-use Rattle.pas_trace.specs.declared.plan.What.TheVariants.{Alloc, Remake}
-use Rattle.pas_trace.specs.Acts.{Act}
+use Rattle.pas_trace.specs.declared.plan.What.TheVariants.{Alloc, Guarded, Remake}
+use Rattle.pas_trace.specs.declared.plan.Op.{Op}
+use Rattle.pas_trace.specs.Acts.{Act, act_kept}
 use Rattle.pas_answers.specs.Answers.{Named, named, standing_for}
 use Rattle.pas_answers.specs.Calls.{block_behind, MayStand, named_by}
 use Rattle.pas_acts.specs.NameBooks.{name_asked, name_asked_by, names_asked, names_of, place_in, ArePlaced, request_at, named_of, came_to}
@@ -39,9 +40,15 @@ pub asked_both : (xs ys : List Act) → names_asked (xs ++ ys) ≡ names_asked x
 asked_both [] ys = refl
 asked_both (x ∷ xs) ys = ap (λ (ns : List ℕ). name_asked_by x ++ ns) (asked_both xs ys) ∙ sym (append_assoc (name_asked_by x) (names_asked xs) (names_asked ys))
 
+-- an operation's act asks for the same, whether it is guarded or not
+pub kept_asks : (o : Option ℕ) (op : Op) → name_asked_by (act_kept o op) ≡ name_asked op.what
+kept_asks None op = refl
+kept_asks (Some keeper) op = refl
+
 -- the names of what an operation came to are those that it asks for
 pub names_named : (what : What) (came : Option Block) → names_of (named_by what came) ≡ name_asked what
 names_named (Alloc name heap size align) came = refl
+names_named (Guarded keeper name heap size align) came = refl
 names_named (Remake name old heap size align) came = refl
 names_named what came = refl
 
@@ -132,6 +139,8 @@ pub tells_more : (book : NameBook) (rs rs' : List Named) (what : What) (came : O
     → came_to (standing_for rs n) base ≡ block_behind (standing_for names n) → came_to (standing_for rs' n) base ≡ block_behind (standing_for (named_by what came ++ names) n)
 tells_more book rs rs' (Alloc name heap size align) came names ms n base is placed tells =
     came_as rs (named name came ∷ []) n base rs' is ∙ both_ways (name == n) (standing_for rs n) came base (standing_for names n) (not_yet book rs ms name n placed) tells
+tells_more book rs rs' (Guarded keeper name heap size align) came names ms n base is placed tells =
+    came_as rs (named name came ∷ []) n base rs' is ∙ both_ways (name == n) (standing_for rs n) came base (standing_for names n) (not_yet book rs ms name n placed) tells
 tells_more book rs rs' (Remake name old heap size align) came names ms n base is placed tells =
     came_as rs (named name came ∷ []) n base rs' is ∙ both_ways (name == n) (standing_for rs n) came base (standing_for names n) (not_yet book rs ms name n placed) tells
 tells_more book rs rs' what came names ms n base is placed tells = came_same rs rs' n base is ∙ tells
@@ -141,5 +150,6 @@ stand_same f rs rs' n base is stands = subst (MayStand f) (sym (came_same rs rs'
 
 pub stand_more : (f : Profile) (rs rs' : List Named) (what : What) (came : Option Block) (n : ℕ) (base : Option Block) → rs' ≡ rs ++ named_by what came → MayStand f came → MayStand f (came_to (standing_for rs n) base) → MayStand f (came_to (standing_for rs' n) base)
 stand_more f rs rs' (Alloc name heap size align) came n base is new old = subst (MayStand f) (sym (came_as rs (named name came ∷ []) n base rs' is)) (stand_either f (name == n) (standing_for rs n) came base new old)
+stand_more f rs rs' (Guarded keeper name heap size align) came n base is new old = subst (MayStand f) (sym (came_as rs (named name came ∷ []) n base rs' is)) (stand_either f (name == n) (standing_for rs n) came base new old)
 stand_more f rs rs' (Remake name other heap size align) came n base is new old = subst (MayStand f) (sym (came_as rs (named name came ∷ []) n base rs' is)) (stand_either f (name == n) (standing_for rs n) came base new old)
 stand_more f rs rs' what came n base is new old = stand_same f rs rs' n base is old

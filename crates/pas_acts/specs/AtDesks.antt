@@ -61,6 +61,7 @@ pub record ThreadActs (f : Profile) (k : ℕ) (acts : List Act) (came : List Nam
   pub room : room_of new.out ≡ room_of old.out
   pub each : EachOf k own
   pub caches : (j : ℕ) → j ≢ k → reached.caches j ≡ p.caches j
+  pub books : reached.books ≡ p.books
   pub names : reached.names ≡ came ++ p.names
   pub epoch : reached.epoch ≡ p.epoch
   pub paid : length own + owed_events f new.cache (part k reached.list) ≤ own_costs_of k acts + owed_events f old.cache (part k p.list)
@@ -94,4 +95,5 @@ pub record ScavengerActs (f : Profile) (act : Act) (desk desk' : Standing) (out 
   pub moves : Moves 0 HasNothing HasNothing desk desk' p reached
   pub says : Says 0 out out' p reached
   pub caches : reached.caches ≡ p.caches
+  pub books : reached.books ≡ p.books
   pub names : reached.names ≡ p.names

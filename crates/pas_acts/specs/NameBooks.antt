@@ -1,6 +1,7 @@
 -- What the names of a trace stand for in a phase on threads. What they stood for before it is kept once, for all threads; what a thread's own requests came
 -- to in the phase is kept with the thread, and comes to the book after the phase.
 use Rattle.std.specs.Prelude.{ℕ, zero, suc, ◌+◌, ◌<◌, ◌≡◌, ◌==◌, if◌then◌else◌, List, [], ◌∷◌, ◌++◌, map, slice_index_or, Option, None, Some}
+use Rattle.std.specs.List.{AllByRecursion}
 use Rattle.pas_profile.specs.declared.profile.Profile.{Profile}
 use Rattle.pas_profile.specs.declared.name.Block.{Block}
 use Rattle.pas_profile.specs.Rooms.{Holding}
@@ -10,7 +11,7 @@ use Rattle.pas_trace.specs.declared.plan.Op.{Op}
 use Rattle.pas_trace.specs.Acts.{Act, asked_after_act}
 use Rattle.pas_answers.specs.Answers.{Named, named, standing_for, Progress}
 use Rattle.pas_answers.specs.Calls.{Tells, AllMayStand, AreKnown, OnlyAsked}
-use Rattle.pas_answers.specs.Fit.{AreBelow}
+use Rattle.pas_answers.specs.Fit.{KeepsAbove, AreBelow}
 use Rattle.pas_answers.specs.Names.{block_in, block_named, names_held}
 use Rattle.pas_acts.specs.declared.names.NameBook.{NameBook}
 use Rattle.pas_acts.specs.declared.names.Request.{Request}
@@ -88,6 +89,7 @@ table book requests = record { book = book; requests = requests }
 pub record NamesAt (f : Profile) (ops : List Op) (book : NameBook) (p : Progress) : Type 0 where
   pub asked : List ℕ
   pub sound : AreSound f asked ops
+  pub above : AllByRecursion (KeepsAbove f) ops
   pub below : AreBelow (names_held book.names) ops
   pub tells : Tells book.names p.names
   pub stand : AllMayStand f book.names

@@ -6,15 +6,12 @@ use Rattle.pas_steps.specs.Lists.{Whole, part}
 use Rattle.pas_steps.specs.Views.{View}
 use Rattle.pas_steps.specs.Desks.{Standing}
 use Rattle.pas_report.specs.Rooms.{records_in, room_of, Records}
-use Rattle.pas_report.specs.declared.record.Record.{Record}
 use Rattle.pas_cache.specs.Caches.{Cached, AtRest}
 use Rattle.pas_trace.specs.Acts.{Act}
 use Rattle.pas_answers.specs.Answers.{Named, standing_for, Progress}
 use Rattle.pas_answers.specs.Calls.{MayStand, block_behind, AreKnown, owed_events}
 use Rattle.pas_answers.specs.Fit.{AreFit, own_costs_of}
 use Rattle.pas_answers.specs.Names.{names_held}
-use Rattle.pas_answers.specs.Ways.{EachOf}
-use Rattle.pas_answers.specs.Reaching.{Reaches}
 use Rattle.pas_acts.specs.NameBooks.{Table, requests_in, room_for, names_of, names_asked, ArePlaced, known_in}
 
 -- for how many events and how many records more there is room in the end
@@ -58,17 +55,3 @@ pub record ThreadAt (f : Profile) (k : ℕ) (acts : List Act) (desk : Standing) 
   pub cache : p.caches k ≡ has.cache
   pub spare : length (records_in has.out) + (owed_events f has.cache (part k p.list) + own_costs_of k acts + later.records) ≤ room_of has.out
   pub names : KnowsNames f acts has.table p.names
-
--- The thread did these acts, and those come next. What it said came to the end of its records.
-pub record Works (f : Profile) (k : ℕ) (acts next : List Act) (desk desk' : Standing) (has has' : Keeps) (later : Later) (p : Progress) : Type 0 where
-  pub reached : Progress
-  pub reaches : Reaches f acts p reached
-  pub stands : ThreadAt f k next desk' has' later reached
-  pub said : List Record
-  pub records_are : reached.records ≡ p.records ++ said
-  pub pushed : records_in has'.out ≡ records_in has.out ++ said
-  pub room : room_of has'.out ≡ room_of has.out
-  pub book : has'.table.book ≡ has.table.book
-  pub noted : names_of (requests_in has'.table.requests) ≡ names_of (requests_in has.table.requests) ++ names_asked acts
-  pub room_noted : room_for has'.table.requests ≡ room_for has.table.requests
-  pub each : EachOf k said

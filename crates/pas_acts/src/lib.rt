@@ -3,6 +3,7 @@
 
 pub mod at_desk;
 pub mod gate;
+pub mod keepers;
 pub mod names;
 pub mod own;
 pub mod turns;

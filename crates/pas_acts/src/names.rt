@@ -153,6 +153,7 @@ impl NameBook {
     {
         match op.what {
             What::Alloc { name, .. } => Some(name),
+            What::Guarded { name, .. } => Some(name),
             What::Remake { name, .. } => Some(name),
             _ => None,
         }

@@ -1,16 +1,19 @@
 //! The operations of one thread in a phase, at any desk.
-ghost use Rattle.std.specs.Prelude.{◌≡◌, ◌+◌, ◌<◌, ◌≤◌, ◌^◌, ◌++◌, List, [], ◌∷◌, length, option_and_then};
+ghost use Rattle.std.specs.Prelude.{◌≡◌, ◌+◌, ◌<◌, ◌≤◌, ◌^◌, ◌++◌, ℕ, List, [], None, length, option_and_then};
 ghost use Rattle.pas_profile.specs.declared.profile.Profile.{Profile as TheProfile};
 ghost use Rattle.pas_cache.specs.Caches.{cached};
-ghost use Rattle.pas_trace.specs.Asked.{request_of, freed_of};
-ghost use Rattle.pas_trace.specs.Acts.{Act, Operates, Settles, own_acts};
+ghost use Rattle.pas_trace.specs.Asked.{request_of, freed_of, keeper_of};
+ghost use Rattle.pas_trace.specs.Acts.{Act, own_acts};
 ghost use Rattle.pas_answers.specs.Answers.{Progress};
 ghost use Rattle.pas_answers.specs.Calls.{what_of, named_with};
 ghost use Rattle.pas_acts.specs.NameBooks.{requests_in, room_for, names_of, name_asked, ArePlaced, known_in, table};
-ghost use Rattle.pas_acts.specs.Works.{keeps, Later, ThreadAt, Works};
+ghost use Rattle.pas_acts.specs.Works.{keeps, Later};
+ghost use Rattle.pas_acts.specs.Keepers.{LaterKept};
+ghost use Rattle.pas_acts.specs.Pairs.{head_acts, MayTryTask, TriesTask, PairAt, PairWorks};
 
 use crate::at_desk;
 use crate::gate::Gate;
+use crate::keepers::Tries;
 use crate::names::{NameBook, Request, Requests};
 use pas_answers::Remake;
 use pas_cache::ThreadCache;
@@ -42,99 +45,146 @@ fn keep(requests: &mut Requests, task: Task, came: Option<Block>)
 {
     match task {
         Task::Request { name, .. } => requests.push(Request::of(name, came)),
+        Task::Guarded { name, .. } => requests.push(Request::of(name, came)),
         Task::Remake { name, .. } => requests.push(Request::of(name, came)),
         _ => {}
     }
 }
 
-/// Performs an operation of the desk's thread, of which none is a chore. Its name is looked up and kept in book and requests.
+/// The block that the keeper gave, where the task is a guarded request and it gave one.
 #[inline(always)]
-fn operate<D: Desk, O: Door, M: Remake>(
+fn tried<K: Tries>(keeper: &mut K, task: Task) -> Option<Block>
+    requires stands { (f : TheProfile) × (k : ℕ) × (later : LaterKept) × (p : Progress) × MayTryTask f k task (K.has keeper.old) later p }
+    ensures tries { (f : TheProfile) (k : ℕ) (later : LaterKept) (p : Progress) → MayTryTask f k task (K.has keeper.old) later p
+        → TriesTask f k task result (K.has keeper.old) (K.has keeper.new) later p }
+    ensures none { keeper_of task ≡ None → result ≡ None }
+    ensures same { keeper_of task ≡ None → keeper.new ≡ keeper.old }
+    ensures home { K.home keeper.new ≡ K.home keeper.old }
+{
+    match task {
+        Task::Guarded {
+            name,
+            heap,
+            size,
+            align,
+            ..
+        } => keeper.try_guarded(name, heap, size, align),
+        _ => None,
+    }
+}
+
+/// Performs an operation of the desk's thread, of which none is a chore. A guarded request is tried by the thread's keeper first, and where that gave no block the thread
+/// makes it as any other. Its name is looked up and kept in book and requests.
+#[inline(always)]
+fn operate<D: Desk, O: Door, M: Remake, K: Tries>(
     desk: &mut D,
     door: &mut O,
     book: &NameBook,
     cache: &mut ThreadCache,
     remaker: &M,
+    keeper: &mut K,
     requests: &mut Requests,
     op: Op,
     out: &mut Records,
 )
-    requires stands { (f : TheProfile) × (next : List Act) × (later : Later) × (p : Progress) × ThreadAt f op.actor (Operates op ∷ (Settles op.actor ∷ next)) (D.standing desk.old) (keeps (cached cache.old) (table book.now requests.old) out.old) later p }
-    ensures works { (f : TheProfile) (next : List Act) (later : Later) (p : Progress) → ThreadAt f op.actor (Operates op ∷ (Settles op.actor ∷ next)) (D.standing desk.old) (keeps (cached cache.old) (table book.now requests.old) out.old) later p
-        → Works f op.actor (Operates op ∷ (Settles op.actor ∷ [])) next (D.standing desk.old) (D.standing desk.new) (keeps (cached cache.old) (table book.now requests.old) out.old) (keeps (cached cache.new) (table book.now requests.new) out.new) later p }
+    requires stands { (f : TheProfile) × (k : ℕ) × (next : List Act) × (later : Later) × (more : LaterKept) × (p : Progress)
+        × PairAt f op.actor k (head_acts op ++ next) (D.standing desk.old) (keeps (cached cache.old) (table book.now requests.old) out.old) (K.has keeper.old) later more p }
+    ensures works { (f : TheProfile) (k : ℕ) (next : List Act) (later : Later) (more : LaterKept) (p : Progress)
+        → PairAt f op.actor k (head_acts op ++ next) (D.standing desk.old) (keeps (cached cache.old) (table book.now requests.old) out.old) (K.has keeper.old) later more p
+        → PairWorks f op.actor k (head_acts op) next (D.standing desk.old) (D.standing desk.new) (keeps (cached cache.old) (table book.now requests.old) out.old) (keeps (cached cache.new) (table book.now requests.new) out.new) (K.has keeper.old) (K.has keeper.new) later more p }
     ensures home { D.home desk.new ≡ D.home desk.old }
+    ensures keeps_home { K.home keeper.new ≡ K.home keeper.old }
 {
     if let Work::Own(task) = op.work() {
-        let meant = freed(book, requests, task);
-        let came = at_desk::operate(desk, door, cache, remaker, task, meant, out);
+        let came = match tried(keeper, task) {
+            Some(block) => {
+                cache.settle(door);
+                Some(block)
+            }
+            None => {
+                let meant = freed(book, requests, task);
+                at_desk::operate(desk, door, cache, remaker, task, meant, out)
+            }
+        };
         keep(requests, task, came);
     }
 }
 
 /// The same, out of line.
 #[inline(never)]
-fn operate_rare<D: Desk, O: Door, M: Remake>(
+fn operate_rare<D: Desk, O: Door, M: Remake, K: Tries>(
     desk: &mut D,
     door: &mut O,
     book: &NameBook,
     cache: &mut ThreadCache,
     remaker: &M,
+    keeper: &mut K,
     requests: &mut Requests,
     op: Op,
     out: &mut Records,
 )
-    requires stands { (f : TheProfile) × (next : List Act) × (later : Later) × (p : Progress) × ThreadAt f op.actor (Operates op ∷ (Settles op.actor ∷ next)) (D.standing desk.old) (keeps (cached cache.old) (table book.now requests.old) out.old) later p }
-    ensures works { (f : TheProfile) (next : List Act) (later : Later) (p : Progress) → ThreadAt f op.actor (Operates op ∷ (Settles op.actor ∷ next)) (D.standing desk.old) (keeps (cached cache.old) (table book.now requests.old) out.old) later p
-        → Works f op.actor (Operates op ∷ (Settles op.actor ∷ [])) next (D.standing desk.old) (D.standing desk.new) (keeps (cached cache.old) (table book.now requests.old) out.old) (keeps (cached cache.new) (table book.now requests.new) out.new) later p }
+    requires stands { (f : TheProfile) × (k : ℕ) × (next : List Act) × (later : Later) × (more : LaterKept) × (p : Progress)
+        × PairAt f op.actor k (head_acts op ++ next) (D.standing desk.old) (keeps (cached cache.old) (table book.now requests.old) out.old) (K.has keeper.old) later more p }
+    ensures works { (f : TheProfile) (k : ℕ) (next : List Act) (later : Later) (more : LaterKept) (p : Progress)
+        → PairAt f op.actor k (head_acts op ++ next) (D.standing desk.old) (keeps (cached cache.old) (table book.now requests.old) out.old) (K.has keeper.old) later more p
+        → PairWorks f op.actor k (head_acts op) next (D.standing desk.old) (D.standing desk.new) (keeps (cached cache.old) (table book.now requests.old) out.old) (keeps (cached cache.new) (table book.now requests.new) out.new) (K.has keeper.old) (K.has keeper.new) later more p }
     ensures home { D.home desk.new ≡ D.home desk.old }
+    ensures keeps_home { K.home keeper.new ≡ K.home keeper.old }
 {
-    operate(desk, door, book, cache, remaker, requests, op, out)
+    operate(desk, door, book, cache, remaker, keeper, requests, op, out)
 }
 
-/// Performs an operation of the desk's thread, of which none is a chore. Requests and frees by name, which are the most by
-/// far, have code of their own, which no longer asks what the operation is.
+/// Performs an operation of the desk's thread, of which none is a chore. Requests and frees by name, which are the most by far, have code of their own, which no
+/// longer asks what the operation is.
 #[inline(always)]
-fn operate_by_kind<D: Desk, O: Door, M: Remake>(
+fn operate_by_kind<D: Desk, O: Door, M: Remake, K: Tries>(
     desk: &mut D,
     door: &mut O,
     book: &NameBook,
     cache: &mut ThreadCache,
     remaker: &M,
+    keeper: &mut K,
     requests: &mut Requests,
     op: &Op,
     out: &mut Records,
 )
-    requires stands { (f : TheProfile) × (next : List Act) × (later : Later) × (p : Progress) × ThreadAt f op.now.actor (Operates op.now ∷ (Settles op.now.actor ∷ next)) (D.standing desk.old) (keeps (cached cache.old) (table book.now requests.old) out.old) later p }
-    ensures works { (f : TheProfile) (next : List Act) (later : Later) (p : Progress) → ThreadAt f op.now.actor (Operates op.now ∷ (Settles op.now.actor ∷ next)) (D.standing desk.old) (keeps (cached cache.old) (table book.now requests.old) out.old) later p
-        → Works f op.now.actor (Operates op.now ∷ (Settles op.now.actor ∷ [])) next (D.standing desk.old) (D.standing desk.new) (keeps (cached cache.old) (table book.now requests.old) out.old) (keeps (cached cache.new) (table book.now requests.new) out.new) later p }
+    requires stands { (f : TheProfile) × (k : ℕ) × (next : List Act) × (later : Later) × (more : LaterKept) × (p : Progress)
+        × PairAt f op.now.actor k (head_acts op.now ++ next) (D.standing desk.old) (keeps (cached cache.old) (table book.now requests.old) out.old) (K.has keeper.old) later more p }
+    ensures works { (f : TheProfile) (k : ℕ) (next : List Act) (later : Later) (more : LaterKept) (p : Progress)
+        → PairAt f op.now.actor k (head_acts op.now ++ next) (D.standing desk.old) (keeps (cached cache.old) (table book.now requests.old) out.old) (K.has keeper.old) later more p
+        → PairWorks f op.now.actor k (head_acts op.now) next (D.standing desk.old) (D.standing desk.new) (keeps (cached cache.old) (table book.now requests.old) out.old) (keeps (cached cache.new) (table book.now requests.new) out.new) (K.has keeper.old) (K.has keeper.new) later more p }
     ensures home { D.home desk.new ≡ D.home desk.old }
+    ensures keeps_home { K.home keeper.new ≡ K.home keeper.old }
 {
     match op.what {
-        What::Alloc { .. } => operate(desk, door, book, cache, remaker, requests, *op, out),
-        What::Free { .. } => operate(desk, door, book, cache, remaker, requests, *op, out),
-        _ => operate_rare(desk, door, book, cache, remaker, requests, *op, out),
+        What::Alloc { .. } => operate(desk, door, book, cache, remaker, keeper, requests, *op, out),
+        What::Free { .. } => operate(desk, door, book, cache, remaker, keeper, requests, *op, out),
+        _ => operate_rare(desk, door, book, cache, remaker, keeper, requests, *op, out),
     }
 }
 
-/// Performs the operations of the desk's thread among those of a phase, in order, with the gate called round each.
-pub fn work<D: Desk, O: Door, G: Gate, M: Remake>(
+/// Performs the operations of the desk's thread among those of a phase, in order, with the gate called round each. Its keeper, if it has one, tries the guarded requests
+/// among them.
+pub fn work<D: Desk, O: Door, G: Gate, M: Remake, K: Tries>(
     desk: &mut D,
     door: &mut O,
     book: &NameBook,
     cache: &mut ThreadCache,
     remaker: &M,
+    keeper: &mut K,
     requests: &mut Requests,
     ops: &[Op],
     gate: &G,
     out: &mut Records,
 )
     requires few { length ops.now < 2 ^ 32 }
-    requires stands { (f : TheProfile) × (later : Later) × (p : Progress)
-        × ThreadAt f (D.standing desk.old).seat.actor (own_acts (D.standing desk.old).seat.actor ops.now) (D.standing desk.old) (keeps (cached cache.old) (table book.now requests.old) out.old) later p }
-    ensures works { (f : TheProfile) (later : Later) (p : Progress)
-        → ThreadAt f (D.standing desk.old).seat.actor (own_acts (D.standing desk.old).seat.actor ops.now) (D.standing desk.old) (keeps (cached cache.old) (table book.now requests.old) out.old) later p
-        → Works f (D.standing desk.old).seat.actor (own_acts (D.standing desk.old).seat.actor ops.now) [] (D.standing desk.old) (D.standing desk.new) (keeps (cached cache.old) (table book.now requests.old) out.old) (keeps (cached cache.new) (table book.now requests.new) out.new) later p }
+    requires stands { (f : TheProfile) × (k : ℕ) × (later : Later) × (more : LaterKept) × (p : Progress)
+        × PairAt f (D.standing desk.old).seat.actor k (own_acts (D.standing desk.old).seat.actor ops.now) (D.standing desk.old) (keeps (cached cache.old) (table book.now requests.old) out.old) (K.has keeper.old) later more p }
+    ensures works { (f : TheProfile) (k : ℕ) (later : Later) (more : LaterKept) (p : Progress)
+        → PairAt f (D.standing desk.old).seat.actor k (own_acts (D.standing desk.old).seat.actor ops.now) (D.standing desk.old) (keeps (cached cache.old) (table book.now requests.old) out.old) (K.has keeper.old) later more p
+        → PairWorks f (D.standing desk.old).seat.actor k (own_acts (D.standing desk.old).seat.actor ops.now) [] (D.standing desk.old) (D.standing desk.new) (keeps (cached cache.old) (table book.now requests.old) out.old) (keeps (cached cache.new) (table book.now requests.new) out.new) (K.has keeper.old) (K.has keeper.new) later more p }
     ensures home { D.home desk.new ≡ D.home desk.old }
+    ensures keeps_home { K.home keeper.new ≡ K.home keeper.old }
 {
     let actor = desk.actor();
     let mut number = 0;
@@ -142,7 +192,7 @@ pub fn work<D: Desk, O: Door, G: Gate, M: Remake>(
         if op.actor == actor {
             number += 1;
             gate.before(actor, number);
-            operate_by_kind(desk, door, book, cache, remaker, requests, op, out);
+            operate_by_kind(desk, door, book, cache, remaker, keeper, requests, op, out);
             gate.after(actor, number);
         }
     }

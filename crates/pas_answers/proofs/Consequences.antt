@@ -1,5 +1,5 @@
 -- What follows once the acts of a plan were answered by a legal list, at whose end all actors have nothing.
-use Rattle.std.proofs.Common.{◌≡◌, ℕ, ◌==◌, Bool, true, false, if◌then◌else◌, max, inl, inr, List, [], ◌∷◌, ◌++◌, refl, sym, subst}
+use Rattle.std.proofs.Common.{◌≡◌, ℕ, ◌==◌, Bool, true, false, if◌then◌else◌, max, inl, inr, List, [], ◌∷◌, ◌++◌, Option, Some, None, refl, sym, subst}
 use Rattle.std.specs.Prelude.{All}
 use Rattle.std.proofs.lemmas.Bool.{cases_eq, eq-eqb}
 use Rattle.pas_profile.specs.declared.profile.Profile.{Profile}
@@ -26,15 +26,24 @@ use Rattle.pas_report.proofs.TrueMarks.{true_marks}
 use Rattle.pas_cache.specs.Caches.{Cached}
 use Rattle.pas_scavenger.specs.Passes.{passing}
 use Rattle.pas_passes.specs.Records.{records_of_pass}
-use Rattle.pas_trace.specs.Acts.{Act, Operates, Settles, Ticks, MakesPass, ReadsEpoch, StopsIdle, MarksPhase, Wakes, MarksClose, Ends, acts_of}
+use Rattle.pas_trace.specs.Acts.{Act, Operates, Guards, Settles, Ticks, MakesPass, ReadsEpoch, StopsIdle, MarksPhase, Wakes, MarksClose, Ends, Lowers}
 use Rattle.pas_answers.specs.Answers.{Progress, having, records_of, said_by, stopped, epoch_look, IsStopped, after_stop}
-use Rattle.pas_answers.specs.Reaching.{Advances, Reaches}
+use Rattle.pas_profile.specs.declared.name.Block.{Block}
+use Rattle.pas_trace.specs.Asked.{request_in}
+use Rattle.pas_trace.specs.declared.item.Request.{Request}
+use Rattle.pas_trace.specs.declared.plan.Op.{Op}
+use Rattle.pas_answers.specs.Guarding.{after_trying}
+use Rattle.pas_answers.specs.Reaching.{AnswersOp, AnswersTried, AnswersGuarded, Advances, Reaches}
 use Rattle.pas_answers.specs.Indexes.{GoByIndexes}
 use Rattle.pas_answers.specs.Refusals.{AreRefusalsTrue}
-use Rattle.pas_answers.specs.Replays.{at_start, phases_of, IsReplay, region_of, threads_of}
+use Rattle.pas_answers.specs.Fit.{AreOfThreads}
+use Rattle.pas_answers.specs.Replays.{at_start, acts_of_plan, threads_of, keepers_of, phases_of, IsReplay, region_of}
 use Rattle.pas_answers.specs.Rests.{RestBetween}
 use Rattle.pas_answers.specs.Ways.{Way, InOrder, OnThreads, IsOneOrder, arranged}
-use Rattle.pas_answers.proofs.Reached.{was_so}
+use Rattle.pas_answers.proofs.Reached.{was_so, tried_on, pieces_back}
+use Rattle.pas_answers.proofs.Keepers.{sweep_tidy, swept_shown, try_tidy, try_shown}
+use Rattle.pas_answers.proofs.OwnCalls.{calls_alone}
+use Rattle.pas_guard.specs.Keepers.{MakesCalls}
 use Rattle.pas_answers.proofs.Parts.{Each, same_parts, legal_part, of_front, of_rest}
 use Rattle.pas_answers.proofs.Shown.{EachShown, each_both, each_arranged, piece_shown, records_shown, pass_shown, all_shown}
 use Rattle.pas_answers.proofs.Tidy.{Tidy, KeptPart, tidy_over, look_tidy, tick_tidy, stop_tidy, answer_tidy}
@@ -83,15 +92,34 @@ left_stopped f p k steps c said is shown of =
     leaves_piece f k steps (records_of (events_by k v steps) ++ said) p.list p.records (λ own tidy. stop_tidy f k (p.caches k) c steps v own is tidy)
     (λ own. each_both (records_of (events_by k v steps)) said (records_shown f k steps v own) shown) of
 
-left_one : (f : Profile) (act : Act) (p q : Progress) → Advances f act p q → AreLeft f p q
-left_one f (MarksPhase n) p q did = left_at f p did (λ of. leaves_mark (Record.Phase n) p.list p.records tt)
-left_one f MarksClose p q did = left_at f p did (λ of. leaves_mark Record.Close p.list p.records tt)
-left_one f (Wakes k) p q did = left_at f p did.1 (λ of. leaves_look k did.0 p.list p.records)
-left_one f (Operates op) p q did =
+-- a thread's operation
+left_op : (f : Profile) (op : Op) (p q : Progress) → AnswersOp f op p q → AreLeft f p q
+left_op f op p q did =
     let k = op.actor in
     let v = part k p.list in
     let a = did.0 in
     left_at f p did.2 (λ of. leaves_piece f k a.steps (records_of (events_by k v a.steps) ++ said_by k a.said) p.list p.records (answer_tidy f k op.what (having p.names v (p.caches k)) a did.1) (piece_shown f k a.steps a.said v) of)
+
+-- what follows a keeper's try, and the try itself
+left_tried : (f : Profile) (op : Op) (r : Request) (block : Option Block) (p q : Progress) → AnswersTried f op r block p q → AreLeft f p q
+left_tried f op r (Some block) p q did = left_at f p did (λ of. leaves_all p.list p.records)
+left_tried f op r None p q did = left_op f op p q did
+
+left_guarded : (f : Profile) (keeper : ℕ) (op : Op) (o : Option Request) (p q : Progress) → AnswersGuarded f keeper op o p q → AreLeft f p q
+left_guarded f keeper op None p q did of = absurd did
+left_guarded f keeper op (Some r) p q did of =
+    let t = did.0 in
+    let on = tried_on f op r t.block (after_trying p keeper t) q did.2 in
+    let now : Each (AreOfRegion f) (after_trying p keeper t).list = pieces_back (Each (AreOfRegion f)) (of_rest f) on.0 (after_trying p keeper t).list (subst (Each (AreOfRegion f)) on.1 of) in
+    let one = leaves_piece f keeper t.steps t.records p.list p.records (λ own tidy. try_tidy f keeper r (part keeper p.list) (p.books keeper) t did.1 tidy) (λ own. try_shown f keeper r (part keeper p.list) (p.books keeper) t did.1 own) now in
+    let rest = left_tried f op r t.block (after_trying p keeper t) q did.2 of in
+    record { tidy = λ all. rest.tidy (one.tidy all); shown = λ all. rest.shown (one.shown all) }
+
+left_one : (f : Profile) (act : Act) (p q : Progress) → Advances f act p q → AreLeft f p q
+left_one f (MarksPhase n) p q did = left_at f p did (λ of. leaves_mark (Record.Phase n) p.list p.records tt)
+left_one f MarksClose p q did = left_at f p did (λ of. leaves_mark Record.Close p.list p.records tt)
+left_one f (Wakes k) p q did = left_at f p did.1 (λ of. leaves_look k did.0 p.list p.records)
+left_one f (Operates op) p q did = left_op f op p q did
 left_one f (Settles k) p q did = left_at f p did (λ of. leaves_all p.list p.records)
 left_one f (Ticks asked) p q did = left_at f p did.1
     (λ of. leaves_piece f 0 (made (Tick asked) did.0 ∷ []) (Record.Said 0 (Said.Tick (max did.0 asked)) ∷ []) p.list p.records (λ own. tick_tidy asked did.0 (part 0 p.list)) (λ own. (tt, tt)) of)
@@ -102,6 +130,9 @@ left_one f (StopsIdle k n) p q did = elim did [
   | inl so ↦ left_at f p so.4 (left_stopped f p k so.1 so.2 (stopped k) so.3 (tt, tt))
   | inr stays ↦ left_at f p stays.1 (λ of. leaves_all p.list p.records)
 ]
+left_one f (Guards keeper op) p q did = left_guarded f keeper op (request_in op.what) p q did
+left_one f (Lowers keeper) p q did = left_at f p did.3 (leaves_piece f keeper did.0 did.1 p.list p.records (λ own tidy. sweep_tidy f keeper true (p.books keeper) [] did.1 did.0 (part keeper p.list) did.2.sweep tidy)
+    (λ own. swept_shown true keeper (p.books keeper) [] did.1 did.0 did.2.sweep.swept))
 left_one f (Ends k) p q did = left_at f p did.3 (left_stopped f p k did.0 did.1 [] did.2 tt)
 
 -- one act leaves the part of each actor tidy, where it was
@@ -148,38 +179,42 @@ module _ (way : Way) (f : Profile) (acts : List Act) (reached : Progress) (whole
 
 pub can_be_shown : {way : Way} {plan : Plan} {whole : Whole} {records : List Record} → IsReplay way plan whole records → All CanShow records
 can_be_shown {way} {plan} {whole} {records} is =
-    let said = are_shown way (region_of plan) (acts_of (threads_of plan) (phases_of plan)) is.reached whole is.answers is.one_order is.legal in
+    let said = are_shown way (region_of plan) (acts_of_plan plan) is.reached whole is.answers is.one_order is.legal in
     subst (λ (rs : List Record). All CanShow rs) (sym is.records_are) (all_shown (arranged way (region_of plan).threads is.reached.records) (each_arranged way (region_of plan).threads is.reached.records said))
 
 -- what is known of the acts of a replay in the order of the text besides its refusals, and on threads isn't: that they go by the indexes, with all actors at rest
 -- between them
-abbrev pub GoInOrder : (way : Way) (f : Profile) (acts : List Act) (p p' : Progress) → Reaches f acts p p' → Type 0
-GoInOrder InOrder f acts p p' is = GoByIndexes InOrder f acts p p' is × RestBetween InOrder f acts p p' is
-GoInOrder OnThreads f acts p p' is = Unit {0}
+abbrev pub GoInOrder : (way : Way) (threads : ℕ) (f : Profile) (acts : List Act) (p p' : Progress) → Reaches f acts p p' → Type 0
+GoInOrder InOrder threads f acts p p' is = GoByIndexes InOrder f acts p p' is × RestBetween InOrder threads f acts p p' is
+GoInOrder OnThreads threads f acts p p' is = Unit {0}
 
-by_indexes : (way : Way) (f : Profile) (acts : List Act) (p p' : Progress) (is : Reaches f acts p p') → GoInOrder way f acts p p' is → GoByIndexes way f acts p p' is
-by_indexes InOrder f acts p p' is go = go.0
-by_indexes OnThreads f acts p p' is go = tt
+by_indexes : (way : Way) (threads : ℕ) (f : Profile) (acts : List Act) (p p' : Progress) (is : Reaches f acts p p') → GoInOrder way threads f acts p p' is → GoByIndexes way f acts p p' is
+by_indexes InOrder threads f acts p p' is go = go.0
+by_indexes OnThreads threads f acts p p' is go = tt
 
-resting : (way : Way) (f : Profile) (acts : List Act) (p p' : Progress) (is : Reaches f acts p p') → GoInOrder way f acts p p' is → RestBetween way f acts p p' is
-resting InOrder f acts p p' is go = go.1
-resting OnThreads f acts p p' is go = tt
+resting : (way : Way) (threads : ℕ) (f : Profile) (acts : List Act) (p p' : Progress) (is : Reaches f acts p p') → GoInOrder way threads f acts p p' is → RestBetween way threads f acts p p' is
+resting InOrder threads f acts p p' is go = go.1
+resting OnThreads threads f acts p p' is go = tt
 
-pub replays : (way : Way) (plan : Plan) (reached : Progress) (whole : Whole) (records : List Record) → IsValid (region_of plan) → (answers : Reaches (region_of plan) (acts_of (threads_of plan) (phases_of plan)) at_start reached)
+pub replays : (way : Way) (plan : Plan) (reached : Progress) (whole : Whole) (records : List Record) → IsValid (region_of plan) → (answers : Reaches (region_of plan) (acts_of_plan plan) at_start reached)
     → IsOneOrder way reached.list whole → records ≡ arranged way (region_of plan).threads reached.records → Legal (region_of plan) whole → ((k : ℕ) → HasNothing (part k whole))
-    → AreRefusalsTrue way (region_of plan) (acts_of (threads_of plan) (phases_of plan)) at_start reached answers → GoInOrder way (region_of plan) (acts_of (threads_of plan) (phases_of plan)) at_start reached answers → IsReplay way plan whole records
-replays way plan reached whole records valid answers one_order records_are legal nothing refusals go = record {
+    → AreRefusalsTrue way (region_of plan) (acts_of_plan plan) at_start reached answers → GoInOrder way (threads_of plan) (region_of plan) (acts_of_plan plan) at_start reached answers
+    → AreOfThreads (threads_of plan) (acts_of_plan plan) → IsReplay way plan whole records
+replays way plan reached whole records valid answers one_order records_are legal nothing refusals go of = record {
   reached = reached;
   answers = answers;
   one_order = one_order;
   records_are = records_are;
   legal = legal;
   nothing = nothing;
+  keepers = λ keeper lt.
+      let calls = calls_alone (region_of plan) keeper (threads_of plan) (keepers_of plan) (phases_of plan) at_start reached lt of answers refl refl in
+      (calls.0, calls.1, subst (λ (v : View). MakesCalls (region_of plan) keeper calls.0 calls.1 v) (sym (same_parts way reached.list whole one_order keeper)) calls.2);
   run = runs (region_of plan) whole valid legal;
   deeds = λ k page d of knows. known_directory (region_of plan) whole k page d valid legal of knows;
-  stamps = stamps_are way (region_of plan) (acts_of (threads_of plan) (phases_of plan)) reached whole answers one_order legal valid;
+  stamps = stamps_are way (region_of plan) (acts_of_plan plan) reached whole answers one_order legal valid;
   marks = true_marks (region_of plan) whole valid legal nothing;
   refusals = refusals;
-  indexes = by_indexes way (region_of plan) (acts_of (threads_of plan) (phases_of plan)) at_start reached answers go;
-  rests = resting way (region_of plan) (acts_of (threads_of plan) (phases_of plan)) at_start reached answers go;
+  indexes = by_indexes way (threads_of plan) (region_of plan) (acts_of_plan plan) at_start reached answers go;
+  rests = resting way (threads_of plan) (region_of plan) (acts_of_plan plan) at_start reached answers go;
 }

@@ -16,7 +16,7 @@ use Rattle.pas_steps.proofs.Frames.{events_append}
 use Rattle.pas_trace.specs.Asked.{request_of, cost_of_task}
 use Rattle.pas_trace.specs.declared.plan.Task.{Task}
 use Rattle.pas_trace.specs.declared.plan.Work.{Work}
-use Rattle.pas_trace.specs.declared.plan.What.TheVariants.{Free, Raw}
+use Rattle.pas_trace.specs.declared.plan.What.TheVariants.{Raw}
 use Rattle.pas_report.specs.declared.record.Said.{Said}
 use Rattle.pas_free_log.specs.declared.log.Entry.{Entry}
 use Rattle.pas_cache.specs.Caches.{Cached, AtRest}
@@ -79,6 +79,7 @@ fits_task f limit asked {task} task' is fit = subst (λ (w : Work). IsFitWork f 
 -- a task without a new name asks no door
 pub not_asked : (f : Profile) (Answers : ℕ → ℕ → Option ℕ → Type 0) (Same : Type 0) (task : Task) (meant : Option Block) (found : Option ℕ) → request_of task ≡ None → Same → IsNamedFor f Answers Same (request_made (what_of task) meant) found
 not_asked f Answers Same (Task.Request name heap size align) meant found none same = absurd cc
+not_asked f Answers Same (Task.Guarded keeper name heap size align) meant found none same = absurd cc
 not_asked f Answers Same (Task.Free name None) meant found none same = same
 not_asked f Answers Same (Task.Free name (Some room)) meant found none same = same
 not_asked f Answers Same (Task.FreeRaw block None) meant found none same = same

@@ -5,7 +5,7 @@ use Rattle.pas_profile.specs.declared.profile.Profile.{Profile}
 use Rattle.pas_trace.specs.declared.plan.What.{What}
 use Rattle.std.specs.Prelude.{option_and_then}
 use Rattle.pas_trace.specs.Asked.{work_of, of_task, request_of, freed_of}
-use Rattle.pas_trace.specs.declared.plan.What.TheVariants.{Alloc, Free, FreeSized, Raw, RawSized, Remake, Flush, Stop}
+use Rattle.pas_trace.specs.declared.plan.What.TheVariants.{Alloc, Guarded, Free, FreeSized, Raw, RawSized, Remake, Flush, Stop}
 use Rattle.pas_trace.specs.declared.plan.Task.{Task}
 use Rattle.pas_trace.specs.declared.plan.Work.{Work}
 use Rattle.pas_answers.specs.Answers.{Named, standing_for}
@@ -18,6 +18,7 @@ same_own is = cc
 
 pub own_what : (what : What) (task : Task) → work_of what ≡ Work.Own task → what ≡ what_of task
 own_what (Alloc name heap size align) task is = ap what_of (same_own is)
+own_what (Guarded keeper name heap size align) task is = ap what_of (same_own is)
 own_what (Free name) task is = ap what_of (same_own is)
 own_what (FreeSized name room) task is = ap what_of (same_own is)
 own_what (Raw block) task is = ap what_of (same_own is)
@@ -29,6 +30,7 @@ own_what what task is = cc
 
 pub task_of : (task : Task) → work_of (what_of task) ≡ Work.Own task
 task_of (Task.Request name heap size align) = refl
+task_of (Task.Guarded keeper name heap size align) = refl
 task_of (Task.Free name None) = refl
 task_of (Task.Free name (Some room)) = refl
 task_of (Task.FreeRaw block None) = refl
@@ -55,6 +57,7 @@ meant_by block names what tells = tt
 pub request_meant : (what : What) (names : List Named) (meant : Option Block) → IsMeant names what meant → request_made what meant ≡ request_by names what
 request_meant (Remake name old heap size align) names meant means = ap (request_made (Remake name old heap size align)) (sym means)
 request_meant (Alloc name heap size align) names meant means = refl
+request_meant (Guarded keeper name heap size align) names meant means = refl
 request_meant what names meant means = refl
 
 -- .. and it is one of the region

@@ -5,7 +5,7 @@ use Rattle.pas_profile.specs.declared.name.Block.{Block}
 use Rattle.pas_steps.specs.Views.{View}
 use Rattle.pas_steps.specs.declared.step.Made.{Made}
 use Rattle.pas_trace.specs.declared.plan.What.{What}
-use Rattle.pas_trace.specs.declared.plan.What.TheVariants.{Alloc, Free, FreeSized, Raw, RawSized, Remake, Flush, Stop}
+use Rattle.pas_trace.specs.declared.plan.What.TheVariants.{Alloc, Guarded, Free, FreeSized, Raw, RawSized, Remake, Flush, Stop}
 use Rattle.pas_report.specs.declared.record.Said.{Said}
 use Rattle.pas_cache.specs.Caches.{Cached}
 use Rattle.pas_answers.specs.Calls.{AreKnown, named_by}
@@ -31,6 +31,8 @@ pub known_after : (f : Profile) (k : ℕ) (what : What) (asked : List ℕ) (name
     → IsAnswered f k what (having names v c) (answer_of steps said found names' c') → AreKnown asked names → AreKnown (asked_after what asked) names'
 known_after f k (Alloc name heap size align) asked names names' l c c' steps said found answered known = subst (λ (ns : List Named). AreKnown (name ∷ asked) ns) (sym answered.names_are)
     (λ n is. one_more (name == n) (block_of answered.answer) (standing_for names n) (is_asked asked n) (known n) is)
+known_after f k (Guarded keeper name heap size align) asked names names' l c c' steps said found answered known = subst (λ (ns : List Named). AreKnown (name ∷ asked) ns) (sym answered.names_are)
+    (λ n is. one_more (name == n) (block_of answered.answer) (standing_for names n) (is_asked asked n) (known n) is)
 known_after f k (Free name) asked names names' l c c' steps said found answered known = same_names asked answered.1 known
 known_after f k (FreeSized name room) asked names names' l c c' steps said found answered known = same_names asked answered.1 known
 known_after f k (Raw block) asked names names' l c c' steps said found answered known = same_names asked answered.1 known
@@ -45,5 +47,10 @@ known_after f k what asked names names' l c c' steps said found answered known =
 -- the name that an operation asked for stands for what it came to
 pub known_more : (what : What) (came : Option Block) (asked : List ℕ) (names : List Named) → AreKnown asked names → AreKnown (asked_after what asked) (named_by what came ++ names)
 known_more (Alloc name heap size align) came asked names known = λ n is. one_more (name == n) came (standing_for names n) (is_asked asked n) (known n) is
+known_more (Guarded keeper name heap size align) came asked names known = λ n is. one_more (name == n) came (standing_for names n) (is_asked asked n) (known n) is
 known_more (Remake name old heap size align) came asked names known = λ n is. one_more (name == n) came (standing_for names n) (is_asked asked n) (known n) is
 known_more what came asked names known = known
+
+-- a name that comes to stand for something is known, and so are those before it
+pub known_named : (name : ℕ) (came : Option Block) (asked : List ℕ) (names : List Named) → AreKnown asked names → AreKnown (name ∷ asked) (named name came ∷ names)
+known_named name came asked names known = λ n is. one_more (name == n) came (standing_for names n) (is_asked asked n) (known n) is

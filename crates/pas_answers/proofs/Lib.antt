@@ -11,5 +11,8 @@ pub mod Parts
 mod Shown
 pub mod Tidy
 pub mod TrueRefusals
+pub mod Keepers
+pub mod Tries
+mod OwnCalls
 pub mod Consequences
 pub mod SingleActs

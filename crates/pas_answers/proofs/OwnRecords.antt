@@ -1,5 +1,5 @@
 -- The records of a piece are of its actor.
-use Rattle.std.proofs.Common.{◌≡◌, ◌≢◌, ℕ, ◌==◌, Bool, true, false, if◌then◌else◌, List, [], ◌∷◌, ◌++◌, reverse, Option, Some, None, refl, ap, ◌∙◌}
+use Rattle.std.proofs.Common.{◌≡◌, ◌≢◌, ℕ, ◌==◌, Bool, true, false, ◌||◌, if◌then◌else◌, List, [], ◌∷◌, ◌++◌, reverse, Option, Some, None, refl, ap, sym, ◌∙◌, subst}
 use Rattle.std.specs.Prelude.{map}
 use Rattle.std.proofs.lemmas.Bool.{eq-eqb, ne_eqb}
 use Rattle.pas_profile.specs.declared.event.Event.{Event}
@@ -11,7 +11,14 @@ use Rattle.pas_steps.specs.declared.step.Made.{Made}
 use Rattle.pas_report.specs.declared.record.Record.{Record}
 use Rattle.pas_report.specs.declared.record.Said.{Said}
 use Rattle.pas_passes.specs.Records.{record_of, records_of_pass}
-use Rattle.pas_answers.specs.Answers.{records_of, said_by}
+use Rattle.pas_answers.specs.Answers.{records_of, said_by, wanted_by}
+use Rattle.pas_profile.specs.declared.name.Block.{Block}
+use Rattle.pas_profile.specs.declared.profile.Profile.{Profile}
+use Rattle.pas_trace.specs.declared.item.Request.{Request}
+use Rattle.pas_cache.specs.Serves.{pages_of}
+use Rattle.pas_guard.specs.Sweeps.{is_over, SweptOne, Swept}
+use Rattle.pas_guard.specs.declared.book.Guard.{Guard}
+use Rattle.pas_answers.specs.Guarding.{said_of_guard, Tried, IsTried}
 use Rattle.pas_answers.specs.Ways.{is_of, AreSpoken, EachOf, records_by}
 use Rattle.std.specs.List.{AllByRecursion}
 use Rattle.pas_profile.proofs.Lists.{all_both, all_map, all_reverse}
@@ -82,3 +89,23 @@ all_by j (r ∷ rs) all = ap (λ (t : Bool). if t then r ∷ records_by j rs els
 pub none_by : (k j : ℕ) (rs : List Record) → EachOf j rs → j ≢ k → records_by k rs ≡ []
 none_by k j [] all other = refl
 none_by k j (r ∷ rs) all other = ap (λ (t : Bool). if t then r ∷ records_by k rs else records_by k rs) (all.0 k ∙ ne_eqb j k other) ∙ none_by k j rs all.1 other
+
+-- ---- what a keeper says is its own
+lowered_each : (down : Bool) (k : ℕ) (guard : Guard) (first : List Made) (kept after : List Guard) (said more : List Record) → SweptOne down k guard first kept after said more → EachOf k more → EachOf k said
+lowered_each true k guard first kept after said more is rest = subst (EachOf k) (sym is.2) (λ j. refl, rest)
+lowered_each false k guard first kept after said more is rest = subst (EachOf k) (sym is.2) rest
+
+pub swept_each : (all : Bool) (k : ℕ) (guards kept : List Guard) (said : List Record) (steps : List Made) → Swept all k guards kept said steps → EachOf k said
+swept_each all k [] kept said steps is = subst (EachOf k) (sym is.1) tt
+swept_each all k (guard ∷ guards) kept said steps is = lowered_each (all || is_over guard is.0) k guard is.1 kept is.3 said is.4 is.5 (swept_each all k guards is.3 is.4 is.2 is.6)
+
+guard_each : (keeper name k : ℕ) (block : Option Block) → EachOf keeper (said_of_guard keeper name k block)
+guard_each keeper name k None = tt
+guard_each keeper name k (Some block) = (λ j. refl, tt)
+
+pub try_each : (f : Profile) (keeper : ℕ) (r : Request) (v : View) (guards : List Guard) (t : Tried) → IsTried f keeper r v guards t → EachOf keeper t.records
+try_each f keeper r v guards t is =
+    let events = records_of (events_by keeper (is.swept ++ v) is.raised) in
+    let said = said_of_guard keeper r.name (pages_of (wanted_by f r)) t.block in
+    subst (EachOf keeper) (sym is.records_are) (each_both keeper is.lowered (events ++ said) (swept_each false keeper guards is.left is.lowered is.swept is.sweep.swept)
+    (each_both keeper events said (events_of_piece keeper (is.swept ++ v) is.raised) (guard_each keeper r.name (pages_of (wanted_by f r)) t.block)))

@@ -1,14 +1,19 @@
 -- Acts that were answered one after the other: how they follow each other, and that what they found on the list stays there.
-use Rattle.std.proofs.Common.{◌≡◌, ℕ, inl, inr, List, [], ◌∷◌, ◌++◌, ap, subst}
+use Rattle.std.proofs.Common.{◌≡◌, ℕ, inl, inr, List, [], ◌∷◌, ◌++◌, Option, Some, None, refl, sym, ◌∙◌, ap, subst}
 use Rattle.std.specs.Prelude.{MatchOption}
 use Rattle.pas_profile.specs.declared.profile.Profile.{Profile}
 use Rattle.pas_steps.specs.Lists.{Whole}
 use Rattle.pas_steps.specs.Desks.{made, triples}
 use Rattle.pas_steps.specs.declared.step.Made.{Made}
 use Rattle.pas_steps.specs.declared.step.Step.TheVariants.{Tick}
-use Rattle.pas_trace.specs.Acts.{Act, Operates, Settles, Ticks, MakesPass, ReadsEpoch, StopsIdle, MarksPhase, Wakes, MarksClose, Ends, operation_in, stepper_of}
+use Rattle.pas_trace.specs.Acts.{Act, Operates, Guards, Settles, Ticks, MakesPass, ReadsEpoch, StopsIdle, MarksPhase, Wakes, MarksClose, Ends, Lowers, operation_in}
 use Rattle.pas_answers.specs.Answers.{Progress, epoch_look}
-use Rattle.pas_answers.specs.Reaching.{Advances, Reaches}
+use Rattle.pas_profile.specs.declared.name.Block.{Block}
+use Rattle.pas_trace.specs.Asked.{request_in}
+use Rattle.pas_trace.specs.declared.item.Request.{Request}
+use Rattle.pas_trace.specs.declared.plan.Op.{Op}
+use Rattle.pas_answers.specs.Guarding.{after_trying}
+use Rattle.pas_answers.specs.Reaching.{AnswersTried, AnswersGuarded, Advances, Reaches}
 
 -- acts that were answered are followed by others
 pub reach_both : (f : Profile) (xs ys : List Act) (p q r : Progress) → Reaches f xs p q → Reaches f ys q r → Reaches f (xs ++ ys) p r
@@ -22,22 +27,59 @@ list_of is = ap (λ (r : Progress). r.list) is
 names_of : {p q : Progress} → q ≡ p → q.names ≡ p.names
 names_of is = ap (λ (r : Progress). r.names) is
 
--- An act puts steps of its actor onto it, and changes no name unless it is an operation.
-pub put_on : (f : Profile) (act : Act) (p q : Progress) → Advances f act p q → (steps : List Made) × (q.list ≡ triples (stepper_of act) steps ++ p.list) × MatchOption (operation_in act) (q.names ≡ p.names) (λ op. Unit {0})
-put_on f (Operates op) p q did = (did.0.steps, list_of did.2, tt)
-put_on f (Settles k) p q did = ([], list_of did, names_of did)
-put_on f (Ticks epoch) p q did = (made (Tick epoch) did.0 ∷ [], list_of did.1, names_of did.1)
-put_on f MakesPass p q did = (did.2, list_of did.4, names_of did.4)
-put_on f ReadsEpoch p q did = (epoch_look did.0, list_of did.1, names_of did.1)
-put_on f (StopsIdle k n) p q did = elim did [ inl so ↦ (so.1, list_of so.4, names_of so.4) | inr stays ↦ ([], list_of stays.1, names_of stays.1) ]
-put_on f (MarksPhase n) p q did = ([], list_of did, names_of did)
-put_on f (Wakes k) p q did = (epoch_look did.0, list_of did.1, names_of did.1)
-put_on f MarksClose p q did = ([], list_of did, names_of did)
-put_on f (Ends k) p q did = (did.0, list_of did.3, names_of did.3)
+-- pieces of steps, the newest first, each of one actor
+pub data Pieces : Type 0 where
+  Done : Pieces
+  Before : (k : ℕ) (steps : List Made) → Pieces → Pieces
+
+abbrev pub pieces_on : Pieces → Whole → Whole
+pieces_on Done l = l
+pieces_on (Before k steps earlier) l = triples k steps ++ pieces_on earlier l
+
+abbrev piece_of : ℕ → List Made → Pieces
+piece_of k steps = Before k steps Done
+
+-- an act puts pieces onto it, and changes no name unless it is an operation
+abbrev PutsOn : Act → Progress → Progress → Type 0
+PutsOn act p q = (pieces : Pieces) × (q.list ≡ pieces_on pieces p.list) × MatchOption (operation_in act) (q.names ≡ p.names) (λ op. Unit {0})
+
+-- .. a guarded request one of its keeper, and then, where that gave no block, one of its thread
+pub tried_on : (f : Profile) (op : Op) (r : Request) (block : Option Block) (p q : Progress) → AnswersTried f op r block p q → (pieces : Pieces) × (q.list ≡ pieces_on pieces p.list)
+tried_on f op r (Some block) p q did = (Done, list_of did)
+tried_on f op r None p q did = (piece_of op.actor did.0.steps, list_of did.2)
+
+pieces_both : (late early : Pieces) (l : Whole) → (both : Pieces) × (pieces_on both l ≡ pieces_on late (pieces_on early l))
+pieces_both Done early l = (early, refl)
+pieces_both (Before k steps earlier) early l = let rest = pieces_both earlier early l in (Before k steps rest.0, ap (λ (m : Whole). triples k steps ++ m) rest.1)
+
+guarded_on : (f : Profile) (keeper : ℕ) (op : Op) (o : Option Request) (p q : Progress) → AnswersGuarded f keeper op o p q → (pieces : Pieces) × (q.list ≡ pieces_on pieces p.list)
+guarded_on f keeper op None p q did = absurd did
+guarded_on f keeper op (Some r) p q did =
+    let late = tried_on f op r did.0.block (after_trying p keeper did.0) q did.2 in
+    let both = pieces_both late.0 (piece_of keeper did.0.steps) p.list in
+    (both.0, late.1 ∙ sym both.1)
+
+pub put_on : (f : Profile) (act : Act) (p q : Progress) → Advances f act p q → PutsOn act p q
+put_on f (Operates op) p q did = (piece_of op.actor did.0.steps, list_of did.2, tt)
+put_on f (Guards keeper op) p q did = let on = guarded_on f keeper op (request_in op.what) p q did in (on.0, on.1, tt)
+put_on f (Settles k) p q did = (Done, list_of did, names_of did)
+put_on f (Ticks epoch) p q did = (piece_of 0 (made (Tick epoch) did.0 ∷ []), list_of did.1, names_of did.1)
+put_on f MakesPass p q did = (piece_of 0 did.2, list_of did.4, names_of did.4)
+put_on f ReadsEpoch p q did = (piece_of 0 (epoch_look did.0), list_of did.1, names_of did.1)
+put_on f (StopsIdle k n) p q did = elim did [ inl so ↦ (piece_of k so.1, list_of so.4, names_of so.4) | inr stays ↦ (Done, list_of stays.1, names_of stays.1) ]
+put_on f (MarksPhase n) p q did = (Done, list_of did, names_of did)
+put_on f (Wakes k) p q did = (piece_of k (epoch_look did.0), list_of did.1, names_of did.1)
+put_on f MarksClose p q did = (Done, list_of did, names_of did)
+put_on f (Ends k) p q did = (piece_of k did.0, list_of did.3, names_of did.3)
+put_on f (Lowers keeper) p q did = (piece_of keeper did.0, list_of did.3, names_of did.3)
+
+pub pieces_back : (P : Whole → Type 0) → ((k : ℕ) (steps : List Made) (l : Whole) → P (triples k steps ++ l) → P l) → (pieces : Pieces) (l : Whole) → P (pieces_on pieces l) → P l
+pieces_back P back Done l so = so
+pieces_back P back (Before k steps earlier) l so = pieces_back P back earlier l (back k steps (pieces_on earlier l) so)
 
 -- what is so of a list only where it was so before any steps, was so before acts
 pub was_so : (f : Profile) (P : Whole → Type 0) → ((k : ℕ) (steps : List Made) (l : Whole) → P (triples k steps ++ l) → P l) → (acts : List Act) (p q : Progress) → Reaches f acts p q → P q.list → P p.list
 was_so f P back [] p q is so = subst P (list_of is) so
 was_so f P back (act ∷ acts) p q is so =
     let on = put_on f act p is.0 is.1 in
-    back (stepper_of act) on.0 p.list (subst P on.1 (was_so f P back acts is.0 q is.2 so))
+    pieces_back P back on.0 p.list (subst P on.1 (was_so f P back acts is.0 q is.2 so))

@@ -30,7 +30,7 @@ shown_more {σ} {σ'} {C} {steps} adds old new before after v l stood met =
     ∙ reverse-append (events_by σ.seat.actor v steps) (events_of σ.seat.actor v) ∙ ap (λ es. es ++ reverse (events_by σ.seat.actor v steps)) (sym (before v l stood))
 
 -- the events of a call are those from the place on where the earlier ones ended
-shown_new : {σ σ' : Standing} {C : View → Type 0} {steps : List Made} → Adds σ σ' C steps → (old new : List Event) → IsShown σ old → IsShown σ' new → (v : View) (l : Whole) → σ.stands v l → C v → drop (length old) new ≡ reverse (events_by σ.seat.actor v steps)
+pub shown_new : {σ σ' : Standing} {C : View → Type 0} {steps : List Made} → Adds σ σ' C steps → (old new : List Event) → IsShown σ old → IsShown σ' new → (v : View) (l : Whole) → σ.stands v l → C v → drop (length old) new ≡ reverse (events_by σ.seat.actor v steps)
 shown_new {σ} {σ'} {C} {steps} adds old new before after v l stood met = ap (drop (length old)) (shown_more adds old new before after v l stood met) ∙ drop-append_seam old (reverse (events_by σ.seat.actor v steps))
 
 pub shown_longer : {σ σ' : Standing} {C : View → Type 0} {steps : List Made} → Adds σ σ' C steps → (old new : List Event) → IsShown σ old → IsShown σ' new → CanCall σ C → length old ≤ length new

@@ -32,7 +32,7 @@ use Rattle.pas_steps.specs.Events.{events_by}
 use Rattle.pas_steps.specs.Lists.{Whole, part, word_after, visible, Legal}
 use Rattle.pas_steps.specs.Desks.{Standing, CanCall}
 use Rattle.pas_trace.specs.declared.item.Request.{Request}
-use Rattle.pas_trace.specs.declared.plan.What.TheVariants.{Alloc}
+use Rattle.pas_trace.specs.declared.plan.What.TheVariants.{Alloc, Guarded}
 use Rattle.pas_cache.specs.Caches.{Cached, AtRest}
 use Rattle.pas_profile.specs.declared.directory.Route.{Route}
 use Rattle.pas_trace.specs.Reasons.{cost_of_size}
@@ -43,7 +43,10 @@ use Rattle.pas_cache.specs.Serves.{IsSmallRoute, Wanted, wanted_for, pages_of, I
 use Rattle.pas_steps.specs.Unknown.{unknown_pages}
 use Rattle.pas_answers.specs.Answers.{named as the_name, block_of, said_by, said_of_request, IsGiven, RefusalEnds, RequestEnds}
 use Rattle.pas_answers.specs.Indexes.{IsNamedFor, request_made}
-use Rattle.pas_answers.specs.Calls.{IsBlockOf, MayStand, owed_events, MayPerform, Serves, events_for, PerformsMeant}
+use Rattle.pas_trace.specs.declared.plan.Task.{Task}
+use Rattle.pas_report.specs.declared.record.Said.{Said}
+use Rattle.pas_answers.specs.Fit.{cost_of_what}
+use Rattle.pas_answers.specs.Calls.{what_of, IsBlockOf, MayStand, owed_events, MayPerform, Serves, events_for, PerformsMeant}
 use Rattle.pas_steps.proofs.Adding.{adds_none, can_call}
 use Rattle.pas_steps.proofs.Unknown.{unknown_stays, has_room}
 use Rattle.pas_cache.proofs.Routes.{is_small, is_large, small_may, small_did, none_named, pages_asked}
@@ -239,3 +242,19 @@ module _ (σ σ' : Standing) (c c' : Cached) (name heap size align : ℕ) (found
     },
     named_for σ.seat.profile name heap size align Answers Same found named,
   )
+
+-- ---- a guarded request that is answered as any
+pub can_unguarded : {σ : Standing} {task : Task} {keeper name heap size align : ℕ} (c : Cached) (spare : ℕ) → task ≡ Task.Guarded keeper name heap size align → CanCall σ (MayPerform σ.seat.profile c (what_of task) spare)
+    → CanCall σ (MayPerform σ.seat.profile c (Alloc name heap size align) spare)
+can_unguarded {σ} {task} {keeper} {name} {heap} {size} {align} c spare is can = can_call adds_none can (λ v l stood met.
+    let room = met.room in
+    let cost : cost_of_what (what_of task) ≡ cost_of_size size + 2 = ap (λ (t : Task). cost_of_what (what_of t)) is in
+    record { rest = met.rest; room = omega (arith, room, cost) })
+
+-- what answers the request answers the guarded one, which costs more
+pub guarded_performs : {σ σ' : Standing} {c c' : Cached} {name heap size align : ℕ} {meant came : Option Block} {said : Option Said} (Answers : ℕ → ℕ → Option ℕ → Type 0) (Same : Type 0) (keeper : ℕ)
+    → (did : PerformsMeant (Alloc name heap size align) meant came c c' σ σ' said) × IsNamedFor σ.seat.profile Answers Same (request_made (Alloc name heap size align) meant) did.found
+    → (did : PerformsMeant (Guarded keeper name heap size align) meant came c c' σ σ' said) × IsNamedFor σ.seat.profile Answers Same (request_made (Guarded keeper name heap size align) meant) did.found
+guarded_performs Answers Same keeper is =
+    let did = is.0 in
+    (record { steps = did.steps; found = did.found; calls = did.calls; few = λ v rest agreed. let few = did.few v rest agreed in omega (arith, few); answered = did.answered; others = did.others }, is.1)

@@ -1,16 +1,17 @@
 -- What a single act changes and shows, whatever region it is done at.
-use Rattle.std.proofs.Common.{◌≡◌, ◌≢◌, ℕ, ◌≤◌, Bool, if◌then◌else◌, List, length, refl, ap, ◌∙◌, arith, true, false, [], ◌∷◌, reverse, length-append}
+use Rattle.std.proofs.Common.{◌≡◌, ◌≢◌, ℕ, ◌+◌, ◌≤◌, ◌++◌, Bool, if◌then◌else◌, List, length, refl, ap, ◌∙◌, arith, true, false, [], ◌∷◌, reverse, length-append}
 use Rattle.std.proofs.lemmas.Bool.{eq-eqb, ne_eqb}
 use Rattle.pas_profile.specs.declared.profile.Profile.{Profile}
 use Rattle.pas_cache.specs.Caches.{Cached}
 use Rattle.pas_answers.specs.Answers.{Caches, with_cache, Named, epoch_look, records_of}
 use Rattle.std.proofs.lemmas.List.{length-reverse, length-map}
 use Rattle.pas_profile.specs.declared.event.Event.{Event}
+use Rattle.pas_trace.specs.Acts.{Act}
 use Rattle.pas_trace.specs.declared.plan.What.{What}
 use Rattle.pas_trace.specs.declared.plan.What.TheVariants.{Free, FreeSized, Remake}
 use Rattle.pas_report.specs.declared.record.Record.{Record}
 use Rattle.pas_answers.specs.Calls.{AreKnown, IsKnown}
-use Rattle.pas_answers.specs.Fit.{IsFitWhat}
+use Rattle.pas_answers.specs.Fit.{IsFitWhat, sum_over}
 use Rattle.pas_profile.specs.declared.event.Outcome.{Outcome}
 use Rattle.pas_profile.specs.declared.word.Word.TheVariants as Word
 use Rattle.pas_steps.specs.Calls.{Calls}
@@ -55,3 +56,8 @@ few_unbacks k epoch (x ∷ pairs) =
 pub reads : {σ σ' : Standing} (epoch : ℕ) → Makes σ σ' (Look Word.Epoch) epoch → Calls σ σ' HasNothing (λ v w. HasNothing w) (epoch_look epoch)
 reads {σ} {σ'} epoch makes = call_step (λ v w. HasNothing w) (call_none {R = λ v w. HasNothing w} (λ v met. met)) makes (λ v met is. tt)
     (λ v met is agrees. nothing_still (does_idly σ.seat.profile (LookEpoch ∷ []) refl (epoch_look epoch) v (refl, tt) (agrees, tt)) met)
+
+-- ---- what acts cost, one after the other
+pub sum_both : (cost : Act → ℕ) (xs ys : List Act) → sum_over cost (xs ++ ys) ≡ sum_over cost xs + sum_over cost ys
+sum_both cost [] ys = omega arith
+sum_both cost (x ∷ xs) ys = let rest = sum_both cost xs ys in omega (arith, rest)

@@ -87,10 +87,10 @@ look_tidy word a v is = tidy_over looking refl (made (Look word) a ∷ []) v (is
 pub tick_tidy : (asked a : ℕ) (v : View) → Tidy v → Tidy (made (Tick asked) a ∷ v)
 tick_tidy asked a v tidy = record { kept = (tidy.stamped, tidy.kept); stamped = tidy.stamped }
 
-tidy_none : (steps : List Made) (v : View) → steps ≡ [] → Tidy v → Tidy (steps ++ v)
+pub tidy_none : (steps : List Made) (v : View) → steps ≡ [] → Tidy v → Tidy (steps ++ v)
 tidy_none steps v none tidy = subst (λ ms. Tidy (ms ++ v)) (sym none) tidy
 
-tidy_both : (steps ys xs : List Made) (v : View) → steps ≡ ys ++ xs → Tidy (ys ++ (xs ++ v)) → Tidy (steps ++ v)
+pub tidy_both : (steps ys xs : List Made) (v : View) → steps ≡ ys ++ xs → Tidy (ys ++ (xs ++ v)) → Tidy (steps ++ v)
 tidy_both steps ys xs v is tidy = subst (λ ms. Tidy (ms ++ v)) (sym is) (subst Tidy (sym (append_assoc ys xs v)) tidy)
 
 -- ---- the pages of a block
@@ -317,6 +317,7 @@ remade_tidy f k name size align (Some (Some old)) b a (inr h) of tidy =
 
 pub answer_tidy : (f : Profile) (k : ℕ) (what : What) (b : Having) (a : Answer) → IsAnswered f k what b a → AreOfRegion f a.steps → Tidy b.view → Tidy (a.steps ++ b.view)
 answer_tidy f k (What.Alloc name heap size align) b a h of tidy = tidy_over allocating refl a.steps b.view h.kinds tidy
+answer_tidy f k (What.Guarded keeper name heap size align) b a h of tidy = tidy_over allocating refl a.steps b.view h.kinds tidy
 answer_tidy f k (What.FreeSized name room) b a h of tidy = freed_tidy f k b.cache a.cache name (Some room) (standing_for b.names name) a.steps a.said b.view of h.0 tidy
 answer_tidy f k (What.RawSized room block) b a h of tidy = free_tidy f k b.cache a.cache (sized_entry block room) a.steps a.said b.view of h.0 tidy
 answer_tidy f k (What.Free name) b a h of tidy = freed_tidy f k b.cache a.cache name None (standing_for b.names name) a.steps a.said b.view of h.0 tidy

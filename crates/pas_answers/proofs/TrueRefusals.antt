@@ -10,19 +10,23 @@ use Rattle.pas_steps.specs.Lists.{Whole, part, Legal}
 use Rattle.pas_steps.specs.declared.step.Made.{Made}
 use Rattle.pas_core.proofs.OneActor.{legal_before, legal_earlier}
 use Rattle.pas_trace.specs.EveryPlan.{asked_after}
+use Rattle.pas_trace.specs.Asked.{request_in}
+use Rattle.pas_trace.specs.declared.item.Request.{Request}
+use Rattle.pas_trace.specs.declared.plan.Op.{Op}
 use Rattle.pas_trace.specs.declared.plan.What.{What}
-use Rattle.pas_trace.specs.declared.plan.What.TheVariants.{Alloc, Remake}
+use Rattle.pas_trace.specs.declared.plan.What.TheVariants.{Alloc, Guarded, Remake}
 use Rattle.pas_cache.specs.Caches.{Cached, AtRest}
 use Rattle.pas_cache.specs.Refusals.{IsTrulyRefused, TakesWhatIsNamed}
 use Rattle.pas_cache.specs.Serves.{wanted_for, ServesRequest}
 use Rattle.pas_cache.proofs.Alone.{truly_refused, takes_named}
-use Rattle.pas_trace.specs.Acts.{Act, Operates, Ticks}
+use Rattle.pas_trace.specs.Acts.{Act, Operates, Guards, Ticks}
 use Rattle.pas_answers.specs.Answers.{Having, having, Answer, standing_for, wanted_by, request_for, IsReplaced, IsRemadeBy, IsAnswered, Progress}
-use Rattle.pas_answers.specs.Reaching.{Reaches}
+use Rattle.pas_answers.specs.Reaching.{AnswersTried, AnswersGuarded, Reaches}
+use Rattle.pas_answers.specs.Guarding.{after_trying}
 use Rattle.pas_answers.proofs.Reached.{was_so}
 use Rattle.pas_answers.specs.Fit.{IsFitWhat, AreFit}
-use Rattle.pas_answers.specs.Refusals.{request_in_remade, RefusesTruly, AllRefuseTruly}
-use Rattle.pas_answers.specs.Indexes.{TakesItsRun, AllTakeTheirRuns}
+use Rattle.pas_answers.specs.Refusals.{request_in_remade, RefusesTruly, TriedRefusesTruly, GuardedRefusesTruly, AllRefuseTruly}
+use Rattle.pas_answers.specs.Indexes.{TakesItsRun, TriedTakesItsRun, GuardedTakesItsRun, AllTakeTheirRuns}
 
 -- ---- one operation
 request_refuses : (f : Profile) (k heap size align : ℕ) (c c' : Cached) (l : Whole) (steps : List Made) (found : Option ℕ) (answer : Result Block NoRoom) → IsValid f → IsAdmitted f size align heap → AtRest f c (part k l) → Legal f (triples k steps ++ l)
@@ -57,9 +61,23 @@ in_each_heap f size align heap admitted other of = record { within = admitted.wi
 operation_refuses : (f : Profile) (k limit : ℕ) (asked : List ℕ) (what : What) (b : Having) (a : Answer) (l : Whole) → IsValid f → part k l ≡ b.view → IsFitWhat f limit asked what → Legal f (triples k a.steps ++ l) → (is : IsAnswered f k what b a) → RefusesTruly f k what b a is l
 operation_refuses f k limit asked (Alloc name heap size align) b a l valid own fit legal is =
     request_refuses f k heap size align b.cache a.cache l a.steps a.found is.answer valid fit.1.0 (subst (AtRest f b.cache) (sym own) is.rest) legal is.serves
+operation_refuses f k limit asked (Guarded keeper name heap size align) b a l valid own fit legal is =
+    request_refuses f k heap size align b.cache a.cache l a.steps a.found is.answer valid fit.1.0 (subst (AtRest f b.cache) (sym own) is.rest) legal is.serves
 operation_refuses f k limit asked (Remake name old heap size align) b a l valid own fit legal is =
     remade_refuses f k name size align b a l valid own legal (standing_for b.names old) (in_each_heap f size align heap fit.1.0) is
 operation_refuses f k limit asked what b a l valid own fit legal is = tt
+
+-- ---- a guarded request that its thread answers
+tried_refuses : (f : Profile) (limit : ℕ) (asked : List ℕ) (op : Op) (r : Request) (block : Option Block) (p q : Progress) → IsValid f → IsFitWhat f limit asked op.what → Legal f q.list → (is : AnswersTried f op r block p q)
+    → TriedRefusesTruly f op r block p q is
+tried_refuses f limit asked op r (Some block) p q valid fit legal is = tt
+tried_refuses f limit asked op r None p q valid fit legal is =
+    operation_refuses f op.actor limit asked op.what (having p.names (part op.actor p.list) (p.caches op.actor)) is.0 p.list valid refl fit (subst (λ (s : Progress). Legal f s.list) is.2 legal) is.1
+
+guarded_refuses : (f : Profile) (keeper limit : ℕ) (asked : List ℕ) (op : Op) (o : Option Request) (p q : Progress) → IsValid f → IsFitWhat f limit asked op.what → Legal f q.list → (is : AnswersGuarded f keeper op o p q)
+    → GuardedRefusesTruly f keeper op o p q is
+guarded_refuses f keeper limit asked op None p q valid fit legal is = absurd is
+guarded_refuses f keeper limit asked op (Some r) p q valid fit legal is = tried_refuses f limit asked op r is.0.block (after_trying p keeper is.0) q valid fit legal is.2
 
 -- ---- all acts
 pub all_refuse : (f : Profile) (limit : ℕ) (asked : List ℕ) (acts : List Act) (p q : Progress) → IsValid f → AreFit f limit asked acts → Legal f q.list → (is : Reaches f acts p q) → AllRefuseTruly f acts p q is
@@ -68,14 +86,27 @@ all_refuse f limit asked (Operates op ∷ acts) p q valid fit legal is = (
   operation_refuses f op.actor limit asked op.what (having p.names (part op.actor p.list) (p.caches op.actor)) is.1.0 p.list valid refl fit.1 (subst (λ (r : Progress). Legal f r.list) is.1.2 (was_so f (Legal f) (legal_before f) acts is.0 q is.2 legal)) is.1.1,
   all_refuse f limit (asked_after op.what asked) acts is.0 q valid fit.2 legal is.2,
 )
+all_refuse f limit asked (Guards keeper op ∷ acts) p q valid fit legal is =
+    let now = was_so f (Legal f) (legal_before f) acts is.0 q is.2 legal in
+    (guarded_refuses f keeper limit asked op (request_in op.what) p is.0 valid fit.3 now is.1, all_refuse f limit (asked_after op.what asked) acts is.0 q valid fit.4 legal is.2)
 all_refuse f limit asked (Ticks epoch ∷ acts) p q valid fit legal is = (tt, all_refuse f limit asked acts is.0 q valid fit.1 legal is.2)
 all_refuse f limit asked (act ∷ acts) p q valid fit legal is = (tt, all_refuse f limit asked acts is.0 q valid fit legal is.2)
 
 -- ---- the runs that were named
 takes_run : (f : Profile) (k : ℕ) (what : What) (b : Having) (a : Answer) (l : Whole) → IsValid f → part k l ≡ b.view → Legal f (triples k a.steps ++ l) → (is : IsAnswered f k what b a) → TakesItsRun f k what b a is l
 takes_run f k (Alloc name heap size align) b a l valid own legal is = takes_named f heap size align k a.found b.cache a.cache l a.steps is.answer valid (subst (AtRest f b.cache) (sym own) is.rest) legal is.serves
+takes_run f k (Guarded keeper name heap size align) b a l valid own legal is = takes_named f heap size align k a.found b.cache a.cache l a.steps is.answer valid (subst (AtRest f b.cache) (sym own) is.rest) legal is.serves
 takes_run f k (Remake name old heap size align) b a l valid own legal is = remade_takes f k name size align b a l valid own legal (standing_for b.names old) is
 takes_run f k what b a l valid own legal is = tt
+
+tried_takes : (f : Profile) (op : Op) (r : Request) (block : Option Block) (p q : Progress) → IsValid f → Legal f q.list → (is : AnswersTried f op r block p q) → TriedTakesItsRun f op r block p q is
+tried_takes f op r (Some block) p q valid legal is = tt
+tried_takes f op r None p q valid legal is =
+    takes_run f op.actor op.what (having p.names (part op.actor p.list) (p.caches op.actor)) is.0 p.list valid refl (subst (λ (s : Progress). Legal f s.list) is.2 legal) is.1
+
+guarded_takes : (f : Profile) (keeper : ℕ) (op : Op) (o : Option Request) (p q : Progress) → IsValid f → Legal f q.list → (is : AnswersGuarded f keeper op o p q) → GuardedTakesItsRun f keeper op o p q is
+guarded_takes f keeper op None p q valid legal is = absurd is
+guarded_takes f keeper op (Some r) p q valid legal is = tried_takes f op r is.0.block (after_trying p keeper is.0) q valid legal is.2
 
 pub all_take : (f : Profile) (acts : List Act) (p q : Progress) → IsValid f → Legal f q.list → (is : Reaches f acts p q) → AllTakeTheirRuns f acts p q is
 all_take f [] p q valid legal is = tt
@@ -83,4 +114,7 @@ all_take f (Operates op ∷ acts) p q valid legal is = (
   takes_run f op.actor op.what (having p.names (part op.actor p.list) (p.caches op.actor)) is.1.0 p.list valid refl (subst (λ (r : Progress). Legal f r.list) is.1.2 (was_so f (Legal f) (legal_before f) acts is.0 q is.2 legal)) is.1.1,
   all_take f acts is.0 q valid legal is.2,
 )
+all_take f (Guards keeper op ∷ acts) p q valid legal is =
+    let now = was_so f (Legal f) (legal_before f) acts is.0 q is.2 legal in
+    (guarded_takes f keeper op (request_in op.what) p is.0 valid now is.1, all_take f acts is.0 q valid legal is.2)
 all_take f (act ∷ acts) p q valid legal is = (tt, all_take f acts is.0 q valid legal is.2)

@@ -23,7 +23,7 @@ use Rattle.pas_steps.specs.declared.step.Made.{Made}
 use Rattle.pas_steps.specs.declared.step.Step.TheVariants.{Look}
 use Rattle.pas_steps.specs.declared.step.Step.TheVariants as Step
 use Rattle.pas_trace.specs.declared.plan.What.{What}
-use Rattle.pas_trace.specs.declared.plan.What.TheVariants.{Alloc, Free, FreeSized, Raw, RawSized, Remake, Flush, Stop, Tick, Pass, Idle}
+use Rattle.pas_trace.specs.declared.plan.What.TheVariants.{Alloc, Guarded, Free, FreeSized, Raw, RawSized, Remake, Flush, Stop, Tick, Pass, Idle}
 pub use Rattle.pas_trace.specs.Named.{Named, named, standing_for, suits, request_for}
 use Rattle.pas_trace.specs.declared.item.Request.{Request}
 use Rattle.pas_report.specs.declared.record.Record.{Record}
@@ -37,6 +37,7 @@ use Rattle.pas_free_log.specs.declared.log.Entry.{Entry}
 use Rattle.pas_free_log.specs.Logs.{entry_of, sized_entry}
 use Rattle.pas_cache.specs.Calls.{TakesEntry, RefusesName}
 use Rattle.pas_passes.specs.Records.{records_of_pass}
+use Rattle.pas_guard.specs.declared.book.Guard.{Guard}
 
 -- ---- what the caches hold, by thread
 abbrev pub Caches : Type 0
@@ -45,6 +46,14 @@ Caches = ℕ → Cached
 -- that of thread k has become c
 abbrev pub with_cache : Caches → ℕ → Cached → Caches
 with_cache caches k c j = if j == k then c else caches j
+
+-- ---- the guards that the keepers have up, by keeper
+abbrev pub Books : Type 0
+Books = ℕ → List Guard
+
+-- those of this keeper have become these
+abbrev pub with_book : Books → ℕ → List Guard → Books
+with_book books k guards j = if j == k then guards else books j
 
 -- ---- one operation
 -- what an actor has before it: what the names stand for, the actor's view, and what its cache holds
@@ -203,9 +212,10 @@ pub record IsStopped (k : ℕ) (c c' : Cached) (steps : List Made) : Type 0 wher
   pub steps_are : steps ≡ stopped ++ flushed
 
 -- ---- operations and acts
--- An operation of thread k is answered so. Those of the scavenger are acts of their own.
+-- An operation of thread k is answered so. Those of the scavenger are acts of their own. A guarded request that its thread serves is answered as any is.
 abbrev pub IsAnswered : Profile → ℕ → What → Having → Answer → Type 0
 IsAnswered f k (Alloc name heap size align) b a = IsServed f k (record { name = name; heap = heap; size = size; align = align }) b a
+IsAnswered f k (Guarded keeper name heap size align) b a = IsServed f k (record { name = name; heap = heap; size = size; align = align }) b a
 IsAnswered f k (Free name) b a = IsFreedBy f k b.cache a.cache name None (standing_for b.names name) a.steps a.said × (a.names ≡ b.names)
 IsAnswered f k (FreeSized name room) b a = IsFreedBy f k b.cache a.cache name (Some room) (standing_for b.names name) a.steps a.said × (a.names ≡ b.names)
 IsAnswered f k (Raw block) b a = IsFreed f k b.cache a.cache (entry_of block) a.steps a.said × (a.names ≡ b.names)
@@ -225,11 +235,12 @@ begun c epoch = record { locals = c.locals; log = c.log; noted = c.noted; idle_s
 abbrev pub settled : Cached → Cached
 settled c = record { locals = c.locals; log = c.log; noted = []; idle_since = c.idle_since }
 
--- how far a replay has come: what the names stand for, what the caches hold, the epoch that the scavenger read last for an idle operation, the list of
--- the steps, and the records
+-- how far a replay has come: what the names stand for, what the caches hold, which guards are up, the epoch that the scavenger read last for an idle operation,
+-- the list of the steps, and the records
 pub record Progress : Type 0 where
   pub names : List Named
   pub caches : Caches
+  pub books : Books
   pub epoch : ℕ
   pub list : Whole
   pub records : List Record

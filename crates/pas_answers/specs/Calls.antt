@@ -10,7 +10,7 @@ use Rattle.pas_steps.specs.declared.step.Made.{Made}
 use Rattle.pas_trace.specs.Asked.{request_in, freed_in}
 use Rattle.pas_trace.specs.EveryPlan.{is_asked}
 use Rattle.pas_trace.specs.declared.plan.What.{What}
-use Rattle.pas_trace.specs.declared.plan.What.TheVariants.{Alloc, Free, FreeSized, Raw, RawSized, Remake, Flush, Stop}
+use Rattle.pas_trace.specs.declared.plan.What.TheVariants.{Alloc, Guarded, Free, FreeSized, Raw, RawSized, Remake, Flush, Stop}
 use Rattle.pas_trace.specs.declared.plan.Task.{Task}
 use Rattle.pas_trace.specs.declared.item.Request.{Request}
 use Rattle.pas_report.specs.Rooms.{records_in, room_of, Records}
@@ -33,6 +33,7 @@ use Rattle.pas_answers.specs.declared.names.Names.{Names}
 -- ---- the operation that asks its thread for this
 abbrev pub what_of : Task → What
 what_of (Task.Request name heap size align) = Alloc name heap size align
+what_of (Task.Guarded keeper name heap size align) = Guarded keeper name heap size align
 what_of (Task.Free name None) = Free name
 what_of (Task.Free name (Some room)) = FreeSized name room
 what_of (Task.FreeRaw block None) = Raw block

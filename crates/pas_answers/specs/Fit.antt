@@ -1,14 +1,16 @@
 -- What the acts of a plan keep, one after the other, and how many events and records they may make.
 use Rattle.std.specs.Prelude.{ℕ, ◌+◌, ◌^◌, ◌<◌, ◌≤◌, ◌==◌, if◌then◌else◌, List, [], ◌∷◌, Option, None, Some, MatchOption}
 use Rattle.pas_profile.specs.declared.profile.Profile.{Profile}
-use Rattle.pas_trace.specs.Asked.{work_of, request_of, cost_of_task}
+use Rattle.pas_trace.specs.Asked.{work_of, request_of, request_in, keeper_in, cost_of_task}
+use Rattle.pas_trace.specs.Reasons.{cost_of_size}
+use Rattle.pas_trace.specs.declared.item.Request.{Request}
 use Rattle.pas_trace.specs.EveryPlan.{asked_after, IsThread, IsSoundTask}
 pub use Rattle.pas_trace.specs.EveryPlan.{IsBelow, AreBelow}
 use Rattle.pas_trace.specs.declared.plan.What.{What}
 use Rattle.pas_trace.specs.declared.plan.Task.{Task}
 use Rattle.pas_trace.specs.declared.plan.Work.{Work}
 use Rattle.pas_trace.specs.declared.plan.Op.{Op}
-use Rattle.pas_trace.specs.Acts.{Act, Operates, Settles, Ticks, MakesPass, ReadsEpoch, StopsIdle, MarksPhase, Wakes, MarksClose, Ends, operation_in}
+use Rattle.pas_trace.specs.Acts.{Act, Operates, Guards, Settles, Ticks, MakesPass, ReadsEpoch, StopsIdle, MarksPhase, Wakes, MarksClose, Ends, Lowers, operation_in}
 
 -- A thread's operation can be replayed after those that asked for these names: it may follow them, and a name that it asks for is below the limit.
 abbrev pub IsFitTask : Profile → ℕ → List ℕ → Task → Type 0
@@ -21,10 +23,11 @@ IsFitWork f limit asked (Work.Chore chore) = ⊥
 abbrev pub IsFitWhat : Profile → ℕ → List ℕ → What → Type 0
 IsFitWhat f limit asked what = IsFitWork f limit asked (work_of what)
 
--- The acts can be done one after the other: each operation is of a thread, and fits; no epoch is asked for that a word can't hold. All others fit anywhere.
+-- The acts can be done one after the other: each operation is of a thread, and fits, and a guard is kept by another actor of the region; no epoch is asked for that a word can't hold. All others fit anywhere.
 abbrev pub AreFit : Profile → ℕ → List ℕ → List Act → Type 0
 AreFit f limit asked [] = Unit {0}
 AreFit f limit asked (Operates op ∷ acts) = IsThread f op.actor × IsFitWhat f limit asked op.what × AreFit f limit (asked_after op.what asked) acts
+AreFit f limit asked (Guards keeper op ∷ acts) = IsThread f keeper × (op.actor < keeper) × IsThread f op.actor × IsFitWhat f limit asked op.what × AreFit f limit (asked_after op.what asked) acts
 AreFit f limit asked (Ticks epoch ∷ acts) = (epoch < 2 ^ 40) × AreFit f limit asked acts
 AreFit f limit asked (act ∷ acts) = AreFit f limit asked acts
 
@@ -47,9 +50,11 @@ cost_of_work (Work.Chore chore) = 0
 abbrev pub cost_of_what : What → ℕ
 cost_of_what what = cost_of_work (work_of what)
 
--- how many records an act may make in the end, beside deeds. A pass says its epoch, and then what it came to on each page.
+-- how many records an act may make in the end, beside deeds. A pass says its epoch, and then what it came to on each page. A guarded request pays for that its guard went
+-- up and is lowered.
 abbrev pub cost_of_act : Profile → Act → ℕ
 cost_of_act f (Operates op) = cost_of_what op.what
+cost_of_act f (Guards keeper op) = cost_of_what op.what
 cost_of_act f (Settles k) = 0
 cost_of_act f (Ticks epoch) = 1
 cost_of_act f MakesPass = 1 + f.pages
@@ -59,6 +64,7 @@ cost_of_act f (MarksPhase n) = 1
 cost_of_act f (Wakes k) = 0
 cost_of_act f MarksClose = 1
 cost_of_act f (Ends k) = 0
+cost_of_act f (Lowers keeper) = 0
 
 abbrev pub costs_of : Profile → List Act → ℕ
 costs_of f acts = sum_over (cost_of_act f) acts
@@ -74,6 +80,18 @@ own_cost_of_act k act = own_cost_of k (operation_in act)
 abbrev pub own_costs_of : ℕ → List Act → ℕ
 own_costs_of k acts = sum_over (own_cost_of_act k) acts
 
+-- .. and how many a keeper, beside deeds: those of a request without a guard, for each that it tries
+abbrev pub kept_cost_of : Option Request → ℕ
+kept_cost_of None = 0
+kept_cost_of (Some r) = cost_of_size r.size
+
+abbrev pub kept_cost_of_act : ℕ → Act → ℕ
+kept_cost_of_act k (Guards keeper op) = if keeper == k then kept_cost_of (request_in op.what) else 0
+kept_cost_of_act k act = 0
+
+abbrev pub kept_costs_of : ℕ → List Act → ℕ
+kept_costs_of k acts = sum_over (kept_cost_of_act k) acts
+
 -- .. and how many the scavenger: a pass unbacks each page once at most, and nothing else unbacks one
 abbrev pub unbacks_of_act : Profile → Act → ℕ
 unbacks_of_act f MakesPass = f.pages
@@ -86,3 +104,8 @@ unbacks_of f acts = sum_over (unbacks_of_act f) acts
 abbrev pub AllBelow : ℕ → List (List Op) → Type 0
 AllBelow limit [] = Unit {0}
 AllBelow limit (phase ∷ phases) = AreBelow limit phase × AllBelow limit phases
+
+-- ---- who keeps guards
+-- a guard is kept by an actor of the region behind the thread
+abbrev pub KeepsAbove : Profile → Op → Type 0
+KeepsAbove f op = MatchOption (keeper_in op.what) (Unit {0}) (λ keeper. IsThread f keeper × (op.actor < keeper))

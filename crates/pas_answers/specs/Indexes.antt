@@ -8,15 +8,18 @@ use Rattle.pas_steps.specs.Lists.{Whole, part}
 use Rattle.pas_large.specs.Doors.{Indexes, no_ranges, found_in, cut_in, added_in}
 use Rattle.pas_free_log.specs.declared.noting.EndedRun.{EndedRun}
 use Rattle.pas_trace.specs.declared.plan.What.{What}
-use Rattle.pas_trace.specs.declared.plan.What.TheVariants.{Alloc, Remake}
+use Rattle.pas_trace.specs.declared.plan.What.TheVariants.{Alloc, Guarded, Remake}
 use Rattle.pas_trace.specs.declared.item.Request.{Request}
-use Rattle.pas_trace.specs.Acts.{Act, Operates, Settles}
+use Rattle.pas_trace.specs.Acts.{Act, Operates, Guards, Settles}
 use Rattle.pas_cache.specs.Calls.{IsNamed}
 use Rattle.pas_cache.specs.Refusals.{TakesWhatIsNamed}
 use Rattle.pas_cache.specs.Serves.{pages_of}
 use Rattle.pas_answers.specs.Answers.{Having, having, Answer, Named, standing_for, wanted_by, suits, request_for, IsAnswered, Progress}
 use Rattle.pas_answers.specs.Calls.{block_behind, freed_by}
-use Rattle.pas_answers.specs.Reaching.{Advances, Reaches}
+use Rattle.pas_trace.specs.Asked.{request_in}
+use Rattle.pas_trace.specs.declared.plan.Op.{Op}
+use Rattle.pas_answers.specs.Guarding.{after_trying}
+use Rattle.pas_answers.specs.Reaching.{AnswersTried, AnswersGuarded, Advances, Reaches}
 use Rattle.pas_answers.specs.Refusals.{request_in_answer}
 use Rattle.pas_answers.specs.Ways.{Way, InOrder, OnThreads}
 
@@ -29,6 +32,7 @@ unless_suited false r = Some r
 
 abbrev pub request_made : What → Option Block → Option Request
 request_made (Alloc name heap size align) meant = Some record { name = name; heap = heap; size = size; align = align }
+request_made (Guarded keeper name heap size align) meant = Some record { name = name; heap = heap; size = size; align = align }
 request_made (Remake name old heap size align) None = None
 request_made (Remake name old heap size align) (Some block) = unless_suited (suits block size align) (request_for block name size align)
 request_made what meant = None
@@ -59,29 +63,48 @@ abbrev pub with_noted : Indexes → List EndedRun → Indexes
 with_noted indexes [] = indexes
 with_noted indexes (run ∷ runs) = with_noted (added_in indexes run.heap run.range) runs
 
--- after an act: no other act changes an index
-abbrev pub indexes_after : Profile → Act → Progress → Indexes → Indexes
-indexes_after f (Operates op) p indexes = after_operation f (request_by p.names op.what) indexes
-indexes_after f (Settles k) p indexes = with_noted indexes (p.caches k).noted
-indexes_after f act p indexes = indexes
+-- a guarded request takes nothing out where its keeper gave the block, and else as any request of its thread
+abbrev pub after_tried : (f : Profile) (op : Op) (r : Request) (block : Option Block) (p p' : Progress) → AnswersTried f op r block p p' → Indexes → Indexes
+after_tried f op r (Some block) p p' is indexes = indexes
+after_tried f op r None p p' is indexes = after_operation f (request_by p.names op.what) indexes
+
+abbrev pub after_guarded : (f : Profile) (keeper : ℕ) (op : Op) (o : Option Request) (p p' : Progress) → AnswersGuarded f keeper op o p p' → Indexes → Indexes
+after_guarded f keeper op None p p' is indexes = indexes
+after_guarded f keeper op (Some r) p p' is indexes = after_tried f op r is.0.block (after_trying p keeper is.0) p' is.2 indexes
+
+-- after an act that took the replay from p to p': no other act changes an index
+abbrev pub indexes_after : (f : Profile) (act : Act) (p p' : Progress) → Advances f act p p' → Indexes → Indexes
+indexes_after f (Operates op) p p' is indexes = after_operation f (request_by p.names op.what) indexes
+indexes_after f (Guards keeper op) p p' is indexes = after_guarded f keeper op (request_in op.what) p p' is indexes
+indexes_after f (Settles k) p p' is indexes = with_noted indexes (p.caches k).noted
+indexes_after f act p p' is indexes = indexes
 
 abbrev pub indexes_after_all : (f : Profile) (acts : List Act) (p p' : Progress) → Reaches f acts p p' → Indexes → Indexes
 indexes_after_all f [] p p' is indexes = indexes
-indexes_after_all f (act ∷ acts) p p' is indexes = indexes_after_all f acts is.0 p' is.2 (indexes_after f act p indexes)
+indexes_after_all f (act ∷ acts) p p' is indexes = indexes_after_all f acts is.0 p' is.2 (indexes_after f act p is.0 is.1 indexes)
 
 -- ---- which runs they name
 -- For a request for n whole pages the first n pages of the lowest range of at least n pages were named that the heap's index holds, or none where it has none.
 abbrev pub IsNamedBy : Profile → Indexes → Option Request → Option ℕ → Type 0
 IsNamedBy f indexes request found = IsNamedFor f (λ heap n named. named ≡ found_in indexes heap n) (Unit {0}) request found
 
+abbrev pub TriedIsNamedBy : (f : Profile) → Indexes → (op : Op) (r : Request) (block : Option Block) (p p' : Progress) → AnswersTried f op r block p p' → Type 0
+TriedIsNamedBy f indexes op r (Some block) p p' is = Unit {0}
+TriedIsNamedBy f indexes op r None p p' is = IsNamedBy f indexes (request_by p.names op.what) is.0.found
+
+abbrev pub GuardedIsNamedBy : (f : Profile) → Indexes → (keeper : ℕ) (op : Op) (o : Option Request) (p p' : Progress) → AnswersGuarded f keeper op o p p' → Type 0
+GuardedIsNamedBy f indexes keeper op None p p' is = Unit {0}
+GuardedIsNamedBy f indexes keeper op (Some r) p p' is = TriedIsNamedBy f indexes op r is.0.block (after_trying p keeper is.0) p' is.2
+
 abbrev pub ActIsNamedBy : (f : Profile) → Indexes → (act : Act) (p p' : Progress) → Advances f act p p' → Type 0
 ActIsNamedBy f indexes (Operates op) p p' is = IsNamedBy f indexes (request_by p.names op.what) is.0.found
+ActIsNamedBy f indexes (Guards keeper op) p p' is = GuardedIsNamedBy f indexes keeper op (request_in op.what) p p' is
 ActIsNamedBy f indexes act p p' is = Unit {0}
 
 -- .. and so at each of several acts, by what the indexes hold then
 abbrev pub AllAreNamedBy : (f : Profile) → Indexes → (acts : List Act) (p p' : Progress) → Reaches f acts p p' → Type 0
 AllAreNamedBy f indexes [] p p' is = Unit {0}
-AllAreNamedBy f indexes (act ∷ acts) p p' is = ActIsNamedBy f indexes act p is.0 is.1 × AllAreNamedBy f (indexes_after f act p indexes) acts is.0 p' is.2
+AllAreNamedBy f indexes (act ∷ acts) p p' is = ActIsNamedBy f indexes act p is.0 is.1 × AllAreNamedBy f (indexes_after f act p is.0 is.1 indexes) acts is.0 p' is.2
 
 -- acts that take a replay from p to p', with the runs that the indexes name
 abbrev pub ReachesBy : Profile → Indexes → List Act → Progress → Progress → Type 0
@@ -92,8 +115,17 @@ ReachesBy f indexes acts p p' = (is : Reaches f acts p p') × AllAreNamedBy f in
 abbrev pub TakesItsRun : (f : Profile) (k : ℕ) (what : What) (b : Having) (a : Answer) → IsAnswered f k what b a → Whole → Type 0
 TakesItsRun f k what b a is l = MatchOption (request_in_answer f k what b a is) (Unit {0}) (λ s. TakesWhatIsNamed f (wanted_by f s.request) s.placed.found l s.placed.steps s.served.answer)
 
+abbrev pub TriedTakesItsRun : (f : Profile) (op : Op) (r : Request) (block : Option Block) (p p' : Progress) → AnswersTried f op r block p p' → Type 0
+TriedTakesItsRun f op r (Some block) p p' is = Unit {0}
+TriedTakesItsRun f op r None p p' is = TakesItsRun f op.actor op.what (having p.names (part op.actor p.list) (p.caches op.actor)) is.0 is.1 p.list
+
+abbrev pub GuardedTakesItsRun : (f : Profile) (keeper : ℕ) (op : Op) (o : Option Request) (p p' : Progress) → AnswersGuarded f keeper op o p p' → Type 0
+GuardedTakesItsRun f keeper op None p p' is = Unit {0}
+GuardedTakesItsRun f keeper op (Some r) p p' is = TriedTakesItsRun f op r is.0.block (after_trying p keeper is.0) p' is.2
+
 abbrev pub ActTakesItsRun : (f : Profile) (act : Act) (p p' : Progress) → Advances f act p p' → Type 0
 ActTakesItsRun f (Operates op) p p' is = TakesItsRun f op.actor op.what (having p.names (part op.actor p.list) (p.caches op.actor)) is.0 is.1 p.list
+ActTakesItsRun f (Guards keeper op) p p' is = GuardedTakesItsRun f keeper op (request_in op.what) p p' is
 ActTakesItsRun f act p p' is = Unit {0}
 
 abbrev pub AllTakeTheirRuns : (f : Profile) (acts : List Act) (p p' : Progress) → Reaches f acts p p' → Type 0

@@ -1,4 +1,6 @@
 pub mod Answers
+pub mod Guarding
+pub mod Keeping
 pub mod Reaching
 pub mod Ways
 pub mod Indexes

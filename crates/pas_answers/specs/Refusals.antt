@@ -6,12 +6,15 @@ use Rattle.pas_profile.specs.declared.profile.Profile.{Profile}
 use Rattle.pas_steps.specs.Desks.{triples}
 use Rattle.pas_steps.specs.Lists.{Whole, part}
 use Rattle.pas_trace.specs.declared.plan.What.{What}
-use Rattle.pas_trace.specs.declared.plan.What.TheVariants.{Alloc, Free, FreeSized, Raw, RawSized, Remake, Flush, Stop, Tick, Pass, Idle}
+use Rattle.pas_trace.specs.declared.plan.What.TheVariants.{Alloc, Guarded, Free, FreeSized, Raw, RawSized, Remake, Flush, Stop, Tick, Pass, Idle}
 use Rattle.pas_trace.specs.declared.item.Request.{Request}
 use Rattle.pas_cache.specs.Refusals.{IsTrulyRefused}
-use Rattle.pas_trace.specs.Acts.{Act, Operates, Settles, Ticks, MakesPass, ReadsEpoch, StopsIdle, MarksPhase, Wakes, MarksClose, Ends}
+use Rattle.pas_trace.specs.Acts.{Act, Operates, Guards, Settles, Ticks, MakesPass, ReadsEpoch, StopsIdle, MarksPhase, Wakes, MarksClose, Ends, Lowers}
 use Rattle.pas_answers.specs.Answers.{Having, having, Answer, standing_for, wanted_by, request_for, IsServed, IsKept, IsReplaced, IsRemadeBy, IsAnswered, Progress}
-use Rattle.pas_answers.specs.Reaching.{Advances, Reaches}
+use Rattle.pas_trace.specs.Asked.{request_in}
+use Rattle.pas_trace.specs.declared.plan.Op.{Op}
+use Rattle.pas_answers.specs.Guarding.{after_trying}
+use Rattle.pas_answers.specs.Reaching.{AnswersTried, AnswersGuarded, Advances, Reaches}
 use Rattle.pas_answers.specs.Ways.{Way, InOrder, OnThreads}
 
 -- ---- the request in an answer
@@ -34,6 +37,7 @@ request_in_remade f k name size align (Some (Some old)) b a is = request_in_move
 -- that of an operation, where it made one
 abbrev pub request_in_answer : (f : Profile) (k : ℕ) (what : What) (b : Having) (a : Answer) → IsAnswered f k what b a → Option (Served f k b)
 request_in_answer f k (Alloc name heap size align) b a is = Some record { request = record { name = name; heap = heap; size = size; align = align }; placed = a; served = is }
+request_in_answer f k (Guarded keeper name heap size align) b a is = Some record { request = record { name = name; heap = heap; size = size; align = align }; placed = a; served = is }
 request_in_answer f k (Free name) b a is = None
 request_in_answer f k (FreeSized name room) b a is = None
 request_in_answer f k (Raw block) b a is = None
@@ -52,9 +56,19 @@ abbrev pub RefusesTruly : (f : Profile) (k : ℕ) (what : What) (b : Having) (a 
 RefusesTruly f k what b a is l =
     MatchOption (request_in_answer f k what b a is) (Unit {0}) (λ s. MatchResult s.served.answer (λ block. Unit {0}) (IsTrulyRefused f (wanted_by f s.request) b.cache.locals l (triples k s.placed.steps ++ l)))
 
+-- a guarded request, where its thread answered it after its keeper
+abbrev pub TriedRefusesTruly : (f : Profile) (op : Op) (r : Request) (block : Option Block) (p p' : Progress) → AnswersTried f op r block p p' → Type 0
+TriedRefusesTruly f op r (Some block) p p' is = Unit {0}
+TriedRefusesTruly f op r None p p' is = RefusesTruly f op.actor op.what (having p.names (part op.actor p.list) (p.caches op.actor)) is.0 is.1 p.list
+
+abbrev pub GuardedRefusesTruly : (f : Profile) (keeper : ℕ) (op : Op) (o : Option Request) (p p' : Progress) → AnswersGuarded f keeper op o p p' → Type 0
+GuardedRefusesTruly f keeper op None p p' is = Unit {0}
+GuardedRefusesTruly f keeper op (Some r) p p' is = TriedRefusesTruly f op r is.0.block (after_trying p keeper is.0) p' is.2
+
 -- an act that was answered so, where it is a request
 abbrev pub ActRefusesTruly : (f : Profile) (act : Act) (p p' : Progress) → Advances f act p p' → Type 0
 ActRefusesTruly f (Operates op) p p' is = RefusesTruly f op.actor op.what (having p.names (part op.actor p.list) (p.caches op.actor)) is.0 is.1 p.list
+ActRefusesTruly f (Guards keeper op) p p' is = GuardedRefusesTruly f keeper op (request_in op.what) p p' is
 ActRefusesTruly f (Settles k) p p' is = Unit {0}
 ActRefusesTruly f (Ticks asked) p p' is = Unit {0}
 ActRefusesTruly f MakesPass p p' is = Unit {0}
@@ -64,6 +78,7 @@ ActRefusesTruly f (MarksPhase n) p p' is = Unit {0}
 ActRefusesTruly f (Wakes k) p p' is = Unit {0}
 ActRefusesTruly f MarksClose p p' is = Unit {0}
 ActRefusesTruly f (Ends k) p p' is = Unit {0}
+ActRefusesTruly f (Lowers keeper) p p' is = Unit {0}
 
 -- .. and each of several
 abbrev pub AllRefuseTruly : (f : Profile) (acts : List Act) (p p' : Progress) → Reaches f acts p p' → Type 0

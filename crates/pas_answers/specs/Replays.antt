@@ -1,5 +1,5 @@
 -- What a replay shows.
-use Rattle.std.specs.Prelude.{ℕ, ◌≡◌, List, [], Some, map}
+use Rattle.std.specs.Prelude.{ℕ, ◌<◌, ◌≡◌, List, [], Some, map}
 use Rattle.pas_profile.specs.Profiles.{IsDirectoryOf, IsWordOf}
 use Rattle.pas_profile.specs.declared.profile.Profile.{Profile}
 use Rattle.pas_profile.specs.declared.word.Word.{Word}
@@ -17,8 +17,10 @@ use Rattle.pas_trace.specs.declared.plan.Plan.{Plan}
 use Rattle.pas_report.specs.Rests.{AreStamped, AreTrueMarks}
 use Rattle.pas_report.specs.declared.record.Record.{Record}
 use Rattle.pas_cache.specs.Caches.{Cached}
-use Rattle.pas_trace.specs.Acts.{acts_of}
-use Rattle.pas_answers.specs.Answers.{Caches, Progress}
+use Rattle.pas_guard.specs.Keepers.{Call, MakesCalls}
+use Rattle.pas_guard.specs.declared.book.Guard.{Guard}
+pub use Rattle.pas_trace.specs.Acts.{region_of, threads_of, keepers_of, acts_of_plan}
+use Rattle.pas_answers.specs.Answers.{Caches, Books, Progress}
 use Rattle.pas_answers.specs.Reaching.{Reaches}
 use Rattle.pas_answers.specs.Indexes.{GoByIndexes}
 use Rattle.pas_answers.specs.Refusals.{AreRefusalsTrue}
@@ -29,14 +31,9 @@ use Rattle.pas_answers.specs.Ways.{Way, IsOneOrder, arranged}
 abbrev pub phases_of : Plan → List (List Op)
 phases_of plan = map ops_of plan.phases.phases.items
 
--- the profile that the region of a plan is opened for: what is legal there, who sits there, and up to which actor
--- records are arranged, goes by it
-abbrev pub region_of : Plan → Profile
-region_of plan = plan.profile
-
--- how many threads a plan has: they are its region's actors from 1 on, each has a cache, and they make its operations
-abbrev pub threads_of : Plan → ℕ
-threads_of plan = plan.profile.threads
+-- no guard is up
+abbrev pub empty_books : Books
+empty_books k = []
 
 -- ---- what a replay shows
 -- a cache that nobody used
@@ -46,31 +43,37 @@ empty_cache = record { locals = []; log = []; noted = []; idle_since = 0 }
 abbrev pub empty_caches : Caches
 empty_caches k = empty_cache
 
--- no name was asked for, no cache was used, no epoch was read, and no step was made
+-- no name was asked for, no cache was used, no guard is up, no epoch was read, and no step was made
 abbrev pub at_start : Progress
-at_start = record { names = []; caches = empty_caches; epoch = 0; list = []; records = [] }
+at_start = record { names = []; caches = empty_caches; books = empty_books; epoch = 0; list = []; records = [] }
+
+-- the keepers are actors behind the threads. Each one's part of the list is made of whole calls of `raise` and `sweep` with its one book, and of nothing else
+abbrev pub KeepersMakeCalls : Profile → ℕ → Whole → Type 0
+KeepersMakeCalls f threads whole = (keeper : ℕ) → threads < keeper → (calls : List Call) × (guards : List Guard) × MakesCalls f keeper calls guards (part keeper whole)
 
 -- A REPLAY of a plan, for both ways: a list of steps and the records of it. The acts of the plan are answered one after the other, each by its actor's own
 -- steps and cache. `reached` is how far they come, with the list of these steps and their records. The list of the replay has of each actor the same
--- part as that one, and its records are those, in the order of this way. The list is legal, and at its end all actors have nothing and owe nothing. Its
+-- part as that one, and its records are those, in the order of this way. The list is legal, and at its end all actors have nothing and owe nothing; its
+-- keepers make nothing but calls of `raise` and `sweep`, so that the outer pages of their guards stay bare (`laws::guards_stay_bare`). Its
 -- visible events are a run of the allocator's machine, whose pages have the deeds that the threads know. The stamp of each page is the greatest epoch of
 -- an end there, and the marks of the pages are true. In the order of the text a request was refused only where nothing could serve it, for the true
 -- reason; a request for whole pages was given the run that its heap's index named exactly where that was whole; and all actors are at rest before the first
--- act and after each.
+-- act and after each, the keepers with their books.
 pub record IsReplay (way : Way) (plan : Plan) (whole : Whole) (records : List Record) : Type 0 where
   pub reached : Progress
-  pub answers : Reaches (region_of plan) (acts_of (threads_of plan) (phases_of plan)) at_start reached
+  pub answers : Reaches (region_of plan) (acts_of_plan plan) at_start reached
   pub one_order : IsOneOrder way reached.list whole
   pub records_are : records ≡ arranged way (region_of plan).threads reached.records
   pub legal : Legal (region_of plan) whole
   pub nothing : (k : ℕ) → HasNothing (part k whole)
+  pub keepers : KeepersMakeCalls (region_of plan) (threads_of plan) whole
   pub run : Run (region_of plan) (visible whole)
   pub deeds : (k page : ℕ) (d : Directory) → IsDirectoryOf (region_of plan) d → KnowsDeed page d (part k whole) → deed_in (visible whole) page ≡ Some d
   pub stamps : AreStamped (region_of plan) whole
   pub marks : AreTrueMarks (region_of plan) whole
-  pub refusals : AreRefusalsTrue way (region_of plan) (acts_of (threads_of plan) (phases_of plan)) at_start reached answers
-  pub indexes : GoByIndexes way (region_of plan) (acts_of (threads_of plan) (phases_of plan)) at_start reached answers
-  pub rests : RestBetween way (region_of plan) (acts_of (threads_of plan) (phases_of plan)) at_start reached answers
+  pub refusals : AreRefusalsTrue way (region_of plan) (acts_of_plan plan) at_start reached answers
+  pub indexes : GoByIndexes way (region_of plan) (acts_of_plan plan) at_start reached answers
+  pub rests : RestBetween way (threads_of plan) (region_of plan) (acts_of_plan plan) at_start reached answers
 
 -- the plan was replayed with these records, and the state has the words after its list
 pub record Shows (way : Way) (plan : Plan) (records : List Record) (state : State) : Type 0 where

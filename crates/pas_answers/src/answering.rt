@@ -1,5 +1,5 @@
 //! One operation of a thread.
-ghost use Rattle.std.specs.Prelude.{◌≡◌, ◌+◌, ◌-◌, ◌^◌, ◌≤◌, ◌<◌, ◌++◌, true, false, ℕ, List, Option, None, Some, length, map, drop};
+ghost use Rattle.std.specs.Prelude.{◌≡◌, ◌+◌, ◌-◌, ◌^◌, ◌≤◌, ◌<◌, ◌++◌, ℕ, List, Option, None, Some, length, map, drop};
 ghost use Rattle.pas_trace.specs.declared.plan.What.TheVariants as TheWhat;
 ghost use Rattle.pas_report.specs.Rooms.{records_in, room_of};
 ghost use Rattle.pas_steps.specs.Desks.{CanCall};
@@ -168,6 +168,13 @@ fn perform<D: Desk, O: Door, M: Remake>(
             size,
             align,
         } => allocate(desk, door, cache, name, heap, size, align),
+        Task::Guarded {
+            name,
+            heap,
+            size,
+            align,
+            ..
+        } => allocate(desk, door, cache, name, heap, size, align),
         Task::Free { name, room } => match meant {
             Some(block) => (None, free(desk, cache, block.name, room)),
             None => (None, Some(Said::Skipped { name })),
@@ -195,7 +202,7 @@ fn perform<D: Desk, O: Door, M: Remake>(
 
 /// Does a thread's task, and adds its events and what is said to the records. `meant` is the block that the name stands for which a `Task::Free` frees or a
 /// `Task::Remake` reallocates, if any, and the result the block that the asked name of a `Task::Request` or a `Task::Remake` stands for from then on; None for
-/// every other task. A request for whole pages asks the door for a run first; nothing else asks it or changes it.
+/// every other task. A guarded request is answered as any is: its keeper tries it before (`try_guarded`). A request for whole pages asks the door for a run first; nothing else asks it or changes it.
 #[inline(always)]
 pub fn answer_meant<D: Desk, O: Door, M: Remake>(
     desk: &mut D,

@@ -2,10 +2,13 @@
 #![tactic(auto)]
 
 mod answering;
+mod guarding;
 mod idle;
+pub mod laws;
 pub mod names;
 mod remaking;
 
 pub use answering::{answer_meant, answer_stop};
+pub use guarding::{lower_all, try_guarded};
 pub use idle::is_idle_for;
 pub use remaking::Remake;

@@ -1,5 +1,5 @@
 //! What the names of a trace stand for.
-ghost use Rattle.std.specs.Prelude.{◌≡◌, ◌<◌, ◌==◌, ℕ, None, if◌then◌else◌, length, IfOk};
+ghost use Rattle.std.specs.Prelude.{◌≡◌, ◌<◌, ◌==◌, ℕ, None, if◌then◌else◌, IfOk};
 ghost use Rattle.pas_answers.specs.Names.{block_in, block_named, names_held};
 
 use pas_profile::{Address, Block, Name, NoMemory};

@@ -13,7 +13,7 @@ use pas_steps::Desk;
 
 /// Gives the lowest of the slots, of which the others are left. Two steps and one event.
 #[inline(always)]
-pub fn give_lowest<D: Desk>(desk: &mut D, slots: &mut Slots) -> Block
+pub(crate) fn give_lowest<D: Desk>(desk: &mut D, slots: &mut Slots) -> Block
     requires some { HasMember slots.old.starts }
     requires can { CanCall (D.standing desk.old) (MayGiveSlot (D.standing desk.old).seat.profile slots.old) }
     requires room { 1 ≤ D.spare_of desk.old }

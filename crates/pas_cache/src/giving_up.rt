@@ -26,7 +26,7 @@ fn home(slots: &Slots) -> Directory
 }
 
 /// Puts the grains of the slots back, and leaves their page where its right came with them. At most 23 steps, and no event.
-pub fn give_up<D: Desk>(desk: &mut D, slots: Slots)
+pub(crate) fn give_up<D: Desk>(desk: &mut D, slots: Slots)
     requires page { IsPage (D.standing desk.old).seat.profile slots.page }
     requires directory { IsDirectoryOf (D.standing desk.old).seat.profile (home_of slots) }
     requires class { IsClass slots.class }

@@ -43,6 +43,7 @@ impl ThreadCache {
     }
 
     /// Hands the noted runs of large blocks that ended to the door, in order. None is noted afterwards.
+    #[inline(always)]
     pub fn settle<O: Door>(&mut self, door: &mut O)
         ensures settles { SettlesEach O.settles (cached self.old).noted door.old door.new }
         ensures cache { cached self.new ≡ record (cached self.old) { noted = [] } }

@@ -89,7 +89,7 @@ fn fetch<D: Desk>(
 
 /// Brings the local allocator of the heap and the class to the end of the list where it has a slot, and gets new slots otherwise.
 #[inline(always)]
-pub fn obtain<D: Desk>(
+pub(crate) fn obtain<D: Desk>(
     desk: &mut D,
     locals: &mut ArrayVec<Slots, MOST_LOCALS>,
     home: Directory,

@@ -11,7 +11,7 @@ use pas_steps::Desk;
 
 /// A refill of the class by the kind of its home: all free slots of an exclusive page, with the page's right, or up to four slots of a shared
 /// page. At most one event where the deed of each page is known, and two otherwise.
-pub fn refill<D: Desk>(desk: &mut D, home: Directory, class: u8) -> Result<Slots, NoRoom>
+pub(crate) fn refill<D: Desk>(desk: &mut D, home: Directory, class: u8) -> Result<Slots, NoRoom>
     requires filling { IsFilling (D.standing desk.old).seat.profile (filling_in home class) }
     requires can { CanCall (D.standing desk.old) (SearchRoom (D.standing desk.old).seat.profile home 1 (D.spare_of desk.old)) }
     ensures refills { Refills (filling_in home class) D.tells (D.standing desk.old) (D.standing desk.new) result }

@@ -14,7 +14,11 @@ use pas_segregated::Slots;
 use pas_steps::Desk;
 
 /// Takes the local allocator at this place out of the list and stops it. At most 23 steps, and no event.
-pub fn stop_at<D: Desk>(desk: &mut D, locals: &mut ArrayVec<Slots, MOST_LOCALS>, place: usize)
+pub(crate) fn stop_at<D: Desk>(
+    desk: &mut D,
+    locals: &mut ArrayVec<Slots, MOST_LOCALS>,
+    place: usize,
+)
     requires place { place < length locals.old.items }
     requires can { CanCall (D.standing desk.old) (RestsWith (D.standing desk.old).seat.profile locals.old.items) }
     ensures stops { StopsPlace place locals.old.items locals.new.items (D.standing desk.old) (D.standing desk.new) }

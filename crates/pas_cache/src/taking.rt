@@ -27,7 +27,7 @@ fn serves(slots: &Slots, heap: u8, class: u8) -> bool
 
 /// The place of the local allocator of the heap and the class, looked for from the last used one on.
 #[inline(always)]
-pub fn place_of(locals: &[Slots], heap: u8, class: u8) -> Option<usize>
+pub(crate) fn place_of(locals: &[Slots], heap: u8, class: u8) -> Option<usize>
     ensures { MatchOption result (list_any (is_for heap class) locals.now ≡ false) (IsPlaceOf heap class locals.now) }
 {
     let mut place = locals.len();
@@ -51,7 +51,7 @@ fn move_to_end(locals: &mut [Slots], place: usize)
 /// Brings the local allocator of the heap and the class to the end of the list, where it has a slot. False where none has, and the list is unchanged
 /// then.
 #[inline(always)]
-pub fn bring_cached(locals: &mut [Slots], heap: u8, class: u8) -> bool
+pub(crate) fn bring_cached(locals: &mut [Slots], heap: u8, class: u8) -> bool
     requires { HasOneEach locals.old }
     ensures { MatchBool result (BringsCached heap class locals.old locals.new) (HasNoneCached heap class locals.old × (locals.new ≡ locals.old)) }
 {

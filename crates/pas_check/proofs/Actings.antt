@@ -37,7 +37,7 @@ use Rattle.pas_check.proofs.Kept.{kept_same}
 use Rattle.pas_check.proofs.Leads.{leads_alike, leads_fails, leads_nowhere, leads_on}
 
 -- further on
-later : {f : Profile} {j : Judge} {s : Stand} {from : Cursor} (to : Cursor) → from.lines ≤ to.lines → Stands f j s from → Stands f j s to
+pub later : {f : Profile} {j : Judge} {s : Stand} {from : Cursor} (to : Cursor) → from.lines ≤ to.lines → Stands f j s from → Stands f j s to
 later {f} {j} {s} {from} to more stands = record {
   profile = stands.profile;
   events = stands.events;
@@ -45,13 +45,14 @@ later {f} {j} {s} {from} to more stands = record {
   logs = stands.logs;
   awake = stands.awake;
   epoch = stands.epoch;
+  guards = stands.guards;
   small = stands.small;
   kept = kept_same s s from to refl refl more stands.kept;
 }
 
 -- ---- an act is begun without a line
 module _ (f : Profile) (text : List ℕ) (old : Judge) (from : Cursor) (act : Act) (within : IsWithin text from) where
-  begins : (s : Stand) (ts : List Task) → IsNext f old s from act ts → Leads f text s from (after_task f s (Does act) ts) from
+  pub begins : (s : Stand) (ts : List Task) → IsNext f old s from act ts → Leads f text s from (after_task f s (Does act) ts) from
   begins s ts next = leads_alike f text s (after_task f s (Does act) ts) from within (begun_alike f s (Does act) ts next.due next.left)
 
   -- it has one line
@@ -73,14 +74,15 @@ module _ (f : Profile) (text : List ℕ) (old : Judge) (from : Cursor) (act : Ac
 -- ---- the marks
 module _ (f : Profile) (text : List ℕ) (judge : Judge) (from to : Cursor) (within : IsWithin text from) (is : Bool) where
   same_judge : (s t : Stand) → t.events ≡ s.events → t.names ≡ s.names → ((k : ℕ) → t.logs k ≡ s.logs k) → ((k : ℕ) → t.idle_since k ≡ s.idle_since k)
-      → t.epoch ≡ s.epoch → Stands f judge s from → Stands f judge t from
-  same_judge s t events names logs idle epoch stands = record {
+      → t.epoch ≡ s.epoch → t.guards ≡ s.guards → Stands f judge s from → Stands f judge t from
+  same_judge s t events names logs idle epoch guards stands = record {
     profile = stands.profile;
     events = subst (λ es. StandsFor judge.machine es) (sym events) stands.events;
     names = λ n. ap (λ ns. standing_for ns n) names ∙ stands.names n;
     logs = λ k held. logs k ∙ stands.logs k held;
     awake = λ k held. idle k ∙ stands.awake k held;
     epoch = epoch ∙ stands.epoch;
+    guards = guards ∙ stands.guards;
     small = stands.small;
     kept = kept_same t s from from events epoch (omega arith) stands.kept;
   }
@@ -88,12 +90,12 @@ module _ (f : Profile) (text : List ℕ) (judge : Judge) (from to : Cursor) (wit
   pub phase_marked : (n : ℕ) → ((s : Stand) (more : List Due) → s.due ≡ Writes (Record.Phase n) ∷ more → IsLed f text s from (with_due s more) to is)
       → ActTaken f text judge from judge to (MarksPhase n) is
   phase_marked n led = act_of_line f text judge from (MarksPhase n) within judge to (Record.Phase n)
-      (λ s ts next. (refl, same_judge s (with_due (after_task f s (Does (MarksPhase n)) ts) []) refl refl (λ k. refl) (λ k. refl) refl next.stands)) is led
+      (λ s ts next. (refl, same_judge s (with_due (after_task f s (Does (MarksPhase n)) ts) []) refl refl (λ k. refl) (λ k. refl) refl refl next.stands)) is led
 
   pub close_marked : ((s : Stand) (more : List Due) → s.due ≡ Writes Record.Close ∷ more → IsLed f text s from (with_due s more) to is)
       → ActTaken f text judge from judge to MarksClose is
   close_marked led = act_of_line f text judge from MarksClose within judge to Record.Close
-      (λ s ts next. (refl, same_judge s (with_due (after_task f s (Does MarksClose) ts) []) refl refl (λ k. refl) (λ k. refl) refl next.stands)) is led
+      (λ s ts next. (refl, same_judge s (with_due (after_task f s (Does MarksClose) ts) []) refl refl (λ k. refl) (λ k. refl) refl refl next.stands)) is led
 
 -- ---- a tick
 pub ticked : (f : Profile) (text : List ℕ) (old : Judge) (from to : Cursor) → IsWithin text from → (e n : ℕ) → n ≡ max old.epoch e → n < 2 ^ 64 → (is : Bool)
@@ -111,6 +113,7 @@ ticked f text old from to within e n greater few is led = act_of_line f text old
         logs = stands.logs;
         awake = stands.awake;
         epoch = same;
+        guards = stands.guards;
         small = few;
         kept = record { few = stands.kept.few; kinds = stands.kept.kinds; ends = λ page. (let low = stands.kept.ends page in omega (arith, low)) };
       },
@@ -118,9 +121,9 @@ ticked f text old from to within e n greater few is led = act_of_line f text old
 
 -- ---- a thread wakes
 pub woken : (f : Profile) (text : List ℕ) (old new : Judge) (at : Cursor) → IsWithin text at → (k : ℕ) → k < length old.awake.items → new.machine ≡ old.machine
-    → new.names ≡ old.names → new.logs ≡ old.logs → new.epoch ≡ old.epoch
+    → new.names ≡ old.names → new.logs ≡ old.logs → new.epoch ≡ old.epoch → new.guards.items ≡ old.guards.items
     → new.awake.items ≡ set old.awake.items k old.epoch → ActTaken f text old at new at (Wakes k) true
-woken f text old new at within k held machine names logs epoch awake = act_of_none f text old at (Wakes k) within new
+woken f text old new at within k held machine names logs epoch guards awake = act_of_none f text old at (Wakes k) within new
     (λ s ts next.
     let stands = next.stands in (
       next.due,
@@ -131,6 +134,7 @@ woken f text old new at within k held machine names logs epoch awake = act_of_no
         logs = λ j has. stands.logs j (subst (λ (l : Logs). j < logs_held l) logs has) ∙ ap (λ (l : Logs). logged l j) (sym logs);
         awake = λ j has. idle s stands j has;
         epoch = stands.epoch ∙ sym epoch;
+        guards = stands.guards ∙ sym guards;
         small = (let less = stands.small in omega (arith, epoch, less));
         kept = kept_same (after_task f s (Does (Wakes k)) ts) s at at refl refl (omega arith) stands.kept;
       },
@@ -184,6 +188,7 @@ module _ (f : Profile) (text : List ℕ) (old : Judge) (from to : Cursor) (k : �
           logs = λ j has. ap (λ (u : Stand). u.logs j) is ∙ log_at s stands j (subst (λ m. j < m) count has);
           awake = λ j has. ap (λ (u : Stand). u.idle_since j) is ∙ stands.awake j has;
           epoch = ap (λ (u : Stand). u.epoch) is ∙ stands.epoch;
+          guards = ap (λ (u : Stand). u.guards) is ∙ stands.guards;
           small = stands.small;
           kept = end.4;
         },
@@ -207,6 +212,7 @@ with_other_due {f} {j} {s} {at} more stands = record {
   logs = stands.logs;
   awake = stands.awake;
   epoch = stands.epoch;
+  guards = stands.guards;
   small = stands.small;
   kept = kept_same (with_due s more) s at at refl refl (omega arith) stands.kept;
 }
@@ -282,6 +288,7 @@ module _ (f : Profile) (text : List ℕ) (old : Judge) (from : Cursor) (k : ℕ)
           logs = λ j has. log_at s stands j (subst (λ m. j < m) count has);
           awake = stands.awake;
           epoch = stands.epoch;
+          guards = stands.guards;
           small = stands.small;
           kept = kept_same t s from from refl refl (omega arith) stands.kept;
         },
@@ -310,6 +317,7 @@ other_plan {f} {j} {s} {at} due left stands = record {
   logs = stands.logs;
   awake = stands.awake;
   epoch = stands.epoch;
+  guards = stands.guards;
   small = stands.small;
   kept = kept_same (record s { due = due; left = left }) s at at refl refl (omega arith) stands.kept;
 }
@@ -386,6 +394,7 @@ module _ (f : Profile) (text : List ℕ) (old : Judge) (from : Cursor) (within :
           logs = λ j has. ap (λ (v : Stand). v.logs j) is ∙ stands.logs j has;
           awake = λ j has. ap (λ (v : Stand). v.idle_since j) is ∙ stands.awake j has;
           epoch = ap (λ (v : Stand). v.epoch) is ∙ stands.epoch;
+          guards = ap (λ (v : Stand). v.guards) is ∙ stands.guards;
           small = stands.small;
           kept = end.4;
         },
@@ -467,6 +476,7 @@ module _ (f : Profile) (text : List ℕ) (old : Judge) (from to : Cursor) (k : �
             logs = stands.logs;
             awake = stands.awake;
             epoch = stands.epoch;
+            guards = stands.guards;
             small = stands.small;
             kept = kept_same (named_there s ts es) (record (asking s ts) { events = es }) to to refl refl (omega arith) end.3;
           },
@@ -587,6 +597,7 @@ said_named f text old from k name within act found said says names sets to is le
         logs = stands.logs;
         awake = stands.awake;
         epoch = stands.epoch;
+        guards = stands.guards;
         small = stands.small;
         kept = kept_same named s from from refl refl (omega arith) stands.kept;
       }),

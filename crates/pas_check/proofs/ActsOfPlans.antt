@@ -1,5 +1,5 @@
 -- The numbers of a plan's acts fit their places.
-use Rattle.std.proofs.Common.{◌≡◌, ℕ, zero, suc, ◌+◌, ◌*◌, ◌^◌, ◌<◌, ◌≤◌, Bool, true, false, cond, List, [], ◌∷◌, ◌++◌, map, max, length, refl, sym, subst, arith}
+use Rattle.std.proofs.Common.{◌≡◌, ◌≢◌, Option, None, Some, ℕ, zero, suc, ◌+◌, ◌*◌, ◌^◌, ◌<◌, ◌≤◌, Bool, true, false, cond, List, [], ◌∷◌, ◌++◌, map, max, length, refl, sym, subst, arith}
 use Rattle.std.specs.Prelude.{MatchOption}
 use Rattle.std.specs.List.{AllByRecursion, filter}
 use Rattle.pas_profile.specs.Directories.{IsKind}
@@ -11,9 +11,9 @@ use Rattle.pas_profile.specs.declared.directory.Route.TheVariants.{Class, Bitfit
 use Rattle.pas_profile.specs.declared.profile.Profile.{Profile}
 use Rattle.pas_profile.proofs.ClassFacts.{class_known, route_is}
 use Rattle.pas_profile.proofs.Sizes.{class_size_le}
-use Rattle.pas_trace.specs.Acts.{Act, StopsIdle, Wakes, Ends, is_active, numbers_from, acts_from, acts_of, acts_of_chore, acts_of_op, acts_of_ops, acts_of_work, active_threads, close_acts, idle_threads, phase_acts, threads_where}
-use Rattle.pas_trace.specs.Asked.{epoch_of, of_task, request_of, work_of}
-use Rattle.pas_trace.specs.EveryPlan.{AreBelow, AreSound, IsActorBy, IsSoundWork, IsSoundTask, all_ops, asked_after}
+use Rattle.pas_trace.specs.Acts.{Act, StopsIdle, Wakes, Ends, Lowers, act_kept, is_active, numbers_from, acts_from, acts_of, acts_of_chore, acts_of_op, acts_of_ops, acts_of_work, active_threads, close_acts, idle_threads, phase_acts, threads_where}
+use Rattle.pas_trace.specs.Asked.{epoch_of, keeper_in, keeper_of, of_task, request_of, work_of}
+use Rattle.pas_trace.specs.EveryPlan.{AreBelow, AreKept, AreSound, IsActorBy, IsSoundWork, IsSoundTask, all_ops, asked_after}
 use Rattle.pas_trace.specs.declared.plan.Chore.{Chore}
 use Rattle.pas_trace.specs.declared.plan.Op.{Op}
 use Rattle.pas_trace.specs.declared.plan.Task.{Task}
@@ -82,12 +82,22 @@ pub planned_back : (f : Profile) (limit : ℕ) (xs ys : List Op) → ArePlanned 
 planned_back f limit [] ys all = all
 planned_back f limit (x ∷ xs) ys all = planned_back f limit xs ys all.1
 
-pub all_planned : (f : Profile) (limit : ℕ) (asked : List ℕ) (ops : List Op) → AreSound f asked ops → AreBelow limit ops → ArePlanned f limit ops
-all_planned f limit asked [] sound below = tt
-all_planned f limit asked (op ∷ ops) sound below =
-    (record { actor = sound.0; sound = (asked, sound.1); named = below.0 }, all_planned f limit (asked_after op.what asked) ops sound.2 below.1)
+-- a keeper stands behind all threads
+keeper_behind : (f : Profile) (guard actor : ℕ) (work : Work) (o : Option ℕ) → f.threads ≤ 16 → IsActorBy f work actor → of_task keeper_of work ≡ o
+    → MatchOption o (Unit {0}) (λ keeper. (keeper ≡ f.threads + actor) × (guard ≢ 0)) → MatchOption o (Unit {0}) (λ keeper. (actor < keeper) × (keeper < 2 ^ 8))
+keeper_behind f guard actor work None few by is kept = tt
+keeper_behind f guard actor (Work.Own task) (Some keeper) few by is kept =
+    let place = kept.0 in let some : 1 ≤ actor = by.0 in let last : actor ≤ f.threads = by.1 in (omega (arith, place, some, last), omega (arith, place, last, few))
+keeper_behind f guard actor (Work.Chore chore) (Some keeper) few by is kept = absurd (cc)
 
-module _ (f : Profile) (limit : ℕ) (valid : IsValid f) (few : limit ≤ 2 ^ 32) where
+pub all_planned : (f : Profile) (limit guard : ℕ) (asked : List ℕ) (ops : List Op) → f.threads ≤ 16 → AreSound f asked ops → AreBelow limit ops → AreKept f guard ops → ArePlanned f limit ops
+all_planned f limit guard asked [] few sound below kept = tt
+all_planned f limit guard asked (op ∷ ops) few sound below kept = (
+  record { actor = sound.0; sound = (asked, sound.1); named = below.0; kept = keeper_behind f guard op.actor (work_of op.what) (keeper_in op.what) few sound.0 refl kept.0 },
+  all_planned f limit guard (asked_after op.what asked) ops few sound.2 below.1 kept.1,
+)
+
+module _ (f : Profile) (limit : ℕ) (valid : IsValid f) (few : limit ≤ 2 ^ 32) (keepers : ℕ) (many : keepers ≤ f.threads) where
   threads_are : (chosen : ℕ → Bool) → AreThreads (threads_where chosen f.threads)
   threads_are chosen = let most = valid.threads in chosen_are chosen (numbers_from 1 f.threads) (numbers_are 1 f.threads (omega arith) (omega (arith, most)))
 
@@ -96,6 +106,7 @@ module _ (f : Profile) (limit : ℕ) (valid : IsValid f) (few : limit ≤ 2 ^ 32
       → MatchOption (request_of task) (Unit {0}) (FitsHeaps f k)
   task_fits k asked (Task.Request name heap size align) small below sound = heaps_fit f k name heap size align valid sound.0 small (omega (arith, below, few))
   task_fits k asked (Task.Remake name old heap size align) small below sound = heaps_fit f k name heap size align valid sound.0 small (omega (arith, below, few))
+  task_fits k asked (Task.Guarded keeper name heap size align) small below sound = heaps_fit f k name heap size align valid sound.0 small (omega (arith, below, few))
   task_fits k asked (Task.Free name room) small below sound = tt
   task_fits k asked (Task.FreeRaw block room) small below sound = tt
   task_fits k asked Task.Flush small below sound = tt
@@ -105,6 +116,11 @@ module _ (f : Profile) (limit : ℕ) (valid : IsValid f) (few : limit ≤ 2 ^ 32
   chore_fits idle (Chore.Tick e) all sound = (omega (arith, sound), tt)
   chore_fits idle Chore.Pass all sound = (tt, tt)
   chore_fits idle (Chore.Idle n) all sound = (tt, all_made f (λ k. StopsIdle k n) (λ k is. is) idle all)
+
+  kept_fits : (op : Op) (o : Option ℕ) → IsThread op.actor → FitsWhat f op.actor op.what → MatchOption o (Unit {0}) (λ keeper. (op.actor < keeper) × (keeper < 2 ^ 8)) → FitsAct f (act_kept o op)
+  kept_fits op None thread fits kept = (thread, fits)
+  kept_fits op (Some keeper) thread fits kept =
+      let after = kept.0 in (thread, fits, (omega (arith, after), kept.1), λ same. absurd (omega (arith, after, same)))
 
   work_fits : (idle : List ℕ) (op : Op) (work : Work) → AreThreads idle → work_of op.what ≡ work → IsPlanned f limit op → AllFit f (acts_of_work idle op work)
   work_fits idle op (Work.Own task) all is planned =
@@ -118,7 +134,9 @@ module _ (f : Profile) (limit : ℕ) (valid : IsValid f) (few : limit ≤ 2 ^ 32
       let sound : IsSoundTask f planned.sound.0 task = subst (IsSoundWork f planned.sound.0) is planned.sound.1 in
       let fits : FitsWhat f op.actor op.what = subst (λ (w : Work). MatchOption (of_task request_of w) (Unit {0}) (FitsHeaps f op.actor)) (sym is)
       (task_fits op.actor planned.sound.0 task small below sound) in
-      (((some, small), fits), (tt, tt))
+      let kept : MatchOption (keeper_of task) (Unit {0}) (λ keeper. (op.actor < keeper) × (keeper < 2 ^ 8)) =
+      subst (λ (w : Work). MatchOption (of_task keeper_of w) (Unit {0}) (λ keeper. (op.actor < keeper) × (keeper < 2 ^ 8))) is planned.kept in
+      (kept_fits op (keeper_of task) (some, small) fits kept, (tt, tt))
   work_fits idle op (Work.Chore chore) all is planned = chore_fits idle chore all (subst (IsSoundWork f planned.sound.0) is planned.sound.1)
 
   ops_fit : (idle : List ℕ) → AreThreads idle → (ops : List Op) → ArePlanned f limit ops → AllFit f (acts_of_ops idle ops)
@@ -132,19 +150,25 @@ module _ (f : Profile) (limit : ℕ) (valid : IsValid f) (few : limit ≤ 2 ^ 32
       (all_made f Wakes (λ k is. tt) (active_threads f.threads ops) (threads_are (is_active ops)))
       (ops_fit (idle_threads f.threads ops) (threads_are _) ops planned)
 
-  close_fits : AllFit f (close_acts f.threads)
-  close_fits = let most = valid.threads in (tt, all_made f Ends (λ k is. is) (numbers_from 1 f.threads) (numbers_are 1 f.threads (omega arith) (omega (arith, most))))
+  close_fits : AllFit f (close_acts f.threads keepers)
+  close_fits =
+      let most = valid.threads in (
+        tt,
+        all_both f (map Ends (numbers_from 1 f.threads)) (map Lowers (numbers_from (f.threads + 1) keepers))
+            (all_made f Ends (λ k is. is) (numbers_from 1 f.threads) (numbers_are 1 f.threads (omega arith) (omega (arith, most))))
+            (all_made f Lowers (λ k is. is) (numbers_from (f.threads + 1) keepers) (numbers_are (f.threads + 1) keepers (omega arith) (omega (arith, most, many)))),
+      )
 
-  pub later_fits : (n : ℕ) (phases : List (List Op)) → n + length phases < 2 ^ 32 → ArePlanned f limit (all_ops phases) → AllFit f (acts_from f.threads n phases)
+  pub later_fits : (n : ℕ) (phases : List (List Op)) → n + length phases < 2 ^ 32 → ArePlanned f limit (all_ops phases) → AllFit f (acts_from f.threads keepers n phases)
   later_fits n [] short planned = close_fits
   later_fits n (phase ∷ phases) short planned = (
     omega (arith, short),
-    all_both f (phase_acts f.threads phase) (acts_from f.threads (n + 1) phases) (phase_fits phase (planned_front f limit phase (all_ops phases) planned))
+    all_both f (phase_acts f.threads phase) (acts_from f.threads keepers (n + 1) phases) (phase_fits phase (planned_front f limit phase (all_ops phases) planned))
         (later_fits (n + 1) phases (omega (arith, short)) (planned_back f limit phase (all_ops phases) planned)),
   )
 
-  pub acts_fit : (phases : List (List Op)) → length phases < 2 ^ 31 → ArePlanned f limit (all_ops phases) → AllFit f (acts_of f.threads phases)
+  pub acts_fit : (phases : List (List Op)) → length phases < 2 ^ 31 → ArePlanned f limit (all_ops phases) → AllFit f (acts_of f.threads keepers phases)
   acts_fit [] short planned = close_fits
   acts_fit (phase ∷ phases) short planned =
-      all_both f (phase_acts f.threads phase) (acts_from f.threads 2 phases) (phase_fits phase (planned_front f limit phase (all_ops phases) planned))
+      all_both f (phase_acts f.threads phase) (acts_from f.threads keepers 2 phases) (phase_fits phase (planned_front f limit phase (all_ops phases) planned))
       (later_fits 2 phases (omega (arith, short)) (planned_back f limit phase (all_ops phases) planned))

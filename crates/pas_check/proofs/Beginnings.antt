@@ -1,18 +1,21 @@
 -- A task is begun without a line: what may come then is what might before.
-use Rattle.std.proofs.Common.{◌≡◌, ℕ, ◌+◌, ◌/◌, nat_le, Bool, true, false, List, [], ◌∷◌, ◌++◌, Option, None, Some, inl, inr, refl, ap, sym, subst, ◌∙◌}
+use Rattle.std.proofs.Common.{◌≡◌, ℕ, ◌+◌, ◌/◌, nat_le, Bool, true, false, List, [], ◌∷◌, ◌++◌, map, Option, None, Some, inl, inr, refl, ap, sym, subst, ◌∙◌}
+use Rattle.std.specs.List.{filter}
 use Rattle.pas_profile.specs.Blocks.{address_of}
 use Rattle.pas_profile.specs.declared.name.Block.{Block}
 use Rattle.pas_profile.specs.declared.profile.Profile.{Profile}
-use Rattle.pas_trace.specs.Acts.{Operates, Settles, ReadsEpoch, StopsIdle, Wakes, Ends}
+use Rattle.pas_trace.specs.Asked.{request_in}
+use Rattle.pas_trace.specs.Acts.{Operates, Guards, Settles, ReadsEpoch, StopsIdle, Wakes, Ends, Lowers}
 use Rattle.pas_trace.specs.declared.item.Request.{Request}
 use Rattle.pas_trace.specs.declared.plan.What.{What}
-use Rattle.pas_trace.specs.declared.plan.What.TheVariants.{Alloc, Free, FreeSized, Raw, RawSized, Remake, Flush, Stop, Tick, Pass, Idle}
-use Rattle.pas_check.specs.Begins.{after_task, begun, begun_from, begun_what, entries_due, entry_of, freeing, freeing_at, freeing_named, is_aligned, is_full, is_page, logging, past_outcomes, ready, ready_with, remaking, remaking_named, request_for, settled_with, stopping, suits, unsized}
+use Rattle.pas_trace.specs.declared.plan.What.TheVariants.{Alloc, Guarded, Free, FreeSized, Raw, RawSized, Remake, Flush, Stop, Tick, Pass, Idle}
+use Rattle.pas_check.specs.Begins.{after_task, begun, begun_from, begun_what, entries_due, entry_of, freeing, freeing_at, freeing_named, goes_down, guarding, is_aligned, is_full, is_page, logging, lowered_due, past_outcomes, ready, ready_with, remaking, remaking_named, request_for, settled_with, stopping, suits, unsized}
 use Rattle.pas_check.specs.Going.{AreAlike}
 use Rattle.pas_trace.specs.Named.{standing_for}
-use Rattle.pas_check.specs.States.{Due, Task, Does, Stand, with_due}
+use Rattle.pas_check.specs.States.{Due, Tries, Task, Does, Stand, with_due}
 use Rattle.pas_check.specs.Takes.{Takes, TakesDue, TakesFirst}
 use Rattle.pas_check.specs.declared.entry.Entry.{Entry}
+use Rattle.pas_check.specs.declared.guard.Guard.{Guard}
 use Rattle.pas_check.proofs.Leads.{first_none}
 
 -- no outcome of a pass is due first
@@ -51,6 +54,7 @@ remade_no_pass s k name size align (Some (Some old)) no_pass = remaking_no_pass 
 
 what_no_pass : (f : Profile) (s : Stand) (k : ℕ) (what : What) → BeginsNoPass s.due → BeginsNoPass (begun_what f s k what).due
 what_no_pass f s k (Alloc name heap size align) no_pass = refl
+what_no_pass f s k (Guarded keeper name heap size align) no_pass = refl
 what_no_pass f s k (Free name) no_pass = named_no_pass f s k name 0 (standing_for s.names name) no_pass
 what_no_pass f s k (FreeSized name room) no_pass = named_no_pass f s k name room (standing_for s.names name) no_pass
 what_no_pass f s k (Raw block) no_pass = freeing_no_pass f s k (unsized block) no_pass
@@ -66,8 +70,18 @@ stopping_no_pass : (idle : Bool) (s : Stand) (k : ℕ) → BeginsNoPass s.due �
 stopping_no_pass true s k no_pass = entries_no_pass k (s.logs k) _ refl
 stopping_no_pass false s k no_pass = no_pass
 
+lowered_no_pass : (guards : List Guard) (more : List Due) → BeginsNoPass more → BeginsNoPass (map lowered_due guards ++ more)
+lowered_no_pass [] more no_pass = no_pass
+lowered_no_pass (guard ∷ guards) more no_pass = refl
+
+guarding_no_pass : (s : Stand) (keeper k : ℕ) (o : Option Request) → BeginsNoPass s.due → BeginsNoPass (guarding s keeper k o).due
+guarding_no_pass s keeper k None no_pass = no_pass
+guarding_no_pass s keeper k (Some r) no_pass = lowered_no_pass (filter (goes_down s.events keeper false) s.guards) (Tries keeper k r false ∷ []) refl
+
 pub begins_no_pass : (f : Profile) (s : Stand) (t : Task) → BeginsNoPass s.due → BeginsNoPass (begun f s t).due
 begins_no_pass f s (Does (Operates op)) no_pass = what_no_pass f s op.actor op.what no_pass
+begins_no_pass f s (Does (Guards keeper op)) no_pass = guarding_no_pass s keeper op.actor (request_in op.what) no_pass
+begins_no_pass f s (Does (Lowers keeper)) no_pass = lowered_no_pass (filter (goes_down s.events keeper true) s.guards) [] refl
 begins_no_pass f s (Does (StopsIdle k n)) no_pass = stopping_no_pass (nat_le (s.idle_since k + n) s.epoch) s k no_pass
 begins_no_pass f s (Does (Ends k)) no_pass = entries_no_pass k (s.logs k) [] refl
 begins_no_pass f s (Does (Settles k)) no_pass = no_pass

@@ -75,7 +75,7 @@ nothing_there None e = refl
 nothing_there (Some b) e = absurd (none-some b.block e)
 
 module _ (f : Profile) (es : List Event) (run : Run f es) (entry : Entry) where
-  gone : live_in es (address_of entry.name) ≡ None → gives_in es (address_of entry.name) ≡ ends_in es (address_of entry.name)
+  pub gone : live_in es (address_of entry.name) ≡ None → gives_in es (address_of entry.name) ≡ ends_in es (address_of entry.name)
   gone none = subst (λ (o : Option Live). IsCounted o (gives_in es (address_of entry.name)) (ends_in es (address_of entry.name))) none (all_counted f es run (address_of entry.name))
 
   pub gone_ended : live_in es (address_of entry.name) ≡ None → entry.name.turn < gives_in es (address_of entry.name) → IsReason es entry.name Ended
@@ -85,7 +85,7 @@ module _ (f : Profile) (es : List Event) (run : Run f es) (entry : Entry) where
   never_there none turn = (let same = gone none in omega (arith, same, turn), λ live. none-some live.0 (sym none ∙ live.1))
 
   module _ (b : Live) (is : live_in es (address_of entry.name) ≡ Some b) where
-    counts : b.block.name.turn ≡ ends_in es (address_of entry.name)
+    pub counts : b.block.name.turn ≡ ends_in es (address_of entry.name)
     counts = turn_counts (live_in es (address_of entry.name)) b (gives_in es (address_of entry.name)) (ends_in es (address_of entry.name)) is (all_counted f es run (address_of entry.name))
 
     it_is : (other : Live) → live_in es (address_of entry.name) ≡ Some other → other ≡ b

@@ -1,23 +1,30 @@
 -- What follows a pass fits its places, where the acts that are left do.
-use Rattle.std.proofs.Common.{◌≡◌, ℕ, ◌+◌, ◌/◌, ◌^◌, ◌<◌, ◌==◌, if◌then◌else◌, nat_le, max, Bool, true, false, List, [], ◌∷◌, ◌++◌, map, Option, None, Some, inl, inr, refl, ap, sym, subst, ◌∙◌, arith}
+use Rattle.std.proofs.Common.{◌≡◌, ◌≢◌, ℕ, ◌+◌, ◌/◌, ◌^◌, ◌<◌, ◌==◌, ◌||◌, if◌then◌else◌, nat_le, nat_lt, max, Bool, cond, true, false, List, [], ◌∷◌, ◌++◌, map, Option, None, Some, inl, inr, refl, ap, sym, subst, ◌∙◌, arith}
+use Rattle.std.specs.Prelude.{MatchOption}
+use Rattle.std.specs.List.{filter}
+use Rattle.std.proofs.lemmas.Bool.{and_parts, eqb-true}
 use Rattle.std.proofs.lemmas.Option.{none-some, same_Some}
 use Rattle.pas_profile.specs.Blocks.{address_of}
 use Rattle.pas_profile.specs.declared.event.Event.{Event}
 use Rattle.pas_profile.specs.declared.name.Block.{Block}
 use Rattle.pas_profile.specs.declared.profile.Profile.{Profile}
+use Rattle.pas_machine.specs.State.{ends_in}
+use Rattle.pas_trace.specs.declared.item.Request.{Request}
 use Rattle.pas_report.specs.declared.record.Record.{Record}
 use Rattle.pas_report.specs.declared.record.Said.{Said}
-use Rattle.pas_trace.specs.Acts.{Act, Operates, Settles, Ticks, MakesPass, ReadsEpoch, StopsIdle, MarksPhase, Wakes, MarksClose, Ends}
+use Rattle.pas_trace.specs.Asked.{request_in}
+use Rattle.pas_trace.specs.Acts.{Act, Operates, Guards, Settles, Ticks, MakesPass, ReadsEpoch, StopsIdle, MarksPhase, Wakes, MarksClose, Ends, Lowers}
 use Rattle.pas_trace.specs.declared.plan.What.{What}
-use Rattle.pas_trace.specs.declared.plan.What.TheVariants.{Alloc, Free, FreeSized, Raw, RawSized, Remake, Flush, Stop, Tick, Pass, Idle}
-use Rattle.pas_check.specs.Begins.{after_task, begun_act, begun_from, begun_what, entries_due, entry_of, flushing, freeing, freeing_at, freeing_named, is_aligned, is_full, is_page, logging, past_outcomes, remaking, remaking_named, request_for, settled_with, stopping, suits, tells, unsized}
+use Rattle.pas_trace.specs.declared.plan.What.TheVariants.{Alloc, Guarded, Free, FreeSized, Raw, RawSized, Remake, Flush, Stop, Tick, Pass, Idle}
+use Rattle.pas_check.specs.Begins.{after_task, begun_act, begun_from, begun_what, entries_due, entry_of, flushing, freeing, freeing_at, freeing_named, goes_down, guarding, is_aligned, is_full, is_page, logging, lowered_due, past_outcomes, remaking, remaking_named, request_for, settled_with, stopping, suits, sweeping, tells, unsized}
 use Rattle.pas_check.specs.Bounds.{FitsNext, FitsRequest, HaveHeaps}
 use Rattle.pas_check.specs.Calls.{IsFollowed, outcome_in}
 use Rattle.pas_check.specs.Checks.{AllFit, FitsAct, FitsHeaps, FitsWhat, IsThread}
 use Rattle.pas_trace.specs.Named.{Named, standing_for}
-use Rattle.pas_check.specs.States.{Due, Writes, Task, Does, Reports, Stand}
+use Rattle.pas_check.specs.States.{Due, Writes, Tries, Task, Does, Reports, Stand}
 use Rattle.pas_check.specs.Takes.{IsOutcome}
 use Rattle.pas_check.specs.declared.entry.Entry.{Entry}
+use Rattle.pas_check.specs.declared.guard.Guard.{Guard}
 use Rattle.pas_check.proofs.Beginnings.{begins_no_pass}
 use Rattle.pas_check.proofs.Examinings.{outcome_is}
 
@@ -44,6 +51,20 @@ heaps_more names name found heaps new n block is = heaps_if (name == n) found (s
 entries_fit : (f : Profile) (k : ℕ) (log : List Entry) (more : List Due) → IsThread k → FitsNext f more → FitsNext f (entries_due k log ++ more)
 entries_fit f k [] more thread fits = fits
 entries_fit f k (entry ∷ log) more thread fits = (thread.1, inl thread.0)
+
+-- each guard that goes down is of the keeper that sweeps
+lowered_first : (f : Profile) (es : List Event) (keeper : ℕ) (all : Bool) (guard : Guard) (rest : List Guard) (more : List Due) → IsThread keeper → FitsNext f (map lowered_due rest ++ more)
+    → (down : Bool) → goes_down es keeper all guard ≡ down → FitsNext f (map lowered_due (cond down (guard ∷ rest) rest) ++ more)
+lowered_first f es keeper all guard rest more thread fits true is =
+    let own = eqb-true guard.keeper keeper (and_parts (guard.keeper == keeper) (all || nat_lt guard.name.turn (ends_in es (address_of guard.name))) is).0 in
+    inl (subst (λ (k : ℕ). IsThread k) (sym own) thread)
+lowered_first f es keeper all guard rest more thread fits false is = fits
+
+lowered_fit : (f : Profile) (es : List Event) (keeper : ℕ) (all : Bool) (guards : List Guard) (more : List Due) → IsThread keeper → FitsNext f more
+    → FitsNext f (map lowered_due (filter (goes_down es keeper all) guards) ++ more)
+lowered_fit f es keeper all [] more thread fits = fits
+lowered_fit f es keeper all (guard ∷ guards) more thread fits =
+    lowered_first f es keeper all guard (filter (goes_down es keeper all) guards) more thread (lowered_fit f es keeper all guards more thread fits) (goes_down es keeper all guard) refl
 
 module _ (f : Profile) (s : Stand) (due : s.due ≡ []) (small : s.epoch < 2 ^ 64) (heaps : HaveHeaps s.names) where
   same : IsBegun f s s
@@ -84,6 +105,7 @@ module _ (f : Profile) (s : Stand) (due : s.due ≡ []) (small : s.epoch < 2 ^ 6
 
   operates : (k : ℕ) (what : What) → IsThread k → FitsWhat f k what → IsBegun f s (begun_what f s k what)
   operates k (Alloc name heap size align) thread fits = record { fits = fits.1 heap fits.0; events = refl; epoch = small; heaps = heaps }
+  operates k (Guarded keeper name heap size align) thread fits = record { fits = fits.1 heap fits.0; events = refl; epoch = small; heaps = heaps }
   operates k (Free name) thread fits = frees_named k name 0 (standing_for s.names name) thread
   operates k (FreeSized name room) thread fits = frees_named k name room (standing_for s.names name) thread
   operates k (Raw block) thread fits = frees k (unsized block) thread
@@ -99,8 +121,19 @@ module _ (f : Profile) (s : Stand) (due : s.due ≡ []) (small : s.epoch < 2 ^ 6
   stops true k thread = flushes k [] (Writes (Record.Said 0 (Said.Stopped k)) ∷ []) thread (inr ((omega arith, thread.1), no_outcome (Record.Said 0 (Said.Stopped k)) (λ e. refl)))
   stops false k thread = same
 
+  sweeps : (keeper : ℕ) (all : Bool) (more : List Due) → IsThread keeper → FitsNext f more → IsBegun f s (sweeping s keeper all more)
+  sweeps keeper all more thread fits = record { fits = lowered_fit f s.events keeper all s.guards more thread fits; events = refl; epoch = small; heaps = heaps }
+
+  guards : (keeper k : ℕ) (o : Option Request) → MatchOption o (Unit {0}) (FitsHeaps f k) → IsThread keeper → keeper ≢ k → IsBegun f s (guarding s keeper k o)
+  guards keeper k None fits thread apart = same
+  guards keeper k (Some r) fits thread apart =
+      let own : FitsRequest f k r = fits.1 r.heap fits.0 in
+      sweeps keeper false (Tries keeper k r false ∷ []) thread
+      (record { own = own; kept = record { actor = thread.1; name = own.name; heap = own.heap; kind = own.kind; room = own.room }; apart = apart })
+
   begins : (act : Act) → FitsAct f act → IsBegun f s (begun_act f s act)
   begins (Operates op) fits = operates op.actor op.what fits.0 fits.1
+  begins (Guards keeper op) fits = guards keeper op.actor (request_in op.what) fits.1 fits.2 fits.3
   begins (Settles k) fits = same
   begins (Ticks e) fits =
       let great : max s.epoch e < 2 ^ 64 = omega (arith, fits, small) in
@@ -112,6 +145,7 @@ module _ (f : Profile) (s : Stand) (due : s.due ≡ []) (small : s.epoch < 2 ^ 6
   begins (Wakes k) fits = record { fits = subst (FitsNext f) (sym due) tt; events = refl; epoch = small; heaps = heaps }
   begins MarksClose fits = record { fits = inr (tt, no_outcome Record.Close (λ e. refl)); events = refl; epoch = small; heaps = heaps }
   begins (Ends k) fits = flushes k [] [] fits tt
+  begins (Lowers keeper) fits = sweeps keeper true [] fits tt
 
 -- ---- .. up to the first that has a line
 record IsWell (f : Profile) (es : List Event) (b : Stand) : Type 0 where

@@ -5,7 +5,7 @@ use Rattle.pas_check.specs.Accepted.{IsDone, IsWhole, MayGo}
 use Rattle.pas_check.specs.Begins.{past_outcomes, ready, ready_with}
 use Rattle.pas_check.specs.Going.{AreAlike}
 use Rattle.pas_check.specs.Leading.{Fails, IsJustLine, IsLed, IsWithin, Leads, lines_from}
-use Rattle.pas_check.specs.States.{Due, Writes, Frees, Serves, Examines, Heads, Shows, Totals, Stand, with_due}
+use Rattle.pas_check.specs.States.{Due, Writes, Frees, Serves, Tries, Never, Examines, Heads, Shows, Totals, Stand, with_due}
 use Rattle.pas_check.specs.Takes.{IsJust, Takes, TakesDue, TakesFirst}
 use Rattle.pas_check.specs.declared.cutting.Cursor.{Cursor}
 
@@ -142,6 +142,8 @@ pub first_none : (f : Profile) (s : Stand) (d : Due) (more : List Due) → past_
 first_none f s (Writes item) more no_pass line next takes = takes
 first_none f s (Frees k entry) more no_pass line next takes = takes
 first_none f s (Serves k r old) more no_pass line next takes = takes
+first_none f s (Tries keeper k r backed) more no_pass line next takes = takes
+first_none f s Never more no_pass line next takes = takes
 first_none f s (Examines page) more no_pass line next takes = let e : length more ≡ suc (length more) = ap length no_pass in absurd (omega (arith, e))
 first_none f s Heads more no_pass line next takes = takes
 first_none f s (Shows page d) more no_pass line next takes = takes
@@ -151,15 +153,15 @@ module _ (f : Profile) (s : Stand) (d : Due) (more : List Due) (due : s.due ≡ 
   ready_due : (ready f s).due ≡ d ∷ more
   ready_due = ap (λ (t : Stand). t.due) (ready_is f s d more due no_pass) ∙ due
 
-  undone : IsDone f s → ⊥
+  pub undone : IsDone f s → ⊥
   undone done = let e : suc (length more) ≡ 0 = ap length (sym ready_due ∙ done) in absurd (omega (arith, e))
 
-  takes_due : (line : List ℕ) (next : Stand) → Takes f s line next → TakesDue f s (d ∷ more) line next
+  pub takes_due : (line : List ℕ) (next : Stand) → Takes f s line next → TakesDue f s (d ∷ more) line next
   takes_due line next (inl takes) = absurd (first_none f s d more no_pass line next (subst (λ ds. TakesFirst f s ds line next) due takes))
   takes_due line next (inr takes) = subst (λ t. TakesDue f t (d ∷ more) line next) (ready_is f s d more due no_pass)
       (subst (λ ds. TakesDue f (ready f s) ds line next) ready_due takes)
 
-  due_takes : (line : List ℕ) (next : Stand) → TakesDue f s (d ∷ more) line next → Takes f s line next
+  pub due_takes : (line : List ℕ) (next : Stand) → TakesDue f s (d ∷ more) line next → Takes f s line next
   due_takes line next takes = inr (subst (λ ds. TakesDue f (ready f s) ds line next) (sym ready_due)
       (subst (λ t. TakesDue f t (d ∷ more) line next) (sym (ready_is f s d more due no_pass)) takes))
 

@@ -17,6 +17,8 @@ mod Actings
 mod Kept
 mod Emptyings
 mod Requests
+mod Trials
+mod Guardings
 mod Passes
 mod Servings
 mod Followed

@@ -1,25 +1,26 @@
 -- A line that may come next leads to one state: no outcome of a pass has the line of what follows the pass.
-use Rattle.std.proofs.Common.{◌≡◌, ◌≢◌, ℕ, suc, ◌^◌, ◌<◌, ◌⊎◌, List, [], ◌∷◌, ◌++◌, length, codes, inl, inr, refl, ap, sym, subst, ◌∙◌, arith}
+use Rattle.std.proofs.Common.{◌≡◌, ◌≢◌, ℕ, suc, ◌^◌, ◌<◌, ◌⊎◌, List, Option, None, [], ◌∷◌, ◌++◌, length, codes, inl, inr, refl, ap, sym, subst, ◌∙◌, arith}
 use Rattle.std.specs.Fmt.{decimal}
 use Rattle.pas_profile.specs.declared.event.Event.{Event}
 use Rattle.pas_profile.specs.declared.event.Why.{Why}
 use Rattle.pas_profile.specs.declared.event.Outcome.{Outcome}
 use Rattle.pas_profile.specs.declared.event.Outcome.TheVariants.{Unbacked, Bare, Young, InUse, NotOffered}
 use Rattle.pas_profile.specs.declared.name.Block.{Block}
+use Rattle.pas_profile.specs.declared.name.Name.{Name}
 use Rattle.pas_profile.specs.declared.profile.Profile.{Profile}
 use Rattle.pas_report.specs.Lines.{hex_digits, line_of, line_of_answer, line_of_event}
 use Rattle.pas_report.specs.declared.record.Record.{Record}
 use Rattle.pas_report.specs.declared.record.Said.{Said}
 use Rattle.pas_trace.specs.declared.item.Request.{Request}
 use Rattle.pas_check.specs.Begins.{past_outcomes, ready}
-use Rattle.pas_check.specs.Bounds.{FitsFirst, FitsNext, IsOfThread, IsSmall}
+use Rattle.pas_check.specs.Bounds.{FitsFirst, FitsRequest, FitsNext, IsOfThread, IsSmall}
 use Rattle.pas_check.specs.Ranges.{Fits, FitsEntry, FitsEvent}
 use Rattle.pas_check.specs.Readings.{byte_at, of_u8, past_digits}
-use Rattle.pas_check.specs.States.{Due, Writes, Frees, Serves, Examines, Heads, Shows, Totals, Stand}
-use Rattle.pas_check.specs.Takes.{IsEventOf, IsOutcome, IsPreparing, IsRefusal, Takes, TakesDue, TakesFirst, TakesOutcome, directory_of, record_of}
+use Rattle.pas_check.specs.States.{Due, Writes, Frees, Serves, Tries, Never, Examines, Heads, Shows, Totals, Stand}
+use Rattle.pas_check.specs.Takes.{IsEventOf, IsOutcome, IsPreparing, IsRefusal, serving, Takes, TakesRequest, TakesDue, TakesFirst, TakesOutcome, directory_of, record_of}
 use Rattle.pas_check.specs.declared.entry.Entry.{Entry}
 use Rattle.pas_check.proofs.Digits.{past_number, u8_back}
-use Rattle.pas_check.proofs.OneNext.{gives_fits, one_next, one_outcome, outcome_fits, prepares_fits, refusal_fits, same_record}
+use Rattle.pas_check.proofs.OneNext.{gives_fits, one_next, one_outcome, outcome_fits, prepares_fits, refusal_fits, same_record, small_serving}
 use Rattle.pas_check.proofs.Takings.{why_fits}
 
 -- ---- the lines of outcomes begin with a number
@@ -150,16 +151,25 @@ module _ (f : Profile) (s : Stand) (small : IsSmall f s) (last : ℕ) (rest : Li
   no_entry_of t k entry e epoch (few, inl some) is has = no_thread k some (line_of_event e) (spaced_actor k few (line_of_event e) (entry_spaced k few t entry e is)) has
   no_entry_of t k entry e epoch (few, inr fits) is has = no_record (Record.Event e) (entry_fits t k entry e few fits epoch is) (no_entry t k entry e is) has
 
+  no_request : (t : Stand) → IsSmall f t → (k : ℕ) (r : Request) (old : Option Name) (more : List Due) → FitsRequest f k r → (b : Stand) → TakesRequest f t k r old more line b → ⊥
+  no_request t new k r old more fits b (inl y) =
+      no_record (Record.Event y.event) (prepares_fits f t new k r fits y.event y.prepares y.admitted) (no_preparing f t k r y.event y.prepares) y.line_is
+  no_request t new k r old more fits b (inr (inl y)) =
+      no_record (Record.Event (Event.Give k y.block)) (gives_fits f t new k r fits y.block y.is_for y.admitted) (no_give k (Event.Give k y.block) y.block refl) y.line_is
+  no_request t new k r old more fits b (inr (inr y)) =
+      no_record (Record.Said k y.said) (fits.actor, refusal_fits f t new k r fits y.said y.refuses) (no_refusal f t k r y.said y.refuses) y.line_is
+
   pub outcome_apart : (t : Stand) → IsSmall f t → (due : List Due) → FitsNext f due → past_outcomes due ≡ due → (b : Stand) → TakesDue f t due line b → ⊥
   outcome_apart t new [] fits no_pass b y = y
   outcome_apart t new (Writes item ∷ more) fits no_pass b y = no_writing item fits y.0
   outcome_apart t new (Frees k entry ∷ more) fits no_pass b y = no_entry_of t k entry y.event new.epoch fits y.of_entry y.line_is
-  outcome_apart t new (Serves k r old ∷ more) fits no_pass b (inl y) =
-      no_record (Record.Event y.event) (prepares_fits f t new k r fits y.event y.prepares y.admitted) (no_preparing f t k r y.event y.prepares) y.line_is
-  outcome_apart t new (Serves k r old ∷ more) fits no_pass b (inr (inl y)) =
-      no_record (Record.Event (Event.Give k y.block)) (gives_fits f t new k r fits y.block y.is_for y.admitted) (no_give k (Event.Give k y.block) y.block refl) y.line_is
-  outcome_apart t new (Serves k r old ∷ more) fits no_pass b (inr (inr y)) =
-      no_record (Record.Said k y.said) (fits.actor, refusal_fits f t new k r fits y.said y.refuses) (no_refusal f t k r y.said y.refuses) y.line_is
+  outcome_apart t new (Serves k r old ∷ more) fits no_pass b y = no_request t new k r old more fits b y
+  outcome_apart t new (Tries keeper k r backed ∷ more) fits no_pass b (inl y) =
+      no_record (Record.Event y.event) (prepares_fits f t new keeper r fits.kept y.event y.prepares y.admitted) (no_preparing f t keeper r y.event y.prepares) y.line_is
+  outcome_apart t new (Tries keeper k r backed ∷ more) fits no_pass b (inr (inl y)) =
+      no_record (Record.Event (Event.Give keeper y.block)) (gives_fits f t new keeper r fits.kept y.block y.is_for y.admitted) (no_give keeper (Event.Give keeper y.block) y.block refl) y.line_is
+  outcome_apart t new (Tries keeper k r backed ∷ more) fits no_pass b (inr (inr y)) = no_request (serving t k r more) (small_serving f t k r more new) k r None more fits.own b y.1
+  outcome_apart t new (Never ∷ more) fits no_pass b y = y
   outcome_apart t new (Examines page ∷ more) fits no_pass b y = let e : length more ≡ suc (length more) = ap length no_pass in absurd (omega (arith, e))
   outcome_apart t new (Heads ∷ more) fits no_pass b y = no_text _ (λ e. omega (arith, e)) y.0
   outcome_apart t new (Shows page d ∷ more) fits no_pass b y = no_text _ (λ e. omega (arith, e)) y.line_is
@@ -171,6 +181,8 @@ fits_first f [] fits = fits
 fits_first f (Writes item ∷ more) fits = tt
 fits_first f (Frees k entry ∷ more) fits = tt
 fits_first f (Serves k r old ∷ more) fits = fits
+fits_first f (Tries keeper k r backed ∷ more) fits = fits
+fits_first f (Never ∷ more) fits = fits
 fits_first f (Examines page ∷ more) fits = fits
 fits_first f (Heads ∷ more) fits = fits
 fits_first f (Shows page d ∷ more) fits = fits
@@ -182,6 +194,8 @@ module _ (f : Profile) (s : Stand) (small : IsSmall f s) where
   one_first (Writes item ∷ more) line a b x y = absurd x
   one_first (Frees k entry ∷ more) line a b x y = absurd x
   one_first (Serves k r old ∷ more) line a b x y = absurd x
+  one_first (Tries keeper k r backed ∷ more) line a b x y = absurd x
+  one_first (Never ∷ more) line a b x y = absurd x
   one_first (Examines page ∷ more) line a b x y = one_outcome f s small page more line a b x y
   one_first (Heads ∷ more) line a b x y = absurd x
   one_first (Shows page d ∷ more) line a b x y = absurd x
@@ -193,6 +207,8 @@ module _ (f : Profile) (s : Stand) (small : IsSmall f s) where
     first_apart (Writes item ∷ more) line a b x y = x
     first_apart (Frees k entry ∷ more) line a b x y = x
     first_apart (Serves k r old ∷ more) line a b x y = x
+    first_apart (Tries keeper k r backed ∷ more) line a b x y = x
+    first_apart (Never ∷ more) line a b x y = x
     first_apart (Examines page ∷ more) line a b x y = outcome_apart f s small page more line a x (ready f s) new (ready f s).due fits no_pass b y
     first_apart (Heads ∷ more) line a b x y = x
     first_apart (Shows page d ∷ more) line a b x y = x

@@ -1,5 +1,5 @@
 -- A line that may come leads to one state, where it answers what is due.
-use Rattle.std.proofs.Common.{◌≡◌, ◌≢◌, ℕ, ◌/◌, ◌%◌, ◌^◌, ◌<◌, ◌≤◌, ◌==◌, Bool, true, false, if◌then◌else◌, List, [], ◌∷◌, Option, Some, None, inl, inr, refl, ap, sym, subst, ◌∙◌, arith}
+use Rattle.std.proofs.Common.{◌≡◌, ◌≢◌, ℕ, ◌/◌, ◌%◌, ◌^◌, ◌<◌, ◌≤◌, ◌==◌, ◌||◌, Bool, true, false, if◌then◌else◌, List, [], ◌∷◌, Option, Some, None, inl, inr, refl, ap, sym, subst, ◌∙◌, arith}
 use Rattle.std.proofs.lemmas.Bool.{eqb-true}
 use Rattle.std.proofs.lemmas.Option.{none-some}
 use Rattle.pas_profile.specs.Profiles.{IsPage, IsValid}
@@ -17,12 +17,12 @@ use Rattle.pas_machine.specs.State.{deed_in, backed_in}
 use Rattle.pas_report.specs.Lines.{line_of}
 use Rattle.pas_report.specs.declared.record.Record.{Record}
 use Rattle.pas_report.specs.declared.record.Said.{Said}
-use Rattle.pas_check.specs.Begins.{replacing}
-use Rattle.pas_check.specs.Bounds.{FitsRequest, FitsFirst, IsSmall}
+use Rattle.pas_check.specs.Begins.{has_sides, raising, replacing}
+use Rattle.pas_check.specs.Bounds.{FitsRequest, FitsFirst, FitsTry, IsSmall}
 use Rattle.pas_trace.specs.declared.item.Request.{Request}
 use Rattle.pas_check.specs.Ranges.{FitsEvent, FitsSaid, Fits}
-use Rattle.pas_check.specs.States.{Due, Writes, Frees, Serves, Examines, Heads, Shows, Totals, Stand, with_due, with_one, with_name}
-use Rattle.pas_check.specs.Takes.{IsPreparing, IsFor, IsRefusal, directory_of, MayCome, record_of, after_outcome, TakesRequest, TakesOutcome, TakesDue}
+use Rattle.pas_check.specs.States.{Due, Writes, Frees, Serves, Tries, Never, Examines, Heads, Shows, Totals, Stand, with_due, with_one, with_name}
+use Rattle.pas_check.specs.Takes.{IsPreparing, IsFor, IsRefusal, directory_of, is_back, serving, MayCome, record_of, after_outcome, TakesRequest, TakesTry, TakesOutcome, TakesDue}
 use Rattle.pas_check.proofs.Entries.{one_event}
 use Rattle.pas_check.proofs.Readings.{one_line}
 
@@ -117,6 +117,61 @@ module _ (f : Profile) (s : Stand) (small : IsSmall f s) (k : ℕ) (r : Request)
         absurd (apart (Event.Give k y.block) x.said (same_record line (Record.Event (Event.Give k y.block)) (Record.Said k x.said) (gives_fits y.block y.is_for y.admitted) (fits.actor, refusal_fits x.said x.refuses) y.line_is x.line_is))
     one_request (inr (inr x)) (inr (inr y)) = x.next_is ∙ sym y.next_is
 
+-- ---- those of a guarded request
+-- what is due has no part in how small a state is
+pub small_serving : (f : Profile) (s : Stand) (k : ℕ) (r : Request) (more : List Due) → IsSmall f s → IsSmall f (serving s k r more)
+small_serving f s k r more small = record { valid = small.valid; run = small.run; gives = small.gives; ends = small.ends; epoch = small.epoch }
+
+-- by whom an event is
+abbrev maker_of : Event → ℕ
+maker_of (Event.Deed k page d) = k
+maker_of (Event.Back k page) = k
+maker_of (Event.Unback k page epoch) = k
+maker_of (Event.Give k block) = k
+maker_of (Event.End k name epoch) = k
+maker_of (Event.Reject k name why) = k
+
+prepared_by : (k : ℕ) (d : Directory) (e : Event) → IsPreparing k d e → maker_of e ≡ k
+prepared_by k d e (inl is) = ap maker_of is.1
+prepared_by k d e (inr is) = ap maker_of is.1
+
+module _ (f : Profile) (s : Stand) (small : IsSmall f s) (keeper k : ℕ) (r : Request) (fits : FitsTry f keeper k r) (more : List Due) (line : List ℕ) where
+  kept_event : (e : Event) → FitsEvent e → maker_of e ≡ keeper → line ≡ line_of (Record.Event e) → (g : Event) → FitsEvent g → maker_of g ≡ k → line ≡ line_of (Record.Event g) → ⊥
+  kept_event e fe by has g fg own same =
+      let is = event_is f s small k r fits.own e g (same_record line (Record.Event e) (Record.Event g) fe fg has same) in
+      fits.apart (sym by ∙ ap maker_of is ∙ own)
+
+  kept_said : (e : Event) → FitsEvent e → line ≡ line_of (Record.Event e) → (said : Said) → FitsSaid said → line ≡ line_of (Record.Said k said) → ⊥
+  kept_said e fe has said fs same = apart f s small k r fits.own e said (same_record line (Record.Event e) (Record.Said k said) fe (fits.own.actor, fs) has same)
+
+  -- no line of the keeper is one of the thread
+  kept_apart : (e : Event) → FitsEvent e → maker_of e ≡ keeper → line ≡ line_of (Record.Event e) → (b : Stand) → TakesRequest f (serving s k r more) k r None more line b → ⊥
+  kept_apart e fe by has b (inl y) = kept_event e fe by has y.event (prepares_fits f (serving s k r more) (small_serving f s k r more small) k r fits.own y.event y.prepares y.admitted)
+      (prepared_by k (directory_of f r) y.event y.prepares) y.line_is
+  kept_apart e fe by has b (inr (inl y)) = kept_event e fe by has (Event.Give k y.block) (gives_fits f (serving s k r more) (small_serving f s k r more small) k r fits.own y.block y.is_for y.admitted) refl y.line_is
+  kept_apart e fe by has b (inr (inr y)) = kept_said e fe has y.said (refusal_fits f (serving s k r more) (small_serving f s k r more small) k r fits.own y.said y.refuses) y.line_is
+
+  module _ (backed : Bool) (a b : Stand) where
+    one_try : TakesTry f s keeper k r backed more line a → TakesTry f s keeper k r backed more line b → a ≡ b
+    one_try (inl x) (inl y) =
+        x.next_is ∙ ap (λ e. with_due (with_one s e) (Tries keeper k r (backed || is_back e) ∷ more)) (event_is f s small keeper r fits.kept x.event y.event (same_record line (Record.Event x.event) (Record.Event y.event)
+        (prepares_fits f s small keeper r fits.kept x.event x.prepares x.admitted) (prepares_fits f s small keeper r fits.kept y.event y.prepares y.admitted) x.line_is y.line_is)) ∙ sym y.next_is
+    one_try (inl x) (inr (inl y)) =
+        absurd (no_give f s small keeper r fits.kept x.event y.block x.prepares (event_is f s small keeper r fits.kept x.event (Event.Give keeper y.block) (same_record line (Record.Event x.event) (Record.Event (Event.Give keeper y.block))
+        (prepares_fits f s small keeper r fits.kept x.event x.prepares x.admitted) (gives_fits f s small keeper r fits.kept y.block y.is_for y.admitted) x.line_is y.line_is)))
+    one_try (inl x) (inr (inr y)) = absurd (kept_apart x.event (prepares_fits f s small keeper r fits.kept x.event x.prepares x.admitted) (prepared_by keeper (directory_of f r) x.event x.prepares) x.line_is b y.1)
+    one_try (inr (inl x)) (inl y) =
+        absurd (no_give f s small keeper r fits.kept y.event x.block y.prepares (event_is f s small keeper r fits.kept y.event (Event.Give keeper x.block) (same_record line (Record.Event y.event) (Record.Event (Event.Give keeper x.block))
+        (prepares_fits f s small keeper r fits.kept y.event y.prepares y.admitted) (gives_fits f s small keeper r fits.kept x.block x.is_for x.admitted) y.line_is x.line_is)))
+    one_try (inr (inl x)) (inr (inl y)) =
+        x.next_is ∙ ap (λ (c : Block). raising (has_sides f c) (with_name (with_one s (Event.Give keeper c)) r.name (Some c)) keeper r.name c more)
+        (block_is f s small keeper r fits.kept x.block y.block (same_record line (Record.Event (Event.Give keeper x.block)) (Record.Event (Event.Give keeper y.block)) (gives_fits f s small keeper r fits.kept x.block x.is_for x.admitted)
+        (gives_fits f s small keeper r fits.kept y.block y.is_for y.admitted) x.line_is y.line_is)) ∙ sym y.next_is
+    one_try (inr (inl x)) (inr (inr y)) = absurd (kept_apart (Event.Give keeper x.block) (gives_fits f s small keeper r fits.kept x.block x.is_for x.admitted) refl x.line_is b y.1)
+    one_try (inr (inr x)) (inl y) = absurd (kept_apart y.event (prepares_fits f s small keeper r fits.kept y.event y.prepares y.admitted) (prepared_by keeper (directory_of f r) y.event y.prepares) y.line_is a x.1)
+    one_try (inr (inr x)) (inr (inl y)) = absurd (kept_apart (Event.Give keeper y.block) (gives_fits f s small keeper r fits.kept y.block y.is_for y.admitted) refl y.line_is a x.1)
+    one_try (inr (inr x)) (inr (inr y)) = one_request f (serving s k r more) (small_serving f s k r more small) k r fits.own None more line a b x.1 y.1
+
 -- ---- an outcome of a pass
 same_outcome : (epoch p q : ℕ) (a b : Outcome) → record_of epoch p a ≡ record_of epoch q b → (p ≡ q) × (a ≡ b)
 same_outcome epoch p q Unbacked Unbacked e = (cc, refl)
@@ -165,6 +220,8 @@ one_next f s small [] fits line a b x y = absurd x
 one_next f s small (Writes item ∷ more) fits line a b x y = x.1 ∙ sym y.1
 one_next f s small (Frees k entry ∷ more) fits line a b x y = x.next_is ∙ ap (λ e. with_due (with_one s e) more) (one_event s k entry x.event y.event x.of_entry y.of_entry) ∙ sym y.next_is
 one_next f s small (Serves k r old ∷ more) fits line a b x y = one_request f s small k r fits old more line a b x y
+one_next f s small (Tries keeper k r backed ∷ more) fits line a b x y = one_try f s small keeper k r fits more line backed a b x y
+one_next f s small (Never ∷ more) fits line a b x y = absurd x
 one_next f s small (Examines page ∷ more) fits line a b x y = one_outcome f s small page more line a b x y
 one_next f s small (Heads ∷ more) fits line a b x y = x.1 ∙ sym y.1
 one_next f s small (Shows page d ∷ more) fits line a b x y = x.next_is ∙ sym y.next_is

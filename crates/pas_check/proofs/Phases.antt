@@ -5,8 +5,8 @@ use Rattle.pas_bits.specs.Masks.{is_set}
 use Rattle.pas_bits.specs.declared.mask.Mask4.{Mask4}
 use Rattle.pas_profile.specs.declared.profile.Profile.{Profile}
 use Rattle.pas_machine.specs.Machines.{profile_of}
-use Rattle.pas_trace.specs.Acts.{Act, MarksPhase, Operates, Settles, Wakes, active_threads, acts_from, acts_of, acts_of_chore, acts_of_op, acts_of_ops, acts_of_work, close_acts, idle_threads, is_active, phase_acts, threads_where}
-use Rattle.pas_trace.specs.Asked.{work_of}
+use Rattle.pas_trace.specs.Acts.{Act, MarksPhase, Settles, act_kept, Wakes, active_threads, acts_from, acts_of, acts_of_chore, acts_of_op, acts_of_ops, acts_of_work, close_acts, idle_threads, is_active, phase_acts, threads_where}
+use Rattle.pas_trace.specs.Asked.{work_of, of_task, keeper_of, keeper_in}
 use Rattle.pas_trace.specs.declared.plan.Chore.{Chore}
 use Rattle.pas_trace.specs.EveryPlan.{all_ops}
 use Rattle.pas_trace.specs.Plans.{ops_of}
@@ -27,19 +27,20 @@ use Rattle.pas_trace.proofs.ThreadsInOrder.{threads_alike}
 
 module _ (text : List ℕ) (old new : Judge) (from to : Cursor) (idle : List ℕ) (op : Op) where
   -- a thread's operation, after which what it noted is settled without a line
-  own_taken : (taken : Bool) → StaysWithin text to taken → ((f : Profile) → ActTaken f text old from new to (Operates op) taken)
-      → ActsTaken text old from new to (Operates op ∷ (Settles op.actor ∷ [])) taken
-  own_taken true within done = λ more.
-      taken_on text old new new from to to (Operates op ∷ (Settles op.actor ∷ more)) (Settles op.actor ∷ more) more true (act_taken text old new from to (Operates op) true done (Settles op.actor ∷ more))
+  own_taken : (act : Act) (taken : Bool) → StaysWithin text to taken → ((f : Profile) → ActTaken f text old from new to act taken)
+      → ActsTaken text old from new to (act ∷ (Settles op.actor ∷ [])) taken
+  own_taken act true within done = λ more.
+      taken_on text old new new from to to (act ∷ (Settles op.actor ∷ more)) (Settles op.actor ∷ more) more true (act_taken text old new from to act true done (Settles op.actor ∷ more))
       (idly_taken text new to (Settles op.actor) within (λ f s. refl) more)
-  own_taken false within done = λ more first s so. act_taken text old new from to (Operates op) false done (Settles op.actor ∷ more) first s so
+  own_taken act false within done = λ more first s so. act_taken text old new from to act false done (Settles op.actor ∷ more) first s so
 
   work_taken : (work : Work) (taken : Bool) → work_of op.what ≡ work → ActsTaken text old from new to (acts_of_work idle op work) taken → ActsTaken text old from new to (acts_of_op idle op) taken
   work_taken work taken is = subst (λ (w : Work). ActsTaken text old from new to (acts_of_work idle op w) taken) (sym is)
 
-  pub operation_taken : (task : Task) (taken : Bool) → work_of op.what ≡ Work.Own task → StaysWithin text to taken → ((f : Profile) → ActTaken f text old from new to (Operates op) taken)
+  pub operation_taken : (task : Task) (taken : Bool) → work_of op.what ≡ Work.Own task → StaysWithin text to taken → ((f : Profile) → ActTaken f text old from new to (act_kept (keeper_in op.what) op) taken)
       → ActsTaken text old from new to (acts_of_op idle op) taken
-  operation_taken task taken is within done = work_taken (Work.Own task) taken is (own_taken taken within done)
+  operation_taken task taken is within done = work_taken (Work.Own task) taken is (own_taken (act_kept (keeper_of task) op) taken within
+      (λ f. subst (λ (w : Work). ActTaken f text old from new to (act_kept (of_task keeper_of w) op) taken) is (done f)))
 
   pub chore_taken : (chore : Chore) (taken : Bool) → work_of op.what ≡ Work.Chore chore → ActsTaken text old from new to (acts_of_chore idle chore) taken
       → ActsTaken text old from new to (acts_of_op idle op) taken
@@ -90,17 +91,17 @@ phases_there f limit phases i d lt planned =
     = subst (λ (ps : List Phase). ArePlanned f limit (all_ops (map ops_of ps))) (drop_more phases i d lt) planned in
     (planned_front f limit (ops_of (get_or phases i d)) (all_ops (map ops_of (drop (i + 1) phases))) both, planned_back f limit (ops_of (get_or phases i d)) (all_ops (map ops_of (drop (i + 1) phases))) both)
 
-pub phase_at : (threads n : ℕ) (phases : List Phase) (i : ℕ) (d : Phase) → i < length phases
-    → acts_from threads n (map ops_of (drop i phases)) ≡ MarksPhase n ∷ (phase_acts threads (ops_of (get_or phases i d)) ++ acts_from threads (n + 1) (map ops_of (drop (i + 1) phases)))
-phase_at threads n phases i d lt = ap (λ (ps : List Phase). acts_from threads n (map ops_of ps)) (drop_more phases i d lt)
+pub phase_at : (threads keepers n : ℕ) (phases : List Phase) (i : ℕ) (d : Phase) → i < length phases
+    → acts_from threads keepers n (map ops_of (drop i phases)) ≡ MarksPhase n ∷ (phase_acts threads (ops_of (get_or phases i d)) ++ acts_from threads keepers (n + 1) (map ops_of (drop (i + 1) phases)))
+phase_at threads keepers n phases i d lt = ap (λ (ps : List Phase). acts_from threads keepers n (map ops_of ps)) (drop_more phases i d lt)
 
-pub first_phase : (threads : ℕ) (phases : List Phase) (d : Phase) → 0 < length phases
-    → acts_of threads (map ops_of phases) ≡ phase_acts threads (ops_of (get_or phases 0 d)) ++ acts_from threads 2 (map ops_of (drop 1 phases))
-first_phase threads phases d lt = ap (λ (ps : List Phase). acts_of threads (map ops_of ps)) (drop_more phases 0 d lt)
+pub first_phase : (threads keepers : ℕ) (phases : List Phase) (d : Phase) → 0 < length phases
+    → acts_of threads keepers (map ops_of phases) ≡ phase_acts threads (ops_of (get_or phases 0 d)) ++ acts_from threads keepers 2 (map ops_of (drop 1 phases))
+first_phase threads keepers phases d lt = ap (λ (ps : List Phase). acts_of threads keepers (map ops_of ps)) (drop_more phases 0 d lt)
 
-pub no_phase : (threads : ℕ) (phases : List Phase) → length phases ≡ 0 → acts_of threads (map ops_of phases) ≡ close_acts threads
-no_phase threads [] none = refl
-no_phase threads (p ∷ ps) none = absurd (omega (arith, none))
+pub no_phase : (threads keepers : ℕ) (phases : List Phase) → length phases ≡ 0 → acts_of threads keepers (map ops_of phases) ≡ close_acts threads keepers
+no_phase threads keepers [] none = refl
+no_phase threads keepers (p ∷ ps) none = absurd (omega (arith, none))
 
 -- the same, of the profile and the names of another judge
 pub planned_as : (old new : Judge) (ops : List Op) → IsSizedAs old new → ArePlanned (profile_of old.machine) (names_held old.names) ops → ArePlanned (profile_of new.machine) (names_held new.names) ops
@@ -132,33 +133,33 @@ pub rest_is : (phases : List Phase) → take (length phases - 1) (drop 1 phases)
 rest_is phases = let long = length-drop 1 phases in take_length (length phases - 1) (drop 1 phases) (omega (arith, long))
 
 -- the first phase, which has no mark, and those after it
-module _ (text : List ℕ) (old : Judge) (from : Cursor) (phases : List Phase) (d : Phase) (ops : List Op) (some : 0 < length phases) (is : ops ≡ ops_of (get_or phases 0 d)) where
-  acts_first : acts_of (threads_in old) (map ops_of phases) ≡ phase_acts (threads_in old) ops ++ acts_from (threads_in old) 2 (map ops_of (drop 1 phases))
-  acts_first = first_phase (threads_in old) phases d some
-      ∙ ap (λ (os : List Op). phase_acts (threads_in old) os ++ acts_from (threads_in old) 2 (map ops_of (drop 1 phases))) (sym is)
+module _ (keepers : ℕ) (text : List ℕ) (old : Judge) (from : Cursor) (phases : List Phase) (d : Phase) (ops : List Op) (some : 0 < length phases) (is : ops ≡ ops_of (get_or phases 0 d)) where
+  acts_first : acts_of (threads_in old) keepers (map ops_of phases) ≡ phase_acts (threads_in old) ops ++ acts_from (threads_in old) keepers 2 (map ops_of (drop 1 phases))
+  acts_first = first_phase (threads_in old) keepers phases d some
+      ∙ ap (λ (os : List Op). phase_acts (threads_in old) os ++ acts_from (threads_in old) keepers 2 (map ops_of (drop 1 phases))) (sym is)
 
   pub first_amiss : (new : Judge) (to : Cursor) → ActsTaken text old from new to (phase_acts (threads_in old) ops) false
-      → TakenTo text old from new to (acts_of (threads_in old) (map ops_of phases)) (close_acts (threads_in old)) false
-  first_amiss new to done = λ f first so. done (acts_from (threads_in old) 2 (map ops_of (drop 1 phases))) f first (so_far_as acts_first so)
+      → TakenTo text old from new to (acts_of (threads_in old) keepers (map ops_of phases)) (close_acts (threads_in old) keepers) false
+  first_amiss new to done = λ f first so. done (acts_from (threads_in old) keepers 2 (map ops_of (drop 1 phases))) f first (so_far_as acts_first so)
 
   pub first_on : (mid new : Judge) (at to : Cursor) (taken : Bool) → threads_in mid ≡ threads_in old → ActsTaken text old from mid at (phase_acts (threads_in old) ops) true
-      → TakenTo text mid at new to (acts_from (threads_in mid) 2 (map ops_of (drop 1 phases))) (close_acts (threads_in mid)) taken
-      → TakenTo text old from new to (acts_of (threads_in old) (map ops_of phases)) (close_acts (threads_in old)) taken
+      → TakenTo text mid at new to (acts_from (threads_in mid) keepers 2 (map ops_of (drop 1 phases))) (close_acts (threads_in mid) keepers) taken
+      → TakenTo text old from new to (acts_of (threads_in old) keepers (map ops_of phases)) (close_acts (threads_in old) keepers) taken
   first_on mid new at to taken threads one two =
       let n = threads_in old in
-      let rest : List Act = acts_from n 2 (map ops_of (drop 1 phases)) in
-      taken_on text old mid new from at to (acts_of n (map ops_of phases)) rest (close_acts n) taken (λ f first so. one rest f first (so_far_as acts_first so))
-      (subst (λ (m : ℕ). TakenTo text mid at new to (acts_from m 2 (map ops_of (drop 1 phases))) (close_acts m) taken) threads two)
+      let rest : List Act = acts_from n keepers 2 (map ops_of (drop 1 phases)) in
+      taken_on text old mid new from at to (acts_of n keepers (map ops_of phases)) rest (close_acts n keepers) taken (λ f first so. one rest f first (so_far_as acts_first so))
+      (subst (λ (m : ℕ). TakenTo text mid at new to (acts_from m keepers 2 (map ops_of (drop 1 phases))) (close_acts m keepers) taken) threads two)
 
 -- the phases, and then the close
-pub close_on : (text : List ℕ) (old mid new : Judge) (from at to : Cursor) (phases : List (List Op)) (taken : Bool) → threads_in mid ≡ threads_in old
-    → TakenTo text old from mid at (acts_of (threads_in old) phases) (close_acts (threads_in old)) true → ActsTaken text mid at new to (close_acts (threads_in mid)) taken
-    → TakenTo text old from new to (acts_of (threads_in old) phases) [] taken
-close_on text old mid new from at to phases taken threads one two =
+pub close_on : (keepers : ℕ) (text : List ℕ) (old mid new : Judge) (from at to : Cursor) (phases : List (List Op)) (taken : Bool) → threads_in mid ≡ threads_in old
+    → TakenTo text old from mid at (acts_of (threads_in old) keepers phases) (close_acts (threads_in old) keepers) true → ActsTaken text mid at new to (close_acts (threads_in mid) keepers) taken
+    → TakenTo text old from new to (acts_of (threads_in old) keepers phases) [] taken
+close_on keepers text old mid new from at to phases taken threads one two =
     let n = threads_in old in
-    let close : ActsTaken text mid at new to (close_acts n) taken = subst (λ (m : ℕ). ActsTaken text mid at new to (close_acts m) taken) threads two in
-    taken_on text old mid new from at to (acts_of n phases) (close_acts n) [] taken one
-    (taken_as text mid new at to taken (close_acts n ++ []) (close_acts n) [] [] (append-nil (close_acts n)) refl (close []))
+    let close : ActsTaken text mid at new to (close_acts n keepers) taken = subst (λ (m : ℕ). ActsTaken text mid at new to (close_acts m keepers) taken) threads two in
+    taken_on text old mid new from at to (acts_of n keepers phases) (close_acts n keepers) [] taken one
+    (taken_as text mid new at to taken (close_acts n keepers ++ []) (close_acts n keepers) [] [] (append-nil (close_acts n keepers)) refl (close []))
 
 pub close_amiss : (text : List ℕ) (old new : Judge) (from to : Cursor) (acts left rest : List Act) → TakenTo text old from new to acts left false → TakenTo text old from new to acts rest false
 close_amiss text old new from to acts left rest amiss = amiss

@@ -21,7 +21,7 @@ use Rattle.pas_check.proofs.Kept.{EndsBy, kept_more, kept_same, small_of}
 use Rattle.pas_check.proofs.Leads.{due_lacks, due_refused, due_taken, leads_fails, leads_nowhere, leads_on}
 use Rattle.pas_check.proofs.OneNext.{one_next}
 
-prepares_by : (epoch k : ℕ) (d : Directory) (e : Event) → IsKind d.kind → IsPreparing k d e → EndsBy epoch e
+pub prepares_by : (epoch k : ℕ) (d : Directory) (e : Event) → IsKind d.kind → IsPreparing k d e → EndsBy epoch e
 prepares_by epoch k d e kind (inl is) = subst (EndsBy epoch) (sym is.1) kind
 prepares_by epoch k d e kind (inr is) = subst (EndsBy epoch) (sym is.1) tt
 

@@ -3,12 +3,13 @@ use Rattle.std.proofs.Common.{◌≡◌, ℕ, ◌+◌, ◌^◌, ◌<◌, ◌≤�
 use Rattle.std.proofs.lemmas.List.{length-map}
 use Rattle.pas_profile.specs.declared.profile.Profile.{Profile}
 use Rattle.pas_machine.specs.Machines.{profile_of}
-use Rattle.pas_trace.specs.Acts.{acts_of}
+use Rattle.pas_trace.specs.Acts.{acts_of, keepers_of}
 use Rattle.pas_trace.specs.EveryPlan.{all_ops}
 use Rattle.pas_trace.specs.Plans.{IsPlanOf, ops_of, phases_of}
 use Rattle.pas_trace.specs.declared.plan.Phase.{Phase}
 use Rattle.pas_trace.specs.declared.plan.Plan.{Plan}
 use Rattle.pas_trace.proofs.EveryPlan.{every_plan}
+use Rattle.pas_trace.proofs.Keepers.{keepers_few}
 use Rattle.pas_check.specs.Accepted.{IsStopped, IsVerdict, IsWhole}
 use Rattle.pas_check.specs.Begins.{after_task}
 use Rattle.pas_check.specs.Checks.{ArePlanned, IsOpened, IsSoFar, TakenTo, opening, threads_in}
@@ -31,7 +32,7 @@ plan_few text plan is short = let few = (every_plan is).phases in omega (arith, 
 
 pub plan_planned : (text : List ℕ) (plan : Plan) → IsPlanOf text plan → ArePlanned plan.profile plan.names_limit (all_ops (map ops_of (phases_of plan.phases)))
 plan_planned text plan is =
-    all_planned plan.profile plan.names_limit [] (all_ops (map ops_of (phases_of plan.phases))) (every_plan is).operations (every_plan is).names
+    all_planned plan.profile plan.names_limit plan.guard [] (all_ops (map ops_of (phases_of plan.phases))) (every_plan is).valid.threads (every_plan is).operations (every_plan is).names (every_plan is).keepers
 
 pub planned_there : (text : List ℕ) (plan : Plan) (judge : Judge) (phases : List Phase) → IsPlanOf text plan → IsOpened plan judge → phases ≡ phases_of plan.phases
     → ArePlanned (profile_of judge.machine) (names_held judge.names) (all_ops (map ops_of phases))
@@ -46,7 +47,7 @@ opening_within transcript = record { bytes = omega arith; lines = omega arith }
 -- ---- the check begins
 module _ (text : List ℕ) (plan : Plan) (transcript : List ℕ) (judge : Judge) (is : IsPlanOf text plan) (short : length text ≤ 16777216) (opened : IsOpened plan judge)
     (within : IsWithin transcript opening) where
-  pub so_far : IsSoFar plan.profile transcript (at_first plan) judge opening (acts_of plan.profile.threads (map ops_of (phases_of plan.phases)))
+  pub so_far : IsSoFar plan.profile transcript (at_first plan) judge opening (acts_of plan.profile.threads (keepers_of plan) (map ops_of (phases_of plan.phases)))
   so_far =
       let few = plan_few text plan is short in
       let same = length-map (phases_of plan.phases) ops_of in
@@ -56,7 +57,7 @@ module _ (text : List ℕ) (plan : Plan) (transcript : List ℕ) (judge : Judge)
         stands = opened.stands;
         due = refl;
         left = refl;
-        fit = acts_fit plan.profile plan.names_limit (every_plan is).valid opened.few (map ops_of (phases_of plan.phases)) (omega (arith, few, same)) (plan_planned text plan is);
+        fit = acts_fit plan.profile plan.names_limit (every_plan is).valid opened.few (keepers_of plan) (keepers_few plan) (map ops_of (phases_of plan.phases)) (omega (arith, few, same)) (plan_planned text plan is);
       }
 
 -- ---- the first line that isn't allowed
@@ -68,20 +69,21 @@ no_verdict plan transcript n fails =
 -- ---- the acts
 module _ (text : List ℕ) (plan : Plan) (transcript : List ℕ) (old new : Judge) (to : Cursor) (is : IsPlanOf text plan) (short : length text ≤ 16777216) (opened : IsOpened plan old)
     (within : IsWithin transcript opening) where
-  same_threads : acts_of (threads_in old) (map ops_of (phases_of plan.phases)) ≡ acts_of plan.profile.threads (map ops_of (phases_of plan.phases))
-  same_threads = ap (λ (f : Profile). acts_of f.threads (map ops_of (phases_of plan.phases))) opened.profile
+  same_threads : acts_of (threads_in old) (keepers_of plan) (map ops_of (phases_of plan.phases)) ≡ acts_of plan.profile.threads (keepers_of plan) (map ops_of (phases_of plan.phases))
+  same_threads = ap (λ (f : Profile). acts_of f.threads (keepers_of plan) (map ops_of (phases_of plan.phases))) opened.profile
 
-  -- from the cursor, with the phases as they are called there
-  module _ (from : Cursor) (phases : List Phase) (start : from ≡ opening) (same : phases ≡ phases_of plan.phases) where
-    there : (taken : Bool) → TakenTo transcript old from new to (acts_of (threads_in old) (map ops_of phases)) [] taken
-        → TakenTo transcript old opening new to (acts_of (threads_in old) (map ops_of (phases_of plan.phases))) [] taken
-    there taken done = subst (λ (ps : List Phase). TakenTo transcript old opening new to (acts_of (threads_in old) (map ops_of ps)) [] taken) same
-        (subst (λ (at : Cursor). TakenTo transcript old at new to (acts_of (threads_in old) (map ops_of phases)) [] taken) start done)
+  -- from the cursor, with the phases and the keepers as they are called there
+  module _ (from : Cursor) (phases : List Phase) (keepers : ℕ) (start : from ≡ opening) (same : phases ≡ phases_of plan.phases) (kept : keepers ≡ keepers_of plan) where
+    there : (taken : Bool) → TakenTo transcript old from new to (acts_of (threads_in old) keepers (map ops_of phases)) [] taken
+        → TakenTo transcript old opening new to (acts_of (threads_in old) (keepers_of plan) (map ops_of (phases_of plan.phases))) [] taken
+    there taken done = subst (λ (n : ℕ). TakenTo transcript old opening new to (acts_of (threads_in old) n (map ops_of (phases_of plan.phases))) [] taken) kept
+        (subst (λ (ps : List Phase). TakenTo transcript old opening new to (acts_of (threads_in old) keepers (map ops_of ps)) [] taken) same
+        (subst (λ (at : Cursor). TakenTo transcript old at new to (acts_of (threads_in old) keepers (map ops_of phases)) [] taken) start done))
 
-    pub acts_amiss : TakenTo transcript old from new to (acts_of (threads_in old) (map ops_of phases)) [] false → IsVerdict plan transcript (No to.lines)
+    pub acts_amiss : TakenTo transcript old from new to (acts_of (threads_in old) keepers (map ops_of phases)) [] false → IsVerdict plan transcript (No to.lines)
     acts_amiss done = no_verdict plan transcript to.lines (there false done plan.profile (at_first plan) (so_far_as (sym same_threads) (so_far text plan transcript old is short opened within)))
 
-    pub acts_on : TakenTo transcript old from new to (acts_of (threads_in old) (map ops_of phases)) [] true → IsSoFar plan.profile transcript (at_first plan) new to []
+    pub acts_on : TakenTo transcript old from new to (acts_of (threads_in old) keepers (map ops_of phases)) [] true → IsSoFar plan.profile transcript (at_first plan) new to []
     acts_on done = there true done plan.profile (at_first plan) (so_far_as (sym same_threads) (so_far text plan transcript old is short opened within))
 
 -- ---- after the acts

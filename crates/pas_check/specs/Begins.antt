@@ -1,22 +1,25 @@
 -- How the acts of a plan are begun: what becomes due, and what changes without a line.
-use Rattle.std.specs.Prelude.{ℕ, zero, suc, ◌+◌, ◌/◌, ◌%◌, ◌==◌, nat_le, ◌&&◌, Bool, true, false, List, [], ◌∷◌, ◌++◌, length, map, max, Option, None, Some}
+use Rattle.std.specs.Prelude.{ℕ, zero, suc, ◌+◌, ◌-◌, ◌/◌, ◌%◌, ◌==◌, nat_le, nat_lt, ◌&&◌, ◌||◌, not, Bool, true, false, List, [], ◌∷◌, ◌++◌, length, map, max, Option, None, Some}
+use Rattle.std.specs.List.{filter}
 use Rattle.pas_profile.specs.declared.directory.Directory.{Directory}
 use Rattle.pas_profile.specs.declared.event.Event.{Event}
 use Rattle.pas_profile.specs.declared.name.Block.{Block}
 use Rattle.pas_profile.specs.declared.name.Name.{Name}
 use Rattle.pas_profile.specs.declared.profile.Profile.{Profile}
-use Rattle.pas_profile.specs.Blocks.{address_of}
-use Rattle.pas_machine.specs.State.{deed_in}
+use Rattle.pas_profile.specs.Blocks.{address_of, grain_of, length_of}
+use Rattle.pas_machine.specs.State.{deed_in, ends_in}
 use Rattle.pas_trace.specs.declared.plan.What.{What}
-use Rattle.pas_trace.specs.declared.plan.What.TheVariants.{Alloc, Free, FreeSized, Raw, RawSized, Remake, Flush, Stop, Tick, Pass, Idle}
+use Rattle.pas_trace.specs.declared.plan.What.TheVariants.{Alloc, Guarded, Free, FreeSized, Raw, RawSized, Remake, Flush, Stop, Tick, Pass, Idle}
 use Rattle.pas_report.specs.declared.record.Record.{Record}
 use Rattle.pas_report.specs.declared.record.Said.{Said}
 use Rattle.pas_trace.specs.declared.item.Request.{Request}
-use Rattle.pas_trace.specs.Acts.{Act, Operates, Settles, Ticks, MakesPass, ReadsEpoch, StopsIdle, MarksPhase, Wakes, MarksClose, Ends}
+use Rattle.pas_trace.specs.Asked.{request_in}
+use Rattle.pas_trace.specs.Acts.{Act, Operates, Guards, Settles, Ticks, MakesPass, ReadsEpoch, StopsIdle, MarksPhase, Wakes, MarksClose, Ends, Lowers}
 use Rattle.pas_trace.specs.Named.{standing_for}
 pub use Rattle.pas_trace.specs.Named.{suits, request_for}
-use Rattle.pas_check.specs.States.{Due, Writes, Frees, Serves, Examines, Heads, Shows, Totals, Task, Does, Reports, Stand, with_at, with_due, with_name}
+use Rattle.pas_check.specs.States.{Due, Writes, Frees, Serves, Tries, Never, Examines, Heads, Shows, Totals, Task, Does, Reports, Stand, with_at, with_due, with_name}
 use Rattle.pas_check.specs.declared.entry.Entry.{Entry}
+use Rattle.pas_check.specs.declared.guard.Guard.{Guard}
 
 -- the line of just this record is due
 abbrev pub says : Stand → Record → Stand
@@ -88,9 +91,54 @@ abbrev pub replacing : Option Name → Stand → ℕ → List Due → Stand
 replacing None s k more = with_due s more
 replacing (Some old) s k more = logging (is_full s k) s k (unsized old) more
 
+-- ---- guards
+-- A guard goes down where its keeper sweeps, if more blocks ended at the address of its block than the block's turn says, or all are to go.
+abbrev pub goes_down : List Event → ℕ → Bool → Guard → Bool
+goes_down es keeper all guard = (guard.keeper == keeper) && (all || nat_lt guard.name.turn (ends_in es (address_of guard.name)))
+
+abbrev pub lowered_record : Guard → Record
+lowered_record guard = Record.Said guard.keeper (Said.Lowered guard.low guard.high)
+
+abbrev pub lowered_due : Guard → Due
+lowered_due guard = Writes (lowered_record guard)
+
+-- the keeper sweeps: of each guard that goes down a line is due, in the order in which they went up, and then these. The others stay up
+abbrev pub sweeping : Stand → ℕ → Bool → List Due → Stand
+sweeping s keeper all more = record s {
+  guards = filter (λ guard. not (goes_down s.events keeper all guard)) s.guards;
+  due = map lowered_due (filter (goes_down s.events keeper all) s.guards) ++ more;
+}
+
+-- the pages below and above a block
+abbrev pub page_below : Block → ℕ
+page_below block = grain_of block.name / 256 - 1
+
+abbrev pub page_above : Block → ℕ
+page_above block = (grain_of block.name + length_of block - 1) / 256 + 1
+
+abbrev pub guard_of : ℕ → Block → Guard
+guard_of keeper block = record { keeper = keeper; low = page_below block; high = page_above block; name = block.name }
+
+abbrev pub has_sides : Profile → Block → Bool
+has_sides f block = is_page f (page_below block) && is_page f (page_above block)
+
+-- The keeper gave the block for the name: its guard is up, and the line of it is due, and then these. Where there is no page below it or above it, no line can come.
+abbrev pub raising : Bool → Stand → ℕ → ℕ → Block → List Due → Stand
+raising true s keeper name block more = record s {
+  guards = s.guards ++ guard_of keeper block ∷ [];
+  due = Writes (Record.Said keeper (Said.Guarded (page_below block) (page_above block) name)) ∷ more;
+}
+raising false s keeper name block more = with_due s (Never ∷ more)
+
+-- the request of thread k is tried by the keeper, after a sweep
+abbrev pub guarding : Stand → ℕ → ℕ → Option Request → Stand
+guarding s keeper k None = s
+guarding s keeper k (Some r) = sweeping s keeper false (Tries keeper k r false ∷ [])
+
 -- ---- acts
 abbrev pub begun_what : Profile → Stand → ℕ → What → Stand
 begun_what f s k (Alloc name heap size align) = with_due s (Serves k record { name = name; heap = heap; size = size; align = align } None ∷ [])
+begun_what f s k (Guarded keeper name heap size align) = with_due s (Serves k record { name = name; heap = heap; size = size; align = align } None ∷ [])
 begun_what f s k (Free name) = freeing_named f s k name 0 (standing_for s.names name)
 begun_what f s k (FreeSized name room) = freeing_named f s k name room (standing_for s.names name)
 begun_what f s k (Raw block) = freeing f s k (unsized block)
@@ -109,6 +157,7 @@ stopping false s k = s
 
 abbrev pub begun_act : Profile → Stand → Act → Stand
 begun_act f s (Operates op) = begun_what f s op.actor op.what
+begun_act f s (Guards keeper op) = guarding s keeper op.actor (request_in op.what)
 begun_act f s (Settles k) = s
 begun_act f s (Ticks e) = tells (record s { epoch = max s.epoch e }) 0 (Said.Tick (max s.epoch e))
 begun_act f s MakesPass = with_due s (Writes (Record.Said 0 (Said.Pass s.epoch)) ∷ Examines 0 ∷ [])
@@ -118,6 +167,7 @@ begun_act f s (MarksPhase n) = says s (Record.Phase n)
 begun_act f s (Wakes k) = record s { idle_since = with_at s.idle_since k s.epoch }
 begun_act f s MarksClose = says s Record.Close
 begun_act f s (Ends k) = flushing s k [] []
+begun_act f s (Lowers keeper) = sweeping s keeper true []
 
 -- ---- the report
 abbrev pub page_due : ℕ → Option Directory → List Due
@@ -160,6 +210,8 @@ past_outcomes [] = []
 past_outcomes (Writes item ∷ more) = Writes item ∷ more
 past_outcomes (Frees k entry ∷ more) = Frees k entry ∷ more
 past_outcomes (Serves k r old ∷ more) = Serves k r old ∷ more
+past_outcomes (Tries keeper k r backed ∷ more) = Tries keeper k r backed ∷ more
+past_outcomes (Never ∷ more) = Never ∷ more
 past_outcomes (Examines page ∷ more) = more
 past_outcomes (Heads ∷ more) = Heads ∷ more
 past_outcomes (Shows page d ∷ more) = Shows page d ∷ more

@@ -1,5 +1,5 @@
 -- States whose numbers fit, as those of each check do.
-use Rattle.std.specs.Prelude.{ℕ, ◌^◌, ◌<◌, ◌≤◌, ◌≡◌, ◌⊎◌, List, [], ◌∷◌, Some, length}
+use Rattle.std.specs.Prelude.{ℕ, ◌^◌, ◌<◌, ◌≤◌, ◌≡◌, ◌≢◌, ◌⊎◌, List, [], ◌∷◌, Some, length}
 use Rattle.pas_profile.specs.Directories.{IsKind}
 use Rattle.pas_profile.specs.Profiles.{IsValid}
 use Rattle.pas_profile.specs.Requests.{room_in}
@@ -11,7 +11,7 @@ use Rattle.pas_machine.specs.State.{deed_in, gives_in, epoch_in}
 use Rattle.pas_report.specs.declared.record.Record.{Record}
 use Rattle.pas_trace.specs.declared.item.Request.{Request}
 use Rattle.pas_trace.specs.Named.{Named, standing_for}
-use Rattle.pas_check.specs.States.{Due, Writes, Frees, Serves, Examines, Heads, Shows, Totals, Stand}
+use Rattle.pas_check.specs.States.{Due, Writes, Frees, Serves, Tries, Never, Examines, Heads, Shows, Totals, Stand}
 use Rattle.pas_check.specs.Ranges.{Fits, FitsEntry}
 use Rattle.pas_check.specs.Takes.{IsOutcome, directory_of}
 use Rattle.pas_check.specs.declared.cutting.Cursor.{Cursor}
@@ -23,12 +23,20 @@ pub record FitsRequest (f : Profile) (k : ℕ) (r : Request) : Type 0 where
   pub kind : IsKind (directory_of f r).kind
   pub room : room_in f r.size r.align < 2 ^ 32
 
+-- .. for a keeper that is no thread of its own
+pub record FitsTry (f : Profile) (keeper k : ℕ) (r : Request) : Type 0 where
+  pub own : FitsRequest f k r
+  pub kept : FitsRequest f keeper r
+  pub apart : keeper ≢ k
+
 -- what is due first
 abbrev pub FitsFirst : Profile → List Due → Type 0
 FitsFirst f [] = Unit {0}
 FitsFirst f (Writes item ∷ more) = Unit {0}
 FitsFirst f (Frees k entry ∷ more) = Unit {0}
 FitsFirst f (Serves k r old ∷ more) = FitsRequest f k r
+FitsFirst f (Tries keeper k r backed ∷ more) = FitsTry f keeper k r
+FitsFirst f (Never ∷ more) = Unit {0}
 FitsFirst f (Examines page ∷ more) = Unit {0}
 FitsFirst f (Heads ∷ more) = Unit {0}
 FitsFirst f (Shows page d ∷ more) = Unit {0}
@@ -48,6 +56,8 @@ FitsNext f [] = Unit {0}
 FitsNext f (Writes item ∷ more) = IsOfThread item ⊎ (Fits item × (IsOutcome item → ⊥))
 FitsNext f (Frees k entry ∷ more) = (k < 2 ^ 8) × ((0 < k) ⊎ FitsEntry entry)
 FitsNext f (Serves k r old ∷ more) = FitsRequest f k r
+FitsNext f (Tries keeper k r backed ∷ more) = FitsTry f keeper k r
+FitsNext f (Never ∷ more) = Unit {0}
 FitsNext f (Examines page ∷ more) = Unit {0}
 FitsNext f (Heads ∷ more) = Unit {0}
 FitsNext f (Shows page d ∷ more) = Unit {0}

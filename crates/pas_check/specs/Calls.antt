@@ -1,5 +1,7 @@
 -- What the private functions of the checker promise of a line.
-use Rattle.std.specs.Prelude.{ℕ, ◌^◌, ◌<◌, ◌/◌, ◌%◌, ◌≡◌, ◌==◌, if◌then◌else◌, Bool, true, false, List, [], ◌∷◌, ◌++◌, Option, None, Some, IfSome}
+use Rattle.std.specs.Prelude.{ℕ, ◌^◌, ◌<◌, ◌/◌, ◌%◌, ◌≡◌, ◌==◌, if◌then◌else◌, not, ◌||◌, map, Bool, true, false, List, [], ◌∷◌, ◌++◌, Option, None, Some, IfSome}
+use Rattle.std.specs.List.{filter}
+use Rattle.std.specs.Global.{Vec}
 use Rattle.pas_report.specs.Lines.{line_of, line_of_event}
 use Rattle.pas_report.specs.declared.record.Record.{Record}
 use Rattle.pas_report.specs.declared.record.Said.{Said}
@@ -18,15 +20,18 @@ use Rattle.pas_machine.specs.Machine.{Admits, HasOtherRoom, IsReason}
 use Rattle.pas_machine.specs.Machines.{profile_of, StandsFor}
 use Rattle.pas_machine.specs.declared.machine.Machine.{Machine}
 use Rattle.pas_trace.specs.declared.item.Request.{Request}
-use Rattle.pas_check.specs.Begins.{begun_from, entries_due, past_outcomes, replacing}
-use Rattle.pas_check.specs.Bounds.{FitsNext, FitsRequest, IsKept, IsSmall}
-use Rattle.pas_check.specs.Leading.{Fails, Leads}
+use Rattle.pas_check.specs.Begins.{begun_from, entries_due, goes_down, has_sides, lowered_due, past_outcomes, raising, replacing}
+use Rattle.pas_check.specs.Bounds.{FitsNext, FitsRequest, FitsTry, IsKept, IsSmall}
+use Rattle.pas_check.specs.Leading.{Fails, IsWithin, Leads}
 use Rattle.pas_check.specs.Ranges.{Fits, FitsEvent}
-use Rattle.pas_check.specs.States.{Due, Examines, Serves, Stand, with_due, with_name, with_one}
-use Rattle.pas_check.specs.Takes.{IsFor, IsRefusal, MayCome, MayRefuse, TakesEntry, TakesGive, TakesOutcome, TakesPreparing, TakesRefusal, after_outcome, directory_of}
+use Rattle.pas_check.specs.States.{Due, Examines, Serves, Tries, Stand, with_due, with_name, with_one}
+use Rattle.pas_check.specs.Takes.{IsFor, IsRefusal, MayCome, MayRefuse, TakesEntry, TakesGive, TakesOutcome, TakesPreparing, TakesRefusal, after_outcome, directory_of, is_back}
 use Rattle.pas_check.specs.declared.cutting.Cursor.{Cursor}
 use Rattle.pas_check.specs.declared.examining.Examined.{Examined}
 use Rattle.pas_check.specs.declared.entry.Entry.{Entry}
+use Rattle.pas_check.specs.declared.guard.Guard.{Guard}
+use Rattle.pas_check.specs.declared.guarding.Trial.{Trial}
+use Rattle.pas_check.specs.declared.guarding.Trial.TheVariants.{Gives, Passes, Stops}
 use Rattle.pas_check.specs.declared.serving.Wanted.{Wanted}
 
 -- the event of a record
@@ -205,6 +210,82 @@ abbrev pub RequestTaken : Machine → Machine → List ℕ → Cursor → Cursor
 RequestTaken old new text from to k w (Some found) = (s : Stand) (r : Request) (replaced : Option Name) (more : List Due) → IsAsked old s from k w r replaced more
     → (es : List Event) × Leads (profile_of old) text s from (after_request (record s { events = es }) k r replaced found more) to × StandsFor new es × IsKept (record s { events = es }) to
 RequestTaken old new text from to k w None = (s : Stand) (r : Request) (replaced : Option Name) (more : List Due) → IsAsked old s from k w r replaced more → Fails (profile_of old) text s from to.lines
+
+-- ---- the lines of a keeper
+-- whether a page was backed before, or is by the line
+abbrev pub BacksBy : Bool → List ℕ → Bool → Type 0
+BacksBy backed line now = (e : Event) → FitsEvent e → line ≡ line_of_event e → now ≡ (backed || is_back e)
+
+-- a block that was given is of the heap that is wanted
+abbrev pub IsGiftOf : Wanted → Trial → Type 0
+IsGiftOf w (Gives block) = block.heap ≡ w.directory.heap
+IsGiftOf w (Passes place) = Unit {0}
+IsGiftOf w Stops = Unit {0}
+
+-- what a line that is neither a deed nor a back comes to, which begins at this place
+abbrev pub TrialEnded : Machine → Machine → ℕ → Wanted → List ℕ → Bool → Cursor → Trial → Type 0
+TrialEnded old new keeper w line backed start (Gives block) = GiveTaken old new keeper w line (Some block)
+TrialEnded old new keeper w line backed start (Passes place) = GiveTaken old new keeper w line None × (backed ≡ false) × (place ≡ start)
+TrialEnded old new keeper w line backed start Stops = GiveTaken old new keeper w line None × (backed ≡ true)
+
+-- where a guarded request may stand, and the lines of its keeper begin
+pub record IsTrying (machine : Machine) (s : Stand) (at : Cursor) (keeper k : ℕ) (w : Wanted) (r : Request) (more : List Due) : Type 0 where
+  pub wants : IsWanted (profile_of machine) r w
+  pub stands : StandsFor machine s.events
+  pub kept : IsKept s at
+  pub fits : FitsTry (profile_of machine) keeper k r
+  pub epoch : s.epoch < 2 ^ 64
+  pub due : s.due ≡ Tries keeper k r false ∷ more
+
+-- where the keeper has made these events, and has backed a page or none
+abbrev pub trying : Stand → List Event → ℕ → ℕ → Request → Bool → List Due → Stand
+trying s es keeper k r backed more = record s { events = es; due = Tries keeper k r backed ∷ more }
+
+-- the lines so far, which are deeds and backs, lead to where the keeper goes on
+abbrev pub TrialGoes : Machine → Machine → List ℕ → Cursor → Cursor → ℕ → Wanted → Bool → Type 0
+TrialGoes old new text from to keeper w backed = (s : Stand) (k : ℕ) (r : Request) (more : List Due) → IsTrying old s from keeper k w r more
+    → (es : List Event) × Leads (profile_of old) text s from (trying s es keeper k r backed more) to × StandsFor new es × IsKept (record s { events = es }) to
+
+-- they lead to where its guard is raised; or to where its thread is to be served; or one of them can't be taken
+abbrev pub TrialTaken : Machine → Machine → List ℕ → Cursor → Cursor → ℕ → Wanted → Trial → Type 0
+TrialTaken old new text from to keeper w (Gives block) = (s : Stand) (k : ℕ) (r : Request) (more : List Due) → IsTrying old s from keeper k w r more
+    → (es : List Event) × Leads (profile_of old) text s from (raising (has_sides (profile_of old) block) (with_name (record s { events = es }) r.name (Some block)) keeper r.name block more) to
+    × StandsFor new es × IsKept (record s { events = es }) to
+TrialTaken old new text from to keeper w (Passes place) = (s : Stand) (k : ℕ) (r : Request) (more : List Due) → IsTrying old s from keeper k w r more
+    → (es : List Event) × Leads (profile_of old) text s from (record s { events = es; due = Serves k r None ∷ more }) place × StandsFor new es × IsKept (record s { events = es }) place
+TrialTaken old new text from to keeper w Stops = (s : Stand) (k : ℕ) (r : Request) (more : List Due) → IsTrying old s from keeper k w r more → Fails (profile_of old) text s from to.lines
+
+-- where they were taken, the place behind them stands in the text
+abbrev pub TrialStays : List ℕ → Cursor → Trial → Type 0
+TrialStays text at (Gives block) = IsWithin text at
+TrialStays text at (Passes place) = IsWithin text place
+TrialStays text at Stops = Unit {0}
+
+-- ---- the lines of a sweep
+-- .. of these guards, lead to where those of the others are due
+abbrev pub SweepGoes : Machine → List ℕ → Cursor → Cursor → List Guard → ℕ → Bool → List Guard → Type 0
+SweepGoes machine text from to guards keeper all rest = (f : Profile) (s : Stand) (more : List Due) → StandsFor machine s.events
+    → s.due ≡ map lowered_due (filter (goes_down s.events keeper all) guards) ++ more
+    → Leads f text s from (with_due s (map lowered_due (filter (goes_down s.events keeper all) rest) ++ more)) to
+
+-- these stay up, and of the rest those that stay up follow
+abbrev pub staying : List Event → ℕ → Bool → List Guard → List Guard
+staying es keeper all guards = filter (λ guard. not (goes_down es keeper all guard)) guards
+
+abbrev pub AreLeft : Machine → List Guard → ℕ → Bool → List Guard → List Guard → Type 0
+AreLeft machine guards keeper all left rest = (es : List Event) → StandsFor machine es → left ++ staying es keeper all rest ≡ staying es keeper all guards
+
+-- one guard more went down or stays up; or its line can't be taken
+abbrev pub OneSwept : Machine → List ℕ → Cursor → Cursor → Guard → ℕ → Bool → List Guard → List Guard → Bool → Type 0
+OneSwept machine text at to guard keeper all left more true = (from : Cursor) (guards rest : List Guard) → SweepGoes machine text from at guards keeper all (guard ∷ rest)
+    → AreLeft machine guards keeper all left (guard ∷ rest) → SweepGoes machine text from to guards keeper all rest × AreLeft machine guards keeper all more rest
+OneSwept machine text at to guard keeper all left more false = (from : Cursor) (guards rest : List Guard) → SweepGoes machine text from at guards keeper all (guard ∷ rest)
+    → (f : Profile) (s : Stand) (more : List Due) → StandsFor machine s.events → s.due ≡ map lowered_due (filter (goes_down s.events keeper all) guards) ++ more → Fails f text s from to.lines
+
+abbrev pub LinesSwept : Machine → List ℕ → Cursor → Cursor → List Guard → ℕ → Bool → Option (Vec Guard) → Type 0
+LinesSwept machine text from to guards keeper all (Some left) = SweepGoes machine text from to guards keeper all [] × AreLeft machine guards keeper all left.items []
+LinesSwept machine text from to guards keeper all None = (f : Profile) (s : Stand) (more : List Due) → StandsFor machine s.events
+    → s.due ≡ map lowered_due (filter (goes_down s.events keeper all) guards) ++ more → Fails f text s from to.lines
 
 -- ---- the lines of a pass
 -- what stands after a pass that left these events, where the next act that has a line is begun

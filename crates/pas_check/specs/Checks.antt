@@ -1,10 +1,10 @@
 -- How far the check of a plan has come, and what its acts do to that.
-use Rattle.std.specs.Prelude.{ℕ, ◌+◌, ◌^◌, ◌<◌, ◌≤◌, ◌≡◌, Bool, true, false, List, [], ◌∷◌, ◌++◌, length, map, MatchOption}
+use Rattle.std.specs.Prelude.{ℕ, ◌+◌, ◌^◌, ◌<◌, ◌≤◌, ◌≡◌, ◌≢◌, Bool, true, false, List, [], ◌∷◌, ◌++◌, length, map, MatchOption}
 use Rattle.std.specs.List.{AllByRecursion}
 use Rattle.pas_profile.specs.declared.profile.Profile.{Profile}
 use Rattle.pas_machine.specs.Machines.{profile_of}
-use Rattle.pas_trace.specs.Acts.{Act, Operates, Settles, Ticks, MakesPass, ReadsEpoch, StopsIdle, MarksPhase, Wakes, MarksClose, Ends}
-use Rattle.pas_trace.specs.Asked.{request_in}
+use Rattle.pas_trace.specs.Acts.{Act, Operates, Guards, Settles, Ticks, MakesPass, ReadsEpoch, StopsIdle, MarksPhase, Wakes, MarksClose, Ends, Lowers}
+use Rattle.pas_trace.specs.Asked.{keeper_in, request_in}
 use Rattle.pas_trace.specs.EveryPlan.{IsActorOf, IsBelow, IsSoundWhat}
 use Rattle.pas_trace.specs.declared.item.Request.{Request}
 use Rattle.pas_trace.specs.declared.plan.Op.{Op}
@@ -35,11 +35,12 @@ pub record IsSizedAs (old new : Judge) : Type 0 where
   pub names : names_held new.names ≡ names_held old.names
 
 -- ---- operations of a plan
--- the actor may make the operation, after some others, and its names are below the limit
+-- the actor may make the operation, after some others, its names are below the limit, and its keeper, if it is guarded, is another actor
 pub record IsPlanned (f : Profile) (limit : ℕ) (op : Op) : Type 0 where
   pub actor : IsActorOf f op.what op.actor
   pub sound : (asked : List ℕ) × IsSoundWhat f asked op.what
   pub named : IsBelow limit op.what
+  pub kept : MatchOption (keeper_in op.what) (Unit {0}) (λ keeper. (op.actor < keeper) × (keeper < 2 ^ 8))
 
 abbrev pub ArePlanned : Profile → ℕ → List Op → Type 0
 ArePlanned f limit ops = AllByRecursion (IsPlanned f limit) ops
@@ -57,6 +58,7 @@ FitsWhat f k what = MatchOption (request_in what) (Unit {0}) (FitsHeaps f k)
 
 abbrev pub FitsAct : Profile → Act → Type 0
 FitsAct f (Operates op) = IsThread op.actor × FitsWhat f op.actor op.what
+FitsAct f (Guards keeper op) = IsThread op.actor × FitsWhat f op.actor op.what × IsThread keeper × (keeper ≢ op.actor)
 FitsAct f (Settles k) = Unit {0}
 FitsAct f (Ticks e) = e < 2 ^ 64
 FitsAct f MakesPass = Unit {0}
@@ -66,6 +68,7 @@ FitsAct f (MarksPhase n) = n < 2 ^ 32
 FitsAct f (Wakes k) = Unit {0}
 FitsAct f MarksClose = Unit {0}
 FitsAct f (Ends k) = IsThread k
+FitsAct f (Lowers keeper) = IsThread keeper
 
 abbrev pub AllFit : Profile → List Act → Type 0
 AllFit f acts = AllByRecursion (FitsAct f) acts

@@ -1,26 +1,30 @@
 -- What stands before a line of a transcript, as far as it matters for the line: no words of a region, no views, rights or cached slots.
-use Rattle.std.specs.Prelude.{ℕ, ◌==◌, if◌then◌else◌, List, [], ◌∷◌, ◌++◌, map, Option}
+use Rattle.std.specs.Prelude.{ℕ, ◌==◌, Bool, if◌then◌else◌, List, [], ◌∷◌, ◌++◌, map, Option}
 use Rattle.pas_profile.specs.declared.directory.Directory.{Directory}
 use Rattle.pas_profile.specs.declared.event.Event.{Event}
 use Rattle.pas_profile.specs.declared.name.Block.{Block}
 use Rattle.pas_profile.specs.declared.name.Name.{Name}
 use Rattle.pas_report.specs.declared.record.Record.{Record}
-use Rattle.pas_trace.specs.Plans.{ops_of}
 use Rattle.pas_trace.specs.declared.plan.Plan.{Plan}
-use Rattle.pas_trace.specs.Acts.{Act, acts_of}
+use Rattle.pas_trace.specs.Acts.{Act, acts_of_plan}
 use Rattle.pas_trace.specs.declared.item.Request.{Request}
 use Rattle.pas_trace.specs.Named.{Named}
 use Rattle.pas_check.specs.declared.entry.Entry.{Entry}
+use Rattle.pas_check.specs.declared.guard.Guard.{Guard}
 
 -- ---- what is due
 -- What the next lines are to answer. `Writes`: the line of just this record. `Frees`: the line of an entry of thread k's log. `Serves`: those of a request of
 -- thread k, which are deeds and backs, as many as there are, and then a give or a refusal; after a give the name that it replaces is logged, if there is one.
+-- `Tries`: those of a keeper for a guarded request of thread k, which are deeds and backs, as many as there are, and then a give; where the keeper has backed
+-- none, which the last says, those of the thread may come instead. `Never`: no line can come.
 -- `Examines`: the outcomes of a pass on pages after this one, as many
 -- as there are. The report: its head, the line of each page with a deed, which has this directory, and the line of the totals.
 pub data Due : Type 0 where
   Writes : Record → Due
   Frees : ℕ → Entry → Due
   Serves : ℕ → Request → Option Name → Due
+  Tries : ℕ → ℕ → Request → Bool → Due
+  Never : Due
   Examines : ℕ → Due
   Heads : Due
   Shows : ℕ → Directory → Due
@@ -37,13 +41,15 @@ with_at table k value j = if j == k then value else table j
 
 -- ---- the state
 -- The events so far, the newest first; what the names of the trace stand for; the log of each thread, in order; the epoch that each thread read at the
--- start of the last phase in which it had an operation; the greatest tick; what is due; and what is left of the plan.
+-- start of the last phase in which it had an operation; the greatest tick; the guards of all keepers that are up, in the order in which they went up; what
+-- is due; and what is left of the plan.
 pub record Stand : Type 0 where
   pub events : List Event
   pub names : List Named
   pub logs : ℕ → List Entry
   pub idle_since : ℕ → ℕ
   pub epoch : ℕ
+  pub guards : List Guard
   pub due : List Due
   pub left : List Task
 
@@ -61,8 +67,8 @@ with_name s name block = record s { names = record { name = name; block = block 
 
 -- the tasks of a plan: its acts in order, and then the report
 abbrev pub tasks_of : Plan → List Task
-tasks_of plan = map Does (acts_of plan.profile.threads (map ops_of plan.phases.phases.items)) ++ Reports ∷ []
+tasks_of plan = map Does (acts_of_plan plan) ++ Reports ∷ []
 
 -- before the first line
 abbrev pub at_first : Plan → Stand
-at_first plan = record { events = []; names = []; logs = λ k. []; idle_since = λ k. 0; epoch = 0; due = []; left = tasks_of plan }
+at_first plan = record { events = []; names = []; logs = λ k. []; idle_since = λ k. 0; epoch = 0; guards = []; due = []; left = tasks_of plan }

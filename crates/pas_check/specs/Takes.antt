@@ -1,5 +1,5 @@
 -- Which line may come next, by what stands before it, and what follows from it.
-use Rattle.std.specs.Prelude.{ℕ, ◌+◌, ◌*◌, ◌-◌, ◌/◌, ◌%◌, ◌^◌, ◌<◌, ◌≡◌, ◌≢◌, ◌⊎◌, true, false, not, List, [], ◌∷◌, Option, None, Some, codes}
+use Rattle.std.specs.Prelude.{ℕ, ◌+◌, ◌*◌, ◌-◌, ◌/◌, ◌%◌, ◌^◌, ◌<◌, ◌≡◌, ◌≢◌, ◌⊎◌, Bool, true, false, not, ◌||◌, List, [], ◌∷◌, Option, None, Some, codes}
 use Rattle.pas_profile.specs.declared.directory.Directory.{Directory}
 use Rattle.pas_profile.specs.declared.event.Event.{Event}
 use Rattle.pas_profile.specs.declared.event.Outcome.{Outcome}
@@ -21,8 +21,8 @@ use Rattle.pas_report.specs.Reports.{is_covered, machine_page, total_line}
 use Rattle.pas_report.specs.declared.record.Record.{Record}
 use Rattle.pas_report.specs.declared.record.Said.{Said}
 use Rattle.pas_trace.specs.declared.item.Request.{Request}
-use Rattle.pas_check.specs.States.{Due, Writes, Frees, Serves, Examines, Heads, Shows, Totals, Stand, with_due, with_one, with_name}
-use Rattle.pas_check.specs.Begins.{ready, replacing}
+use Rattle.pas_check.specs.States.{Due, Writes, Frees, Serves, Tries, Never, Examines, Heads, Shows, Totals, Stand, with_due, with_one, with_name}
+use Rattle.pas_check.specs.Begins.{has_sides, raising, ready, replacing}
 use Rattle.pas_check.specs.declared.entry.Entry.{Entry}
 
 -- ---- an entry of a log
@@ -91,6 +91,39 @@ pub record TakesRefusal (f : Profile) (s : Stand) (k : ℕ) (r : Request) (more 
 
 abbrev pub TakesRequest : Profile → Stand → ℕ → Request → Option Name → List Due → List ℕ → Stand → Type 0
 TakesRequest f s k r old more line next = TakesPreparing f s k r line next ⊎ TakesGive f s k r old more line next ⊎ TakesRefusal f s k r more line next
+
+-- ---- a guarded request
+abbrev pub is_back : Event → Bool
+is_back (Event.Deed k page d) = false
+is_back (Event.Back k page) = true
+is_back (Event.Unback k page epoch) = false
+is_back (Event.Give k block) = false
+is_back (Event.End k name epoch) = false
+is_back (Event.Reject k name why) = false
+
+-- the keeper makes a deed or backs a page, and goes on
+pub record TakesKeeping (f : Profile) (s : Stand) (keeper k : ℕ) (r : Request) (backed : Bool) (more : List Due) (line : List ℕ) (next : Stand) : Type 0 where
+  pub event : Event
+  pub prepares : IsPreparing keeper (directory_of f r) event
+  pub admitted : Admits f s.events event
+  pub line_is : line ≡ line_of_event event
+  pub next_is : next ≡ with_due (with_one s event) (Tries keeper k r (backed || is_back event) ∷ more)
+
+-- the keeper gives the block, which the name stands for, and raises its guard
+pub record TakesGuarded (f : Profile) (s : Stand) (keeper : ℕ) (r : Request) (more : List Due) (line : List ℕ) (next : Stand) : Type 0 where
+  pub block : Block
+  pub is_for : IsFor f s r block
+  pub admitted : Admits f s.events (Event.Give keeper block)
+  pub line_is : line ≡ line_of_event (Event.Give keeper block)
+  pub next_is : next ≡ raising (has_sides f block) (with_name (with_one s (Event.Give keeper block)) r.name (Some block)) keeper r.name block more
+
+-- .. or, where the keeper has backed no page, thread k is served as any request is
+abbrev pub serving : Stand → ℕ → Request → List Due → Stand
+serving s k r more = with_due s (Serves k r None ∷ more)
+
+abbrev pub TakesTry : Profile → Stand → ℕ → ℕ → Request → Bool → List Due → List ℕ → Stand → Type 0
+TakesTry f s keeper k r backed more line next =
+    TakesKeeping f s keeper k r backed more line next ⊎ TakesGuarded f s keeper r more line next ⊎ ((backed ≡ false) × TakesRequest f (serving s k r more) k r None more line next)
 
 -- ---- an outcome of a pass
 -- what may come of a page of the region
@@ -161,6 +194,8 @@ TakesDue f s [] line next = ⊥
 TakesDue f s (Writes item ∷ more) line next = IsJust s (line_of item) more line next
 TakesDue f s (Frees k entry ∷ more) line next = TakesEntry f s k entry more line next
 TakesDue f s (Serves k r old ∷ more) line next = TakesRequest f s k r old more line next
+TakesDue f s (Tries keeper k r backed ∷ more) line next = TakesTry f s keeper k r backed more line next
+TakesDue f s (Never ∷ more) line next = ⊥
 TakesDue f s (Examines page ∷ more) line next = TakesOutcome f s page more line next
 TakesDue f s (Heads ∷ more) line next = IsJust s head_line more line next
 TakesDue f s (Shows page d ∷ more) line next = TakesPage s page d more line next
@@ -172,6 +207,8 @@ TakesFirst f s [] line next = ⊥
 TakesFirst f s (Writes item ∷ more) line next = ⊥
 TakesFirst f s (Frees k entry ∷ more) line next = ⊥
 TakesFirst f s (Serves k r old ∷ more) line next = ⊥
+TakesFirst f s (Tries keeper k r backed ∷ more) line next = ⊥
+TakesFirst f s (Never ∷ more) line next = ⊥
 TakesFirst f s (Examines page ∷ more) line next = TakesOutcome f s page more line next
 TakesFirst f s (Heads ∷ more) line next = ⊥
 TakesFirst f s (Shows page d ∷ more) line next = ⊥

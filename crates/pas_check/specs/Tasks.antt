@@ -1,5 +1,5 @@
 -- What the acts of a replay do to what a check keeps.
-use Rattle.std.specs.Prelude.{ℕ, ◌%◌, ◌^◌, ◌<◌, ◌≤◌, ◌≡◌, max, Bool, true, false, List, [], ◌∷◌, Option, length, slice_index}
+use Rattle.std.specs.Prelude.{ℕ, ◌%◌, ◌^◌, ◌<◌, ◌≤◌, ◌≡◌, max, Bool, true, false, List, [], ◌∷◌, Option, Some, length, slice_index}
 use Rattle.pas_profile.specs.declared.name.Block.{Block}
 use Rattle.pas_profile.specs.declared.name.Name.{Name}
 use Rattle.pas_profile.specs.declared.profile.Profile.{Profile}
@@ -8,7 +8,7 @@ use Rattle.pas_machine.specs.Machines.{profile_of, StandsFor}
 use Rattle.pas_report.specs.declared.record.Said.{Said}
 use Rattle.pas_trace.specs.Acts.{Act, MakesPass}
 use Rattle.pas_trace.specs.declared.item.Request.{Request}
-use Rattle.pas_check.specs.Begins.{begun_act, flushing, freeing, freeing_named, is_full, logging, remaking, remaking_named, request_for, suits, tells}
+use Rattle.pas_check.specs.Begins.{begun_act, flushing, freeing, freeing_named, is_full, logging, guarding, remaking, remaking_named, request_for, suits, sweeping, tells}
 use Rattle.pas_check.specs.Bounds.{IsKept}
 use Rattle.pas_check.specs.Calls.{IsFollowed}
 use Rattle.pas_check.specs.Leading.{Fails, Leads}
@@ -27,6 +27,7 @@ pub record Stands (f : Profile) (judge : Judge) (s : Stand) (at : Cursor) : Type
   pub logs : (k : ℕ) → k < logs_held judge.logs → s.logs k ≡ logged judge.logs k
   pub awake : (k : ℕ) → k < length judge.awake.items → s.idle_since k ≡ slice_index judge.awake.items k
   pub epoch : s.epoch ≡ judge.epoch
+  pub guards : s.guards ≡ judge.guards.items
   pub small : judge.epoch < 2 ^ 64
   pub kept : IsKept s at
 
@@ -73,6 +74,10 @@ PassTaken f text old from new to false = (s : Stand) (ts : List Task) → IsNext
 abbrev pub Asks : Profile → Judge → Cursor → Act → ℕ → Request → Option Name → Type 0
 Asks f judge at act k r replaced = (s : Stand) → Stands f judge s at → begun_act f s act ≡ with_due s (Serves k r replaced ∷ [])
 
+-- an act that only asks the keeper for what thread k's request says
+abbrev pub AsksKeeper : Profile → Judge → Cursor → Act → ℕ → ℕ → Request → Type 0
+AsksKeeper f judge at act keeper k r = (s : Stand) → Stands f judge s at → begun_act f s act ≡ guarding s keeper k (Some r)
+
 -- an act of which only this is said, by thread k, after which the name stands for the block, or for nothing
 abbrev pub SaysNamed : Profile → Judge → Cursor → Act → ℕ → ℕ → Option Block → Said → Type 0
 SaysNamed f judge at act k name block said = (s : Stand) → Stands f judge s at → begun_act f s act ≡ tells (with_name s name block) k said
@@ -98,3 +103,19 @@ abbrev pub EntryLogged : Profile → List ℕ → Judge → Cursor → Judge →
 EntryLogged f text old from new to k entry true = (s : Stand) (more : List Due) (ts : List Task) → Stands f old s from
     → (t : Stand) × Leads f text (being_logged s k entry more ts) from t to × Stands f new t to × (t.due ≡ more) × (t.left ≡ ts)
 EntryLogged f text old from new to k entry false = (s : Stand) (more : List Due) (ts : List Task) → Stands f old s from → Fails f text (being_logged s k entry more ts) from to.lines
+
+-- ---- guards
+-- where the keeper sweeps, when these are due after its lines
+abbrev pub being_swept : Stand → ℕ → Bool → List Due → List Task → Stand
+being_swept s keeper all more ts = record (sweeping s keeper all more) { left = ts }
+
+-- the lines lead to where they are due; or one of them can't be taken
+abbrev pub GuardsSwept : Profile → List ℕ → Judge → Cursor → Judge → Cursor → ℕ → Bool → Bool → Type 0
+GuardsSwept f text old from new to keeper all true = (s : Stand) (more : List Due) (ts : List Task) → Stands f old s from
+    → Leads f text (being_swept s keeper all more ts) from (with_due (being_swept s keeper all more ts) more) to × Stands f new (with_due (being_swept s keeper all more ts) more) to
+GuardsSwept f text old from new to keeper all false = (s : Stand) (more : List Due) (ts : List Task) → Stands f old s from → Fails f text (being_swept s keeper all more ts) from to.lines
+
+-- The lines lead from here to where nothing is due, and as much is left of the plan; or one of them can't be taken.
+abbrev pub IsCarried : Profile → List ℕ → Stand → Cursor → Judge → Cursor → Bool → Type 0
+IsCarried f text s from new to true = (t : Stand) × Leads f text s from t to × Stands f new t to × (t.due ≡ []) × (t.left ≡ s.left)
+IsCarried f text s from new to false = Fails f text s from to.lines

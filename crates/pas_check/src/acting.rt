@@ -1,12 +1,13 @@
 //! The acts of a replay, each with the lines that answer it.
-ghost use Rattle.std.specs.Prelude.{ℕ, ◌≡◌, ◌≢◌, ◌%◌, ◌+◌, ◌*◌, ◌<◌, ◌≤◌, true, List, [], ◌∷◌, None, Some, length, slice_index, IfOk, IfSome, MatchBool};
+ghost use Rattle.std.specs.Prelude.{ℕ, ◌≡◌, ◌≢◌, ◌%◌, ◌+◌, ◌*◌, ◌^◌, ◌<◌, ◌≤◌, true, List, [], ◌∷◌, None, Some, length, slice_index, IfOk, IfSome, MatchBool, MatchOption};
 ghost use Rattle.pas_profile.specs.Directories.{IsKind};
 ghost use Rattle.pas_profile.specs.Classes.{IsAlignment};
 ghost use Rattle.pas_profile.specs.Profiles.{IsValid};
 ghost use Rattle.pas_profile.specs.Blocks.{address_of};
 ghost use Rattle.pas_profile.specs.declared.profile.Profile.{Profile};
 ghost use Rattle.pas_machine.specs.Machines.{profile_of};
-ghost use Rattle.pas_trace.specs.Acts.{Act, MarksClose, MarksPhase, Operates, StopsIdle, Ticks, Wakes};
+ghost use Rattle.pas_trace.specs.Asked.{keeper_in};
+ghost use Rattle.pas_trace.specs.Acts.{Act, act_kept, MarksClose, MarksPhase, Operates, StopsIdle, Ticks, Wakes};
 ghost use Rattle.pas_trace.specs.EveryPlan.{IsBelow, IsSoundWhat};
 ghost use Rattle.pas_trace.specs.declared.item.Request.{Request};
 ghost use Rattle.pas_check.specs.Calls.{IsWanted};
@@ -21,6 +22,8 @@ use crate::emptying::take_entries;
 use crate::entry::Entry;
 use crate::examining::take_outcomes;
 use crate::following::take_record;
+use crate::guard::Guard;
+use crate::guarding::try_request;
 use crate::logging::Logs;
 use crate::naming::Names;
 use crate::requesting::take_request;
@@ -32,14 +35,16 @@ use pas_trace::{Op, Plan, What};
 use std::alloc::Global;
 
 /// What a check knows of the lines before: the machine, what the names of the trace stand for, the log of each thread, the epoch that each thread read when it
-/// woke last, and the greatest tick. Threads stand at their numbers.
+/// woke last, the greatest tick, and the guards that are up, in the order in which they went up. Threads stand at their numbers.
 #[derive(Drop)]
 pub(crate) struct Judge {
+    pub alloc: Global,
     pub machine: Machine,
     pub names: Names,
     pub logs: Logs,
     pub awake: Vec<u64>,
     pub epoch: u64,
+    pub guards: Vec<Guard>,
 }
 
 impl Judge {
@@ -58,11 +63,13 @@ impl Judge {
             return Err(NoMemory);
         };
         Ok(Judge {
+            alloc,
             machine,
             names,
             logs,
             awake,
             epoch: 0,
+            guards: Vec::new(alloc),
         })
     }
 }
@@ -497,8 +504,8 @@ pub(crate) fn remake(
     }
 }
 
-/// Takes the lines of a thread's operation. Those of the scavenger are other acts, and begin nothing as operations of a thread.
-pub(crate) fn operate(
+/// Takes the lines of a thread's operation, as one without a guard. Those of the scavenger are other acts, and begin nothing as operations of a thread.
+fn operate_plain(
     judge: &mut Judge,
     text: &[u8],
     cursor: &mut Cursor,
@@ -525,6 +532,16 @@ pub(crate) fn operate(
             let wanted = wanted_for(&judge.machine.profile(), name, heap, size, align);
             request(judge, text, cursor, k, wanted)
         }
+        What::Guarded {
+            name,
+            heap,
+            size,
+            align,
+            ..
+        } => {
+            let wanted = wanted_for(&judge.machine.profile(), name, heap, size, align);
+            request(judge, text, cursor, k, wanted)
+        }
         What::Free { name } => free_named(judge, text, cursor, k, name, 0),
         What::FreeSized { name, room } => free_named(judge, text, cursor, k, name, room),
         What::Raw { block: name } => free_entry(judge, text, cursor, k, Entry { name, room: 0 }),
@@ -540,5 +557,38 @@ pub(crate) fn operate(
         } => remake(judge, text, cursor, k, name, old, size, align),
         What::Flush | What::Stop => flush(judge, text, cursor, k),
         What::Tick(_) | What::Pass | What::Idle(_) => Ok(true),
+    }
+}
+
+/// Takes the lines of a thread's operation. A guarded request is tried by its keeper.
+pub(crate) fn operate(
+    judge: &mut Judge,
+    text: &[u8],
+    cursor: &mut Cursor,
+    op: Op,
+) -> Result<bool, NoMemory>
+    requires within { IsWithin text.now cursor.old }
+    requires short { length text.now ≤ 16777216 }
+    requires held { op.actor < logs_held judge.old.logs }
+    requires valid { IsValid (profile_of judge.old.machine) }
+    requires sound { (asked : List ℕ) × IsSoundWhat (profile_of judge.old.machine) asked op.what }
+    requires named { IsBelow (names_held judge.old.names) op.what }
+    requires kept { MatchOption (keeper_in op.what) (Unit {0}) (λ keeper. (op.actor < keeper) × (keeper < 2 ^ 8)) }
+    ensures taken { IfOk result (λ taken. (f : Profile) → ActTaken f text.now judge.old cursor.old judge.new cursor.new (act_kept (keeper_in op.what) op) taken) }
+    ensures within { IfOk result (StaysWithin text.now cursor.new) }
+    ensures sized { IfOk result (λ taken. IsSizedAs judge.old judge.new) }
+{
+    match op.what {
+        What::Guarded {
+            keeper,
+            name,
+            heap,
+            size,
+            align,
+        } => {
+            let wanted = wanted_for(&judge.machine.profile(), name, heap, size, align);
+            try_request(judge, text, cursor, op.actor, keeper, wanted)
+        }
+        _ => operate_plain(judge, text, cursor, op),
     }
 }

@@ -4,7 +4,7 @@ ghost use Rattle.std.specs.List.{filter};
 ghost use Rattle.pas_bits.specs.Masks.{is_set};
 ghost use Rattle.pas_profile.specs.Profiles.{IsValid};
 ghost use Rattle.pas_machine.specs.Machines.{profile_of};
-ghost use Rattle.pas_trace.specs.Acts.{Act, Ends, MarksClose, MarksPhase, ReadsEpoch, Wakes, acts_from, acts_of, acts_of_op, acts_of_ops, close_acts, idle_stops, numbers_from, phase_acts, threads_where};
+ghost use Rattle.pas_trace.specs.Acts.{Act, Ends, Lowers, MarksClose, MarksPhase, ReadsEpoch, Wakes, acts_from, acts_of, acts_of_op, acts_of_ops, close_acts, idle_stops, numbers_from, phase_acts, threads_where};
 ghost use Rattle.pas_trace.specs.EveryPlan.{all_ops};
 ghost use Rattle.pas_trace.specs.Plans.{ops_of};
 ghost use Rattle.pas_check.specs.Checks.{ActsTaken, TakenTo, ArePlanned, IsPlanned, IsSized, IsSizedAs, threads_in};
@@ -15,6 +15,7 @@ ghost use Rattle.pas_check.specs.declared.cutting.Cursor.{Cursor as TheCursor};
 use crate::acting::{Judge, flush, mark_close, mark_phase, operate, pass, stop_idle, tick, wake};
 use crate::awake::active;
 use crate::cutting::Cursor;
+use crate::guarding::lower;
 use pas_bits::Mask4;
 use pas_profile::NoMemory;
 use pas_trace::{Chore, Op, Phase, Work};
@@ -177,8 +178,8 @@ fn take_later(
     requires sized { IsSized judge.old }
     requires planned { ArePlanned (profile_of judge.old.machine) (names_held judge.old.names) (all_ops (map ops_of phases.now)) }
     ensures sized { IfOk result (λ taken. IsSizedAs judge.old judge.new) }
-    ensures taken { IfOk result (λ taken. TakenTo text.now judge.old cursor.old judge.new cursor.new
-        (acts_from (threads_in judge.old) 2 (map ops_of phases.now)) (close_acts (threads_in judge.old)) taken) }
+    ensures taken { IfOk result (λ taken. (keepers : ℕ) → TakenTo text.now judge.old cursor.old judge.new cursor.new
+        (acts_from (threads_in judge.old) keepers 2 (map ops_of phases.now)) (close_acts (threads_in judge.old) keepers) taken) }
     ensures within { IfOk result (StaysWithin text.now cursor.new) }
 {
     let mut number = 1;
@@ -210,8 +211,8 @@ fn take_phases(
     requires sized { IsSized judge.old }
     requires planned { ArePlanned (profile_of judge.old.machine) (names_held judge.old.names) (all_ops (map ops_of phases.now)) }
     ensures sized { IfOk result (λ taken. IsSizedAs judge.old judge.new) }
-    ensures taken { IfOk result (λ taken. TakenTo text.now judge.old cursor.old judge.new cursor.new
-        (acts_of (threads_in judge.old) (map ops_of phases.now)) (close_acts (threads_in judge.old)) taken) }
+    ensures taken { IfOk result (λ taken. (keepers : ℕ) → TakenTo text.now judge.old cursor.old judge.new cursor.new
+        (acts_of (threads_in judge.old) keepers (map ops_of phases.now)) (close_acts (threads_in judge.old) keepers) taken) }
     ensures within { IfOk result (StaysWithin text.now cursor.new) }
 {
     if phases.len() == 0 {
@@ -244,27 +245,63 @@ fn end_all(judge: &mut Judge, text: &[u8], cursor: &mut Cursor) -> Result<bool, 
     Ok(true)
 }
 
-/// Takes the lines of the close: its mark, and the end of each thread.
-fn take_close(judge: &mut Judge, text: &[u8], cursor: &mut Cursor) -> Result<bool, NoMemory>
+/// Takes the lines of the last sweep of each keeper, in order. They are the actors behind the threads.
+fn lower_all(
+    judge: &mut Judge,
+    text: &[u8],
+    cursor: &mut Cursor,
+    keepers: u8,
+) -> Result<bool, NoMemory>
+    requires within { IsWithin text.now cursor.old }
+    requires short { length text.now ≤ 16777216 }
+    requires few { threads_in judge.old + keepers < 2 ^ 8 }
+    ensures sized { IfOk result (λ taken. IsSizedAs judge.old judge.new) }
+    ensures taken { IfOk result (λ taken. ActsTaken text.now judge.old cursor.old judge.new cursor.new (map Lowers (numbers_from (threads_in judge.old + 1) keepers)) taken) }
+    ensures within { IfOk result (StaysWithin text.now cursor.new) }
+{
+    let threads = judge.machine.profile().threads;
+    for index in threads..threads + keepers {
+        match lower(judge, text, cursor, index + 1) {
+            Ok(true) => {}
+            Ok(false) => return Ok(false),
+            Err(NoMemory) => return Err(NoMemory),
+        }
+    }
+    Ok(true)
+}
+
+/// Takes the lines of the close: its mark, the end of each thread, and the last sweep of each keeper.
+fn take_close(
+    judge: &mut Judge,
+    text: &[u8],
+    cursor: &mut Cursor,
+    keepers: u8,
+) -> Result<bool, NoMemory>
     requires within { IsWithin text.now cursor.old }
     requires short { length text.now ≤ 16777216 }
     requires sized { IsSized judge.old }
+    requires few { threads_in judge.old + keepers < 2 ^ 8 }
     ensures sized { IfOk result (λ taken. IsSizedAs judge.old judge.new) }
-    ensures taken { IfOk result (λ taken. ActsTaken text.now judge.old cursor.old judge.new cursor.new (close_acts (threads_in judge.old)) taken) }
+    ensures taken { IfOk result (λ taken. ActsTaken text.now judge.old cursor.old judge.new cursor.new (close_acts (threads_in judge.old) keepers) taken) }
     ensures within { IfOk result (StaysWithin text.now cursor.new) }
 {
     if !mark_close(judge, text, cursor) {
         return Ok(false);
     }
-    end_all(judge, text, cursor)
+    match end_all(judge, text, cursor) {
+        Ok(true) => lower_all(judge, text, cursor, keepers),
+        Ok(false) => Ok(false),
+        Err(NoMemory) => Err(NoMemory),
+    }
 }
 
-/// Takes the lines of all acts of a plan of these phases: of the phases, and of the close.
+/// Takes the lines of all acts of a plan of these phases and so many keepers: of the phases, and of the close.
 pub(crate) fn take_acts(
     judge: &mut Judge,
     text: &[u8],
     cursor: &mut Cursor,
     phases: &[Phase],
+    keepers: u8,
 ) -> Result<bool, NoMemory>
     requires within { IsWithin text.now cursor.old }
     requires short { length text.now ≤ 16777216 }
@@ -272,12 +309,13 @@ pub(crate) fn take_acts(
     requires valid { IsValid (profile_of judge.old.machine) }
     requires sized { IsSized judge.old }
     requires planned { ArePlanned (profile_of judge.old.machine) (names_held judge.old.names) (all_ops (map ops_of phases.now)) }
+    requires kept { threads_in judge.old + keepers < 2 ^ 8 }
     ensures sized { IfOk result (λ taken. IsSizedAs judge.old judge.new) }
-    ensures taken { IfOk result (λ taken. TakenTo text.now judge.old cursor.old judge.new cursor.new (acts_of (threads_in judge.old) (map ops_of phases.now)) [] taken) }
+    ensures taken { IfOk result (λ taken. TakenTo text.now judge.old cursor.old judge.new cursor.new (acts_of (threads_in judge.old) keepers (map ops_of phases.now)) [] taken) }
     ensures within { IfOk result (StaysWithin text.now cursor.new) }
 {
     match take_phases(judge, text, cursor, phases) {
-        Ok(true) => take_close(judge, text, cursor),
+        Ok(true) => take_close(judge, text, cursor, keepers),
         Ok(false) => Ok(false),
         Err(NoMemory) => Err(NoMemory),
     }

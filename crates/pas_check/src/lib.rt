@@ -9,6 +9,8 @@ mod emptying;
 pub mod entry;
 mod examining;
 mod following;
+pub mod guard;
+mod guarding;
 pub mod laws;
 mod logging;
 mod naming;

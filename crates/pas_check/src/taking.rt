@@ -52,7 +52,7 @@ pub(crate) fn event_read(found: &Option<Record>) -> Option<Event>
 }
 
 /// Whether the address is that of a grain of the region.
-fn is_place(machine: &Machine, address: Address) -> bool
+pub(crate) fn is_place(machine: &Machine, address: Address) -> bool
     ensures { MatchBool result (IsPlace (profile_of machine.now) address.0) (IsPlace (profile_of machine.now) address.0 → ⊥) }
 {
     machine.has_page(address.0 / 4096) && address.0 % 16 == 0

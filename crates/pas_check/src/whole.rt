@@ -1,7 +1,8 @@
 //! The check of a transcript.
-ghost use Rattle.std.specs.Prelude.{ℕ, ◌≤◌, List, length, IfOk};
+ghost use Rattle.std.specs.Prelude.{ℕ, ◌≡◌, ◌≤◌, List, length, IfOk};
 ghost use Rattle.pas_trace.specs.Plans.{IsPlanOf};
 ghost use Rattle.pas_check.specs.Accepted.{IsVerdict};
+ghost use Rattle.pas_trace.specs.Acts.{keepers_of};
 
 use crate::acting::Judge;
 use crate::checking::take_acts;
@@ -11,6 +12,17 @@ use crate::verdict::Verdict;
 use pas_profile::NoMemory;
 use pas_trace::Plan;
 use std::alloc::Global;
+
+/// How many keepers the plan has.
+fn keeper_count(plan: &Plan) -> u8
+    ensures { result ≡ keepers_of plan.now }
+{
+    if plan.guard == 0 {
+        0
+    } else {
+        plan.profile.threads
+    }
+}
 
 /// Whether the transcript is a right one of the plan, in the order of the text: yes; or the number of the first line that no right transcript has at its
 /// place, or of the line that is wanting where the text ends too early. A last line without its newline isn't right.
@@ -27,7 +39,14 @@ pub fn check(alloc: Global, plan: &Plan, transcript: &[u8]) -> Result<Verdict, N
         Err(NoMemory) => return Err(NoMemory),
     };
     let mut cursor = Cursor::first();
-    match take_acts(&mut judge, transcript, &mut cursor, plan.phases.as_slice()) {
+    let keepers = keeper_count(plan);
+    match take_acts(
+        &mut judge,
+        transcript,
+        &mut cursor,
+        plan.phases.as_slice(),
+        keepers,
+    ) {
         Ok(true) => {}
         Ok(false) => return Ok(Verdict::No(cursor.lines)),
         Err(NoMemory) => return Err(NoMemory),

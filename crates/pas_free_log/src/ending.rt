@@ -102,7 +102,7 @@ fn end_by_room<D: Desk>(desk: &mut D, entry: Entry) -> (Outcome, Option<Director
 }
 
 /// Ends the block of the entry's name: where it has the entry's room, or whatever its length, where the entry has none.
-pub fn end_logged<D: Desk>(desk: &mut D, entry: Entry) -> (Outcome, Option<Directory>)
+pub(crate) fn end_logged<D: Desk>(desk: &mut D, entry: Entry) -> (Outcome, Option<Directory>)
     requires entry { IsEntryOf (D.standing desk.old).seat.profile entry }
     requires room { 1 ≤ D.spare_of desk.old }
     requires can { CanCall (D.standing desk.old) KnowsEpoch }

@@ -29,7 +29,7 @@ impl Default for EndedRun {
 
 /// The heap and the pages of a block of so many grains that ended, which began on a page of the directory. None where it isn't a large block:
 /// its page is one of large blocks, and it begins with a page and ends with one.
-pub fn large_run(name: Name, grains: u32, directory: Option<Directory>) -> Option<EndedRun>
+pub(crate) fn large_run(name: Name, grains: u32, directory: Option<Directory>) -> Option<EndedRun>
     ensures { result ≡ the_large_run name grains directory }
 {
     if name.address.0 % PAGE_BYTES != 0 || grains % PAGE_GRAINS != 0 {
@@ -52,7 +52,7 @@ pub fn large_run(name: Name, grains: u32, directory: Option<Directory>) -> Optio
 }
 
 /// Adds the run at the end, where there is one and fewer than 64 are there.
-pub fn note(ended: &mut ArrayVec<EndedRun, MOST_LOGGED>, run: Option<EndedRun>)
+pub(crate) fn note(ended: &mut ArrayVec<EndedRun, MOST_LOGGED>, run: Option<EndedRun>)
     ensures { ended.new.items ≡ ended.old.items ++ take (64 - length ended.old.items) (option_to_list run) }
 {
     let Some(run) = run else {

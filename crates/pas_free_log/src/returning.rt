@@ -30,7 +30,7 @@ fn return_page<D: Desk>(desk: &mut D, grain: u32, grains: u32)
 }
 
 /// Stamps and puts back the run of a block that ended, page by page from the lowest one. At most fourteen steps a page.
-pub fn return_run<D: Desk>(desk: &mut D, grain: u32, grains: u32)
+pub(crate) fn return_run<D: Desk>(desk: &mut D, grain: u32, grains: u32)
     requires run { IsRun (D.standing desk.old).seat.profile grain grains }
     requires can { CanCall (D.standing desk.old) (MayReturn grain grains) }
     ensures returns { ReturnsRun grain grains (D.standing desk.old) (D.standing desk.new) }

@@ -2,7 +2,7 @@
 use Rattle.std.proofs.Common.{◌≡◌, ◌⊎◌, ℕ, ◌+◌, ◌*◌, ◌/◌, ◌<◌, ◌≤◌, ◌==◌, nat_le, Bool, true, false, not, ◌||◌, if◌then◌else◌, List, [], ◌∷◌, length, None, Some, inl, inr, refl, ap, ◌∙◌, arith}
 use Rattle.std.proofs.Math.Nat.{mul-le-mul}
 use Rattle.std.proofs.lemmas.Bool.{le-leb, lt-ltb, and_from, cases_lt}
-use Rattle.pas_trace.specs.Reasons.{first_failed, is_thread, is_alignment, is_named, is_named_now, thread_of, operations_in, cost_of_size, cost_of, costs_of, record_bound, few_enough, checks_of, reason_of}
+use Rattle.pas_trace.specs.Reasons.{first_failed, is_thread, is_alignment, is_named, is_named_now, thread_of, operations_in, guard_after, guard_in, actors_by, cost_of_size, cost_of, costs_of, record_bound, few_enough, checks_of, reason_of}
 use Rattle.pas_trace.specs.declared.fault.Reason.{Reason}
 use Rattle.pas_trace.proofs.Costs.{small_cost, large_cost}
 use Rattle.pas_trace.proofs.PassedChecks.{AreHeld}
@@ -19,9 +19,10 @@ none-failed (c ∷ cs) h = ap (λ (t : Bool). if t then first_failed cs else Som
 
 -- ---- the counts
 -- after so many operations there are so many, with few records: three for each of them, and one for each page at a pass. No operation has more than
--- two lines
+-- two lines, and none is guarded
 pub record Counted (pages threads n : ℕ) (items : List Item) : Type 0 where
   pub operations : operations_in items ≡ n
+  pub unguarded : guard_in items ≡ 0
   pub costs : costs_of (region pages threads) items ≤ 3 * n + 4096 * (n / 1000)
   pub lines : length items ≤ 2 * n + 1
 
@@ -31,23 +32,27 @@ request-cost size within = elim (cases_lt 2048 size) [
   | inr few ↦ let cost = small_cost size few in omega (arith, cost)
 ]
 
-few : (ops threads pages n : ℕ) (items : List Item) (i : Item) → IsJob ops threads pages → n < ops → Counted pages threads n items → cost_of (region pages threads) i ≤ 4097
+few : (ops threads pages n : ℕ) (items : List Item) (i : Item) → IsJob ops threads pages → n < ops → ((guard : ℕ) → guard_after i guard ≡ guard) → Counted pages threads n items → cost_of (region pages threads) 0 i ≤ 4097
     → AreHeld (few_enough (operations_in items) (record_bound (region pages threads) (i ∷ items)))
-few ops threads pages n items i job more counted small =
+few ops threads pages n items i job more same counted small =
     let operations : operations_in items ≡ n = counted.operations in
     let costs : costs_of (region pages threads) items ≤ 3 * n + 4096 * (n / 1000) = counted.costs in
     let most : ops ≤ 200000 = job.most in
     let deeds : threads * pages ≤ 16 * 4096 = mul-le-mul job.threads_most job.pages_most in
+    let f = region pages threads in
+    let cost : cost_of f (guard_in items) i ≡ cost_of f 0 i = ap (λ guard. cost_of f guard i) counted.unguarded in
+    let none : guard_in (i ∷ items) ≡ 0 = same (guard_in items) ∙ counted.unguarded in
+    let actors : actors_by (guard_in (i ∷ items)) threads * pages ≡ threads * pages = ap (λ guard. actors_by guard threads * pages) none in
     (lt-ltb (operations_in items) 1000000 (omega arith), (le-leb (record_bound (region pages threads) (i ∷ items)) 2000000 (omega arith), tt))
 
 -- ---- ticks and passes
 pub tick-fine : (ops threads pages n : ℕ) (items : List Item) (epoch : ℕ) → IsJob ops threads pages → n < ops → Counted pages threads n items → reason_of (region pages threads) items (Scavenges (Chore.Tick epoch)) ≡ None
 tick-fine ops threads pages n items epoch job more counted =
-    none-failed (checks_of (region pages threads) items (Scavenges (Chore.Tick epoch))) (few ops threads pages n items (Scavenges (Chore.Tick epoch)) job more counted (omega arith))
+    none-failed (checks_of (region pages threads) items (Scavenges (Chore.Tick epoch))) (few ops threads pages n items (Scavenges (Chore.Tick epoch)) job more (λ guard. refl) counted (omega arith))
 
 pub pass-fine : (ops threads pages n : ℕ) (items : List Item) → IsJob ops threads pages → n < ops → Counted pages threads n items → reason_of (region pages threads) items (Scavenges Chore.Pass) ≡ None
 pass-fine ops threads pages n items job more counted =
-    none-failed (checks_of (region pages threads) items (Scavenges Chore.Pass)) (few ops threads pages n items (Scavenges Chore.Pass) job more counted (let most : pages ≤ 4096 = job.pages_most in omega arith))
+    none-failed (checks_of (region pages threads) items (Scavenges Chore.Pass)) (few ops threads pages n items (Scavenges Chore.Pass) job more (λ guard. refl) counted (let most : pages ≤ 4096 = job.pages_most in omega arith))
 
 -- ---- allocations
 pub thread-fine : (pages threads t : ℕ) → 1 ≤ t → t ≤ threads → is_thread (region pages threads) t ≡ true
@@ -82,7 +87,7 @@ allocation-fine ops threads pages n items t name heap size align job more counte
             align-fine align r.aligned,
             (
               ap not r.fresh,
-              (refl, (refl, few ops threads pages n items (Operates t (Asks name heap size align)) job more counted (omega (arith, cost)))),
+              (refl, (refl, few ops threads pages n items (Operates t (Asks name heap size align)) job more (λ guard. refl) counted (omega (arith, cost)))),
             ),
           ),
         ),
@@ -94,4 +99,4 @@ pub free-fine : (ops threads pages n : ℕ) (items : List Item) (t name : ℕ) �
     → ((t == thread_of items name) || not (is_named_now items name)) ≡ true → reason_of (region pages threads) items (Operates t (Frees name)) ≡ None
 free-fine ops threads pages n items t name job more counted lo hi named early =
     none-failed (checks_of (region pages threads) items (Operates t (Frees name)))
-    (thread-fine pages threads t lo hi, (refl, (refl, (refl, (refl, (named, (early, few ops threads pages n items (Operates t (Frees name)) job more counted (omega arith))))))))
+    (thread-fine pages threads t lo hi, (refl, (refl, (refl, (refl, (named, (early, few ops threads pages n items (Operates t (Frees name)) job more (λ guard. refl) counted (omega arith))))))))

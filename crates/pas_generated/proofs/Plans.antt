@@ -1,5 +1,5 @@
 -- The plan of a text that is read, made of its items.
-use Rattle.std.proofs.Common.{◌≡◌, ℕ, zero, suc, ◌+◌, ◌^◌, ◌<◌, ◌≤◌, ◌||◌, Bool, true, inl, inr, List, [], ◌∷◌, ◌++◌, map, length, Option, None, Some, Ok, refl, ap, sym, ◌∙◌, subst, arith, length-append}
+use Rattle.std.proofs.Common.{◌≡◌, ℕ, zero, suc, ◌+◌, ◌*◌, ◌^◌, ◌<◌, ◌≤◌, ◌==◌, ◌||◌, Bool, true, false, if◌then◌else◌, inl, inr, List, [], ◌∷◌, ◌++◌, map, length, Option, None, Some, Ok, refl, ap, sym, ◌∙◌, subst, arith, length-append}
 use Rattle.std.specs.Global.{Global, Vec}
 use Rattle.std.proofs.lemmas.Bool.{cases_eq, ne_eqb, false≢true}
 use Rattle.std.proofs.lemmas.List.{length-map}
@@ -7,10 +7,10 @@ use denote.RawPtr.{null_ptr}
 use Rattle.pas_profile.specs.declared.profile.Profile.{Profile}
 use Rattle.pas_trace.specs.declared.header.Header.{Header}
 use Rattle.pas_trace.specs.Wishes.{name_made, is_name}
-use Rattle.pas_trace.specs.Reasons.{is_named, heap_of, record_bound}
-use Rattle.pas_trace.specs.Plans.{parsed, shared_in, add_last, line_of_newest, phases_after, phases_in, bound_of, bounds_upto, ops_of, IsPlanOf}
+use Rattle.pas_trace.specs.Reasons.{is_named, heap_of, guard_in, actors_by, record_bound}
+use Rattle.pas_trace.specs.Plans.{parsed, shared_in, add_last, line_of_newest, keeper_for, phases_after, phases_in, bound_of, bounds_upto, all_bounds, ops_of, IsPlanOf}
 use Rattle.pas_trace.specs.declared.item.Item.{Item}
-use Rattle.pas_trace.specs.declared.item.Item.TheVariants.{Blank, Shares, NextPhase, Operates, Scavenges}
+use Rattle.pas_trace.specs.declared.item.Item.TheVariants.{Blank, Shares, Guards, NextPhase, Operates, Scavenges}
 use Rattle.pas_trace.specs.declared.plan.Op.{Op}
 use Rattle.pas_trace.specs.declared.plan.Phase.{Phase}
 use Rattle.pas_trace.specs.declared.plan.Plan.{Plan}
@@ -38,18 +38,19 @@ most-add n op [] h = (omega arith, tt)
 most-add n op (p ∷ []) h = (let le = h.0 in omega (arith, le, length-append p (op ∷ [])), tt)
 most-add n op (p ∷ q ∷ ps) h = (let le = h.0 in omega (arith, le), most-add n op (q ∷ ps) h.1)
 
-most-after : (f : Profile) (heaps : ℕ → ℕ) (n line : ℕ) (i : Item) (ps : List (List Op)) → AtMost n ps → AtMost (n + 1) (phases_after f heaps i line ps)
-most-after f heaps n line Blank ps h = most-more n ps h
-most-after f heaps n line (Shares a) ps h = most-more n ps h
-most-after f heaps n line NextPhase ps h = most-next n ps h
-most-after f heaps n line (Operates t w) ps h = most-add n _ ps h
-most-after f heaps n line (Scavenges c) ps h = most-add n _ ps h
+most-after : (f : Profile) (heaps : ℕ → ℕ) (keeper : Option ℕ) (n line : ℕ) (i : Item) (ps : List (List Op)) → AtMost n ps → AtMost (n + 1) (phases_after f heaps keeper i line ps)
+most-after f heaps keeper n line Blank ps h = most-more n ps h
+most-after f heaps keeper n line (Shares a) ps h = most-more n ps h
+most-after f heaps keeper n line (Guards g) ps h = most-more n ps h
+most-after f heaps keeper n line NextPhase ps h = most-next n ps h
+most-after f heaps keeper n line (Operates t w) ps h = most-add n _ ps h
+most-after f heaps keeper n line (Scavenges c) ps h = most-add n _ ps h
 
 most-in : (f : Profile) (items : List Item) → AtMost (length items) (phases_in f items)
 most-in f [] = (omega arith, tt)
 most-in f (i ∷ items) =
     let e : length items + 1 ≡ length (i ∷ items) = omega arith in
-    subst (λ n. AtMost n (phases_in f (i ∷ items))) e (most-after f (heap_of items) (length items) (line_of_newest (i ∷ items)) i (phases_in f items) (most-in f items))
+    subst (λ n. AtMost n (phases_in f (i ∷ items))) e (most-after f (heap_of items) (keeper_for f items i) (length items) (line_of_newest (i ∷ items)) i (phases_in f items) (most-in f items))
 
 -- .. and there are few
 add-few : (op : Op) (ps : List (List Op)) → length (add_last (Some op) ps) ≤ length ps + 1
@@ -57,16 +58,17 @@ add-few op [] = omega arith
 add-few op (p ∷ []) = omega arith
 add-few op (p ∷ q ∷ ps) = omega (arith, add-few op (q ∷ ps))
 
-few-after : (f : Profile) (heaps : ℕ → ℕ) (line : ℕ) (i : Item) (ps : List (List Op)) → length (phases_after f heaps i line ps) ≤ length ps + 1
-few-after f heaps line Blank ps = omega arith
-few-after f heaps line (Shares a) ps = omega arith
-few-after f heaps line NextPhase ps = omega (arith, length-append ps ([] ∷ []))
-few-after f heaps line (Operates t w) ps = add-few _ ps
-few-after f heaps line (Scavenges c) ps = add-few _ ps
+few-after : (f : Profile) (heaps : ℕ → ℕ) (keeper : Option ℕ) (line : ℕ) (i : Item) (ps : List (List Op)) → length (phases_after f heaps keeper i line ps) ≤ length ps + 1
+few-after f heaps keeper line Blank ps = omega arith
+few-after f heaps keeper line (Shares a) ps = omega arith
+few-after f heaps keeper line (Guards g) ps = omega arith
+few-after f heaps keeper line NextPhase ps = omega (arith, length-append ps ([] ∷ []))
+few-after f heaps keeper line (Operates t w) ps = add-few _ ps
+few-after f heaps keeper line (Scavenges c) ps = add-few _ ps
 
 few-in : (f : Profile) (items : List Item) → length (phases_in f items) ≤ length items + 1
 few-in f [] = omega arith
-few-in f (i ∷ items) = omega (arith, few-after f (heap_of items) (line_of_newest (i ∷ items)) i (phases_in f items), few-in f items)
+few-in f (i ∷ items) = omega (arith, few-after f (heap_of items) (keeper_for f items i) (line_of_newest (i ∷ items)) i (phases_in f items), few-in f items)
 
 -- the phases with these operations
 held : Global → (n : ℕ) → n < 2 ^ 63 → (ps : List (List Op)) → AtMost n ps → List Phase
@@ -82,6 +84,16 @@ held-back heap n small (p ∷ ps) h = ap (λ qs. p ∷ qs) (held-back heap n sma
 bounds-count : (f : Profile) (items : List Item) (n : ℕ) → length (bounds_upto f items n) ≡ n
 bounds-count f items zero = refl
 bounds-count f items (suc n) = omega (arith, bounds-count f items n, length-append (bounds_upto f items n) (bound_of f items n ∷ []))
+
+few-actors : (none : Bool) (threads : ℕ) → threads < 2 ^ 62 → (if none then threads else 2 * threads) + 1 < 2 ^ 63
+few-actors true threads few = omega (arith, few)
+few-actors false threads few = omega (arith, few)
+
+all-few : (f : Profile) (items : List Item) → f.threads < 2 ^ 62 → length (all_bounds f items) < 2 ^ 63
+all-few f items few =
+    let count = bounds-count f items (actors_by (guard_in items) f.threads + 1) in
+    let small : actors_by (guard_in items) f.threads + 1 < 2 ^ 63 = few-actors (guard_in items == 0) f.threads few in
+    omega (arith, count, small)
 
 -- ---- a number above all names
 abbrev above : Option ℕ → ℕ
@@ -117,7 +129,8 @@ plan-of heap header items few threads =
         phases = holding heap (held heap (length items) small (phases_in f items) (most-in f items))
             (omega (arith, length-map (held heap (length items) small (phases_in f items) (most-in f items)) ops_of, ap (λ ps. length ps) (held-back heap (length items) small (phases_in f items) (most-in f items)), few-in f items));
       };
-      bounds = record { bounds = holding heap (bounds_upto f items (f.threads + 1)) (omega (arith, bounds-count f items (f.threads + 1))) };
+      guard = guard_in items;
+      bounds = record { bounds = holding heap (all_bounds f items) (all-few f items threads) };
       total = record_bound f items;
       names_limit = limit_in items;
     }
@@ -132,6 +145,7 @@ has-plan heap text header items read few threads = (
     read = read;
     version = refl;
     profile = refl;
+    guard = refl;
     phases = held-back heap (length items) (omega arith) (phases_in header.profile items) (most-in header.profile items);
     bounds = refl;
     total = refl;

@@ -2,7 +2,7 @@
 use Rattle.std.proofs.Common.{◌≡◌, ◌⊎◌, ℕ, zero, suc, ◌+◌, ◌*◌, ◌/◌, ◌%◌, ◌^◌, ◌<◌, ◌≤◌, nat_eq, nat_lt, Bool, true, false, ◌||◌, List, ◌∷◌, length, codes, inl, inr, refl, ap, ◌∙◌, arith}
 use Rattle.std.proofs.Math.Nat.{mod-lt}
 use Rattle.std.proofs.lemmas.Bool.{eq-eqb, ne_eqb}
-use Rattle.pas_trace.specs.Reasons.{is_named, operations_in, cost_of, costs_of, kept}
+use Rattle.pas_trace.specs.Reasons.{is_named, operations_in, guard_in, cost_of, costs_of, kept}
 use Rattle.pas_trace.specs.declared.item.Item.{Item}
 use Rattle.pas_trace.specs.declared.item.Item.TheVariants.{NextPhase, Operates, Scavenges}
 use Rattle.pas_trace.specs.declared.item.Wish.TheVariants.{Asks, Frees}
@@ -52,6 +52,7 @@ tick-step ops threads pages n s items job more h =
         listed = each-weaker s.unfreed _ _ (λ a l. listed-past threads s.phase s.next_name s.next_name items (Scavenges (Chore.Tick e)) a.name a.thread a.phase (omega arith) refl refl l) h.listed;
         counted = record {
           operations = one-more pages threads n items h.counted.operations;
+          unguarded = h.counted.unguarded;
           costs = let costs : costs_of (region pages threads) items ≤ 3 * n + 4096 * (n / 1000) = h.counted.costs in omega arith;
           lines = let lines : length items ≤ 2 * n + 1 = h.counted.lines in omega arith;
         };
@@ -75,6 +76,7 @@ pass-step ops threads pages n s items job more turn h =
             (λ a l. listed-next threads s.phase s.next_name (Scavenges Chore.Pass ∷ items) a.name a.thread a.phase (listed-past threads s.phase s.next_name s.next_name items (Scavenges Chore.Pass) a.name a.thread a.phase (omega arith) refl refl l)) h.listed;
         counted = record {
           operations = one-more pages threads n items h.counted.operations;
+          unguarded = h.counted.unguarded;
           costs = let costs : costs_of f items ≤ 3 * n + 4096 * (n / 1000) = h.counted.costs in omega arith;
           lines = let lines : length items ≤ 2 * n + 1 = h.counted.lines in omega arith;
         };
@@ -129,7 +131,8 @@ allocation-step ops threads pages n t s items job more lo hi h =
             (listed-new threads s.phase name items t (Asks name heap size align) (eq-eqb name name refl) h.some_name lo hi);
         counted = record {
           operations = one-more pages threads n items h.counted.operations;
-          costs = let costs : costs_of f items ≤ 3 * n + 4096 * (n / 1000) = h.counted.costs in let cost : cost_of f i ≤ 3 = request-cost size small in omega arith;
+          unguarded = h.counted.unguarded;
+          costs = let costs : costs_of f items ≤ 3 * n + 4096 * (n / 1000) = h.counted.costs in let same : cost_of f (guard_in items) i ≡ cost_of f 0 i = ap (λ guard. cost_of f guard i) h.counted.unguarded in let cost : cost_of f 0 i ≤ 3 = request-cost size small in omega (arith, costs, same, cost);
           lines = let lines : length items ≤ 2 * n + 1 = h.counted.lines in omega arith;
         };
       };
@@ -165,6 +168,7 @@ free-step ops threads pages n t s items job more lo hi some h =
             (each-weaker s.unfreed _ _ (λ a l. listed-past threads s.phase s.next_name s.next_name items i a.name a.thread a.phase (omega arith) refl refl l) h.listed);
         counted = record {
           operations = one-more pages threads n items h.counted.operations;
+          unguarded = h.counted.unguarded;
           costs = let costs : costs_of f items ≤ 3 * n + 4096 * (n / 1000) = h.counted.costs in omega arith;
           lines = let lines : length items ≤ 2 * n + 1 = h.counted.lines in omega arith;
         };

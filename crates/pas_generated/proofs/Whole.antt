@@ -71,7 +71,7 @@ none-read pages threads seed = record {
     few_names = omega arith;
     fresh = λ name later. refl;
     listed = All-nil _;
-    counted = record { operations = refl; costs = omega arith; lines = omega arith };
+    counted = record { operations = refl; unguarded = refl; costs = omega arith; lines = omega arith };
   };
 }
 

@@ -12,7 +12,12 @@ use pas_steps::Desk;
 
 /// Gives the pages between the first and the last of a run of `pages + 2` pages, which is held, as one block, and leaves the outer ones, whose grains
 /// stay held.
-pub fn guard_run<D: Desk>(desk: &mut D, first: u32, pages: u32, directory: Directory) -> Block
+pub(crate) fn guard_run<D: Desk>(
+    desk: &mut D,
+    first: u32,
+    pages: u32,
+    directory: Directory,
+) -> Block
     requires first { 1 ≤ first }
     requires pages { 1 ≤ pages }
     requires region { first + (pages + 2) ≤ (D.standing desk.old).seat.profile.pages + 1 }

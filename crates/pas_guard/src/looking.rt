@@ -8,7 +8,7 @@ use pas_profile::Word;
 use pas_steps::Desk;
 
 /// Whether neither page is read as backed: a look at the backed word of the low page, and of the high one where the low one isn't.
-pub fn are_bare<D: Desk>(desk: &mut D, low: u32, high: u32) -> bool
+pub(crate) fn are_bare<D: Desk>(desk: &mut D, low: u32, high: u32) -> bool
     requires low { IsPage (D.standing desk.old).seat.profile low }
     requires high { IsPage (D.standing desk.old).seat.profile high }
     requires can { CanCall (D.standing desk.old) AnyView }

@@ -10,7 +10,7 @@ use pas_rights::put_and_return;
 use pas_steps::Desk;
 
 /// Puts the outer pages of a guard back, the low one first. At most 24 steps, and no event.
-pub fn lower<D: Desk>(desk: &mut D, guard: Guard)
+pub(crate) fn lower<D: Desk>(desk: &mut D, guard: Guard)
     requires can { CanCall (D.standing desk.old) (MayLower (D.standing desk.old).seat.profile guard) }
     ensures lowers { Lowers guard (D.standing desk.old) (D.standing desk.new) }
     ensures home { D.home desk.new ≡ D.home desk.old }

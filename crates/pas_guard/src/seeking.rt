@@ -19,7 +19,7 @@ use pas_steps::Desk;
 /// The pages are read from page 1 up, each once. Where the claim of a run breaks at a page, what was got is put back and left, and the next run
 /// begins behind that page. Where an outer page is read as backed, the first page of the run is put back and left: the others are held still, as the
 /// first pages of the next run. None where no run is left. The deeds that were made stay. At most 71 steps for each page of the region.
-pub fn seek_run<D: Desk>(desk: &mut D, heap: u8, pages: u32) -> Option<u32>
+pub(crate) fn seek_run<D: Desk>(desk: &mut D, heap: u8, pages: u32) -> Option<u32>
     requires heap { heap < (D.standing desk.old).seat.profile.heaps }
     requires pages { pages ≤ (D.standing desk.old).seat.profile.pages }
     requires can { CanCall (D.standing desk.old) (FindRoom (D.standing desk.old).seat.profile (large_directory heap) 1 (D.spare_of desk.old)) }

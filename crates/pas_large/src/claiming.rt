@@ -21,7 +21,12 @@ pub enum Claimed {
 }
 
 /// Claims a page with all its grains. A deed is made of it only where `deeds` is true.
-pub fn claim_page<D: Desk>(desk: &mut D, page: u32, directory: Directory, deeds: bool) -> Claimed
+pub(crate) fn claim_page<D: Desk>(
+    desk: &mut D,
+    page: u32,
+    directory: Directory,
+    deeds: bool,
+) -> Claimed
     requires page { IsPage (D.standing desk.old).seat.profile page }
     requires directory { IsDirectoryOf (D.standing desk.old).seat.profile directory }
     requires can { CanCall (D.standing desk.old) (MayClaim directory page) }

@@ -14,7 +14,7 @@ use pas_steps::Desk;
 /// The scan goes over the pages from page 1 up and reads each once. Where the claim of a run breaks at a page, what was got is put back and left;
 /// the next run begins behind that page, and the scan goes on behind the last page that it read. None where no run is left: each deed word was
 /// read then. The deeds that a broken claim made stay. At most 54 steps for each page of the region.
-pub fn find_run<D: Desk>(desk: &mut D, heap: u8, pages: u32) -> Option<u32>
+pub(crate) fn find_run<D: Desk>(desk: &mut D, heap: u8, pages: u32) -> Option<u32>
     requires heap { heap < (D.standing desk.old).seat.profile.heaps }
     requires pages { 1 ≤ pages }
     requires can { CanCall (D.standing desk.old) (FindRoom (D.standing desk.old).seat.profile (large_directory heap) 1 (D.spare_of desk.old)) }

@@ -11,7 +11,7 @@ use pas_steps::Desk;
 /// Tries to get the right of a page: by a claim where its deed word is read as the directory's, otherwise by the deed itself, where deeds may be made.
 ///
 /// False where another actor was first, or where no deeds may be made and the page has another deed or none. At most two steps.
-pub fn get_right<D: Desk>(desk: &mut D, page: u32, directory: Directory, deeds: bool) -> bool
+pub(crate) fn get_right<D: Desk>(desk: &mut D, page: u32, directory: Directory, deeds: bool) -> bool
     requires page { IsPage (D.standing desk.old).seat.profile page }
     requires directory { IsDirectoryOf (D.standing desk.old).seat.profile directory }
     requires can { CanCall (D.standing desk.old) AnyView }

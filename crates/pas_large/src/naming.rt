@@ -22,7 +22,7 @@ fn has_run(region: u32, first: u32, pages: u32) -> bool
 ///
 /// None where the door names no run of the region, or where a page of it isn't read as one of the heap's large pages, is lost or isn't whole: what was
 /// got is put back and left then. What the door names is a hint, whatever it is.
-pub fn claim_named<D: Desk, O: Door>(
+pub(crate) fn claim_named<D: Desk, O: Door>(
     desk: &mut D,
     door: &mut O,
     heap: u8,

@@ -26,7 +26,7 @@ fn mark_offered<D: Desk>(desk: &mut D, looked: &mut Looked)
 
 /// Why there is no room for a request that found no run: each eligible word is read once, and then the parked bits of the pages of the directory
 /// that weren't read as offered. `Held` has the lowest one whose parked bit is 0, and `NoSpace` comes where there is none.
-pub fn refuse<D: Desk>(desk: &mut D, directory: Directory) -> NoRoom
+pub(crate) fn refuse<D: Desk>(desk: &mut D, directory: Directory) -> NoRoom
     requires directory { IsDirectoryOf (D.standing desk.old).seat.profile directory }
     requires can { CanCall (D.standing desk.old) AnyView }
     ensures refuses { Refuses directory (D.standing desk.old) (D.standing desk.new) result }

@@ -11,7 +11,7 @@ use pas_rights::{put_and_leave, take};
 use pas_steps::Desk;
 
 /// Takes all grains of the page, by four takes. False where some weren't free: those that were got are put back then, and the page is left.
-pub fn take_whole<D: Desk>(desk: &mut D, page: u32, directory: Directory) -> bool
+pub(crate) fn take_whole<D: Desk>(desk: &mut D, page: u32, directory: Directory) -> bool
     requires page { IsPage (D.standing desk.old).seat.profile page }
     requires directory { IsDirectoryOf (D.standing desk.old).seat.profile directory }
     requires can { CanCall (D.standing desk.old) (MayServe page directory) }

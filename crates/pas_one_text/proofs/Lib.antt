@@ -2,3 +2,4 @@ pub mod Seen
 mod Rows
 mod Examples
 mod Faults
+mod Guarded

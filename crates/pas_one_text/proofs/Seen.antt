@@ -165,6 +165,12 @@ skipped_of k freed = Record.Said k (Said.Skipped freed)
 abbrev pub kept_of : ℕ → ℕ → ℕ → ℕ → TheRecord
 kept_of k address turn new = Record.Said k (Said.Kept (name address turn) new)
 
+abbrev pub guarded_of : ℕ → ℕ → ℕ → ℕ → TheRecord
+guarded_of k low high asked = Record.Said k (Said.Guarded low high asked)
+
+abbrev pub lowered_of : ℕ → ℕ → ℕ → TheRecord
+lowered_of k low high = Record.Said k (Said.Lowered low high)
+
 abbrev pub tick_of : ℕ → TheRecord
 tick_of epoch = Record.Said 0 (Said.Tick epoch)
 

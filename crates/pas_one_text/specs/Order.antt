@@ -1,5 +1,5 @@
 -- THE WHOLE: what `pas order` prints for the bytes of a trace.
-use Rattle.std.specs.Prelude.{ℕ, ◌/◌, if◌then◌else◌, List, [], map, Option, None, Some, Result, Ok, Err}
+use Rattle.std.specs.Prelude.{ℕ, ◌/◌, ◌==◌, if◌then◌else◌, List, [], map, Option, None, Some, Result, Ok, Err}
 use Rattle.pas_profile.specs.declared.name.Block.{Block}
 use Rattle.pas_profile.specs.Requests.{route_in, room_in}
 use Rattle.pas_profile.specs.declared.directory.Route.{Route}
@@ -8,7 +8,9 @@ use Rattle.pas_free_log.specs.Logs.{entry_of, sized_entry}
 use Rattle.pas_trace.specs.declared.fault.TraceFault.{TraceFault}
 use Rattle.pas_trace.specs.declared.plan.Op.{Op}
 use Rattle.pas_trace.specs.declared.plan.What.{What}
+use Rattle.pas_trace.specs.Asked.{request_in}
 use Rattle.pas_trace.specs.Plans.{Parsed, parsed, phases_in, shared_in}
+use Rattle.pas_trace.specs.Reasons.{guard_in}
 use Rattle.pas_report.specs.declared.record.Record.{Record}
 use Rattle.pas_report.specs.declared.record.Said.{Said}
 use Rattle.pas_answers.specs.Answers.{standing_for, suits}
@@ -17,6 +19,7 @@ use Rattle.pas_one_text.specs.State.{World, each, no_cache, cache_of, set_cache,
 use Rattle.pas_one_text.specs.Indexes.{settles}
 use Rattle.pas_one_text.specs.Classes.{serves_class}
 use Rattle.pas_one_text.specs.Runs.{serves_bitfit, serves_pages}
+use Rattle.pas_one_text.specs.Guards.{guards, lowers_all}
 use Rattle.pas_one_text.specs.Frees.{flushes, stops, logs, frees, frees_named}
 use Rattle.pas_one_text.specs.Passes.{ticks, passes, reads_epoch, stops_idle}
 use Rattle.pas_one_text.specs.Reports.{text_of}
@@ -53,9 +56,10 @@ remakes f k name size align (Some (Some old)) w = if suits old size align then k
 remakes f k name size align (Some None) w = names_it name None (says (Record.Said k (Said.Skipped name)) w)
 remakes f k name size align None w = w
 
--- AN OPERATION
+-- AN OPERATION. A guarded request is an act of its own
 abbrev pub operates : Profile → ℕ → What → World → World
 operates f k (What.Alloc name heap size align) w = serves f k name heap (route_in f size align) (room_in f size align) align w
+operates f k (What.Guarded keeper name heap size align) w = serves f k name heap (route_in f size align) (room_in f size align) align w
 operates f k (What.Free name) w = frees_named f k name 0 w
 operates f k (What.FreeSized name room) w = frees_named f k name room w
 operates f k (What.Raw block) w = frees f k (entry_of block) w
@@ -77,6 +81,7 @@ abbrev pub acts_on : Profile → Act → World → World
 acts_on f (Act.MarksPhase n) w = says (Record.Phase n) w
 acts_on f (Act.Wakes k) w = begins k w
 acts_on f (Act.Operates op) w = operates f op.actor op.what w
+acts_on f (Act.Guards keeper op) w = guards f keeper op.actor (request_in op.what) w
 acts_on f (Act.Settles k) w = settles k w
 acts_on f (Act.Ticks e) w = ticks e w
 acts_on f Act.MakesPass w = passes f w
@@ -84,24 +89,29 @@ acts_on f Act.ReadsEpoch w = reads_epoch w
 acts_on f (Act.StopsIdle k n) w = stops_idle f k n w
 acts_on f Act.MarksClose w = says Record.Close w
 acts_on f (Act.Ends k) w = stops f k w
+acts_on f (Act.Lowers keeper) w = lowers_all keeper w
 
 -- ---- the replay of phases, from nothing
--- no event yet, empty caches and indexes, epoch 0
+-- no event yet, empty caches and indexes, no guard, epoch 0
 abbrev pub opened : Profile → World
-opened f = record { events = []; records = []; live = []; names = []; caches = map (λ k. no_cache) (numbers_from 1 f.threads); hinted = []; indexes = map (λ h. []) (numbers_from 1 f.heaps); epoch = 0; read = 0 }
+opened f = record { events = []; records = []; live = []; names = []; caches = map (λ k. no_cache) (numbers_from 1 f.threads); guards = []; hinted = []; indexes = map (λ h. []) (numbers_from 1 f.heaps); epoch = 0; read = 0 }
 
--- THE REPLAY: the acts of the phases, one by one
-abbrev pub replayed : Profile → List (List Op) → World
-replayed f phases = each (acts_on f) (acts_of f.threads phases) (opened f)
+-- THE REPLAY: the acts of the phases, one by one, with so many keepers
+abbrev pub replayed : Profile → ℕ → List (List Op) → World
+replayed f keepers phases = each (acts_on f) (acts_of f.threads keepers phases) (opened f)
 
 -- ---- the text
 -- the region of a trace: its header with its shared heaps
 abbrev pub region_of : Parsed → Profile
 region_of p = record p.header.profile { shared = shared_in p.items }
 
+-- the number of its keepers: one a thread, where it has a `guard` line
+abbrev pub keepers_of : Parsed → ℕ
+keepers_of p = if guard_in p.items == 0 then 0 else p.header.profile.threads
+
 -- what its replay comes to
 abbrev pub replay_of : Parsed → World
-replay_of p = replayed (region_of p) (phases_in p.header.profile p.items)
+replay_of p = replayed (region_of p) (keepers_of p) (phases_in p.header.profile p.items)
 
 abbrev pub text_for : Result Parsed TraceFault → Option (List ℕ)
 text_for (Ok p) = Some (text_of (region_of p) (replay_of p))

@@ -1,5 +1,5 @@
 -- WHAT GRAINS AND PAGES ARE in a state. Grain b of a page is one of its 256, from 0 on.
-use Rattle.std.specs.Prelude.{ℕ, zero, suc, ◌+◌, ◌*◌, ◌==◌, Bool, true, false, not, ◌&&◌, List, ◌∷◌, Option, None, Some, if◌then◌else◌}
+use Rattle.std.specs.Prelude.{ℕ, zero, suc, ◌+◌, ◌*◌, ◌==◌, Bool, true, false, not, ◌&&◌, ◌||◌, List, ◌∷◌, Option, None, Some, if◌then◌else◌}
 use Rattle.std.specs.List.{list_any, flat_map, filter}
 use Rattle.pas_profile.specs.Classes.{class_grains}
 use Rattle.pas_profile.specs.Directories.{number_of}
@@ -78,9 +78,13 @@ is_kept w page = list_any (λ l. l.keeps) (locals_on w page)
 abbrev pub has_room : World → Directory → ℕ → Bool
 has_room w d page = not (each_of 0 256 (λ b. not (usable_by_kind d.kind b && is_free w page b)))
 
--- OFFERED by its directory: nobody keeps the page, and it has room
+-- GUARDED: the page is an outer one of a guard that is up, whose keeper has all its grains
+abbrev pub is_guarded : World → ℕ → Bool
+is_guarded w page = list_any (λ g. (g.low == page) || (g.high == page)) w.guards
+
+-- OFFERED by its directory: nobody keeps the page, no guard has it, and it has room
 abbrev pub is_offered : World → Directory → ℕ → Bool
-is_offered w d page = is_of w d page && (not (is_kept w page) && has_room w d page)
+is_offered w d page = is_of w d page && (not (is_kept w page) && (not (is_guarded w page) && has_room w d page))
 
 -- ---- hints
 abbrev pub is_hinted : World → ℕ → Bool

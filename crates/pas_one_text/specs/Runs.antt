@@ -56,13 +56,25 @@ if_whole w heap n (Some first) = if each_of first n (is_whole w heap) then Some 
 abbrev pub named_run : World → ℕ → ℕ → Option ℕ
 named_run w heap n = if_whole w heap n (named_first w heap n)
 
+-- the n pages from this one on are of the region, and usable
+abbrev pub is_run : Profile → World → ℕ → ℕ → ℕ → Bool
+is_run f w heap n p = nat_le (p + n) (f.pages + 1) && each_of p n (is_usable w heap)
+
 -- the first page of the lowest run of n usable pages
 abbrev pub lowest_run : Profile → World → ℕ → ℕ → Option ℕ
-lowest_run f w heap n = find (λ p. nat_le (p + n) (f.pages + 1) && each_of p n (is_usable w heap)) (page_numbers f)
+lowest_run f w heap n = find (is_run f w heap n) (page_numbers f)
 
--- a block of these n pages: each gets a deed and memory where it has none. All deeds come before the first back, and both rise with the pages
+-- these n pages get deeds, where they have none, the lowest first
+abbrev pub deeds_run : ℕ → ℕ → ℕ → ℕ → World → World
+deeds_run k heap first n w = each (deeds k (large_of heap)) (numbers_from first n) w
+
+-- a block of n pages with deeds: they get memory, where they have none, the lowest first, and it is given
+abbrev pub gives_run : ℕ → ℕ → ℕ → ℕ → ℕ → World → World
+gives_run k name heap first n w = gives k name heap (address_on first 0) (4096 * n) (each (backs k) (numbers_from first n) w)
+
+-- a block of these n pages. All deeds come before the first back
 abbrev pub gives_pages : ℕ → ℕ → ℕ → ℕ → ℕ → World → World
-gives_pages k name heap first n w = gives k name heap (address_on first 0) (4096 * n) (each (backs k) (numbers_from first n) (each (deeds k (large_of heap)) (numbers_from first n) w))
+gives_pages k name heap first n w = gives_run k name heap first n (deeds_run k heap first n w)
 
 -- .. or the request is refused, and no page gets a deed
 abbrev pub serves_run : Profile → ℕ → ℕ → ℕ → ℕ → Option ℕ → World → World

@@ -5,6 +5,7 @@ use Rattle.std.specs.List.{find, filter}
 use Rattle.pas_profile.specs.Blocks.{address_of}
 use Rattle.pas_profile.specs.declared.event.Event.{Event}
 use Rattle.pas_profile.specs.declared.name.Block.{Block}
+use Rattle.pas_profile.specs.declared.name.Name.{Name}
 use Rattle.pas_large_index.specs.declared.span.Span.{Span}
 use Rattle.pas_free_log.specs.declared.log.Entry.{Entry}
 use Rattle.pas_free_log.specs.declared.noting.EndedRun.{EndedRun}
@@ -29,15 +30,24 @@ pub record Cache : Type 0 where
   pub noted : List EndedRun
   pub began : ℕ
 
+-- A GUARD that is up: the actor that keeps it, the pages right before and right behind a block of whole pages, all grains of which that actor has, and the
+-- name of the block
+pub record Guard : Type 0 where
+  pub keeper : ℕ
+  pub low : ℕ
+  pub high : ℕ
+  pub block : Name
+
 -- THE STATE: the events and the records so far, each with the newest first; the live blocks, which follow from the events; what the names of the trace stand
--- for; the caches of the threads from 1 on; the pages that are hinted as empty; the indexes of the heaps from 0 on, each some ranges of pages, the lowest
--- first; the epoch; and the one that the scavenger read for its last idle operation
+-- for; the caches of the threads from 1 on; the guards that are up, in the order in which they went up; the pages that are hinted as empty; the indexes of the
+-- heaps from 0 on, each some ranges of pages, the lowest first; the epoch; and the one that the scavenger read for its last idle operation
 pub record World : Type 0 where
   pub events : List Event
   pub records : List Record
   pub live : List Block
   pub names : List Named
   pub caches : List Cache
+  pub guards : List Guard
   pub hinted : List ℕ
   pub indexes : List (List Span)
   pub epoch : ℕ

@@ -6,4 +6,9 @@ mod Trials5
 mod Trials6
 mod Trials7
 mod Trials8
+mod Trials9
+mod Trials10
+mod Trials11
+mod Trials12
+mod Trials13
 mod Queue

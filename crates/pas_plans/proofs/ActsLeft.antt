@@ -8,28 +8,28 @@ use Rattle.pas_trace.specs.Acts.{Act, MarksPhase, phase_acts, close_acts, acts_f
 pub use Rattle.pas_trace.proofs.ThreadsInOrder.{number_next, number_last, acts_there, next_chosen, next_passed, none_left, threads_alike}
 
 -- after so many phases
-abbrev pub acts_left : ℕ → ℕ → List (List Op) → List Act
-acts_left threads zero phases = acts_of threads phases
-acts_left threads (suc n) phases = acts_from threads (suc n + 1) phases
+abbrev pub acts_left : ℕ → ℕ → ℕ → List (List Op) → List Act
+acts_left threads keepers zero phases = acts_of threads keepers phases
+acts_left threads keepers (suc n) phases = acts_from threads keepers (suc n + 1) phases
 
-pub close_left : (threads n : ℕ) → acts_left threads n [] ≡ close_acts threads
-close_left threads zero = refl
-close_left threads (suc n) = refl
+pub close_left : (threads keepers n : ℕ) → acts_left threads keepers n [] ≡ close_acts threads keepers
+close_left threads keepers zero = refl
+close_left threads keepers (suc n) = refl
 
-left_is : (threads n : ℕ) (phases : List (List Op)) → 1 ≤ n → acts_left threads n phases ≡ acts_from threads (n + 1) phases
-left_is threads zero phases some = absurd (omega (arith, some))
-left_is threads (suc n) phases some = refl
+left_is : (threads keepers n : ℕ) (phases : List (List Op)) → 1 ≤ n → acts_left threads keepers n phases ≡ acts_from threads keepers (n + 1) phases
+left_is threads keepers zero phases some = absurd (omega (arith, some))
+left_is threads keepers (suc n) phases some = refl
 
 -- the first phase, which has no mark, and another one
-pub first_phase : (threads n : ℕ) (phase : List Op) (phases : List (List Op)) → n ≡ 0 → acts_left threads n (phase ∷ phases) ≡ phase_acts threads phase ++ acts_left threads (n + 1) phases
-first_phase threads zero phase phases is = refl
-first_phase threads (suc n) phase phases is = absurd (omega (arith, is))
+pub first_phase : (threads keepers n : ℕ) (phase : List Op) (phases : List (List Op)) → n ≡ 0 → acts_left threads keepers n (phase ∷ phases) ≡ phase_acts threads phase ++ acts_left threads keepers (n + 1) phases
+first_phase threads keepers zero phase phases is = refl
+first_phase threads keepers (suc n) phase phases is = absurd (omega (arith, is))
 
-pub other_phase : (threads n : ℕ) (phase : List Op) (phases : List (List Op)) → 1 ≤ n → acts_left threads n (phase ∷ phases) ≡ MarksPhase (n + 1) ∷ (phase_acts threads phase ++ acts_left threads (n + 1) phases)
-other_phase threads n phase phases some = left_is threads n (phase ∷ phases) some ∙ ap (λ (acts : List Act). MarksPhase (n + 1) ∷ (phase_acts threads phase ++ acts)) (sym (left_is threads (n + 1) phases (omega arith)))
+pub other_phase : (threads keepers n : ℕ) (phase : List Op) (phases : List (List Op)) → 1 ≤ n → acts_left threads keepers n (phase ∷ phases) ≡ MarksPhase (n + 1) ∷ (phase_acts threads phase ++ acts_left threads keepers (n + 1) phases)
+other_phase threads keepers n phase phases some = left_is threads keepers n (phase ∷ phases) some ∙ ap (λ (acts : List Act). MarksPhase (n + 1) ∷ (phase_acts threads phase ++ acts)) (sym (left_is threads keepers (n + 1) phases (omega arith)))
 
-pub next_phase : (threads : ℕ) (phases : List Phase) (i : ℕ) (d : Phase) (ops : List Op) → i < length phases → ops_of (slice_index_or phases i d) ≡ ops → acts_left threads i (map ops_of (drop i phases)) ≡ acts_left threads i (ops ∷ map ops_of (drop (i + 1) phases))
-next_phase threads phases i d ops lt is = ap (λ (ps : List Phase). acts_left threads i (map ops_of ps)) (drop_more phases i d lt) ∙ ap (λ (os : List Op). acts_left threads i (os ∷ map ops_of (drop (i + 1) phases))) is
+pub next_phase : (threads keepers : ℕ) (phases : List Phase) (i : ℕ) (d : Phase) (ops : List Op) → i < length phases → ops_of (slice_index_or phases i d) ≡ ops → acts_left threads keepers i (map ops_of (drop i phases)) ≡ acts_left threads keepers i (ops ∷ map ops_of (drop (i + 1) phases))
+next_phase threads keepers phases i d ops lt is = ap (λ (ps : List Phase). acts_left threads keepers i (map ops_of ps)) (drop_more phases i d lt) ∙ ap (λ (os : List Op). acts_left threads keepers i (os ∷ map ops_of (drop (i + 1) phases))) is
 
-pub last_phase : (threads : ℕ) (phases : List Phase) (i : ℕ) → length phases ≤ i → acts_left threads i (map ops_of (drop i phases)) ≡ close_acts threads
-last_phase threads phases i le = ap (λ (ps : List Phase). acts_left threads i (map ops_of ps)) (drop_of_length-le phases le) ∙ close_left threads i
+pub last_phase : (threads keepers : ℕ) (phases : List Phase) (i : ℕ) → length phases ≤ i → acts_left threads keepers i (map ops_of (drop i phases)) ≡ close_acts threads keepers
+last_phase threads keepers phases i le = ap (λ (ps : List Phase). acts_left threads keepers i (map ops_of ps)) (drop_of_length-le phases le) ∙ close_left threads keepers i

@@ -3,4 +3,6 @@ pub mod NameLimits
 pub mod PlanFacts
 pub mod ActsLeft
 mod Making
+mod Counting
 pub mod Nothing
+pub mod KeeperActs

@@ -2,7 +2,7 @@
 use Rattle.std.proofs.Common.{ℕ, ◌≤◌, List, [], ◌∷◌, ◌++◌, arith}
 use Rattle.pas_trace.specs.EveryPlan.{all_ops}
 use Rattle.pas_trace.specs.declared.plan.What.{What}
-use Rattle.pas_trace.specs.declared.plan.What.TheVariants.{Alloc, Remake}
+use Rattle.pas_trace.specs.declared.plan.What.TheVariants.{Alloc, Guarded, Remake}
 use Rattle.pas_trace.specs.declared.plan.Op.{Op}
 use Rattle.pas_trace.proofs.EveryPlan.{below_front}
 use Rattle.pas_answers.specs.Fit.{IsBelow, AreBelow, AllBelow}
@@ -18,6 +18,7 @@ below_all limit (p ∷ ps) all = below_both limit p (all_ops ps) all.0 (below_al
 
 below_what : (limit higher : ℕ) (what : What) → limit ≤ higher → IsBelow limit what → IsBelow higher what
 below_what limit higher (Alloc n h s a) le is = omega (arith, le, is)
+below_what limit higher (Guarded k n h s a) le is = omega (arith, le, is)
 below_what limit higher (Remake n o h s a) le is = omega (arith, le, is)
 below_what limit higher s le is = tt
 

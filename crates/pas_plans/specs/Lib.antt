@@ -1,2 +1,4 @@
 pub mod Parts
 pub mod Awake
+pub mod Keepers
+pub mod Tries

@@ -2,9 +2,11 @@
 #![tactic(auto)]
 
 pub mod awake;
+pub mod keepers;
 pub mod limits;
 pub mod parts;
 
 pub use awake::active;
+pub use keepers::{books_for, keepers_of, region_of};
 pub use limits::records_for;
 pub use parts::{caches_for, outcomes_from, rooms_of};

@@ -16,6 +16,8 @@ mod faulty;
 #[cfg(test)]
 mod gate_tests;
 #[cfg(test)]
+mod guarded;
+#[cfg(test)]
 mod in_turn;
 #[cfg(test)]
 mod lawful;

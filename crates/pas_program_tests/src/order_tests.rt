@@ -3,7 +3,7 @@ ghost use Rattle.std.specs.Prelude.{◌≡◌, ◌≤◌, ◌⊎◌, length};
 
 use crate::calls::{ROOM, may_be_cut_off, outcome_of, stops_at_read, writes, writes_each};
 use crate::traces::{TRACE, TRANSCRIPT, asking, filling, replayed};
-use crate::{alone, at_once, faulty, in_turn, queue};
+use crate::{alone, at_once, faulty, guarded, in_turn, queue};
 use pas_bitfit::end_bits;
 use pas_bits::Mask4;
 use pas_generate::trace_of;
@@ -135,6 +135,15 @@ fn traces_have_transcripts(rt: HostRuntime) -> Result<(), Fail> {
             in_turn::TRACES.as_slice(),
             0,
             in_turn::TEXTS.as_slice()
+        )?
+    );
+    assert!(rt;
+        writes_each(
+            &rt,
+            &words,
+            guarded::TRACES.as_slice(),
+            0,
+            guarded::TEXTS.as_slice()
         )?
     );
     assert!(rt;

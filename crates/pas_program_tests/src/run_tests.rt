@@ -2,7 +2,7 @@
 
 use crate::calls::{Outcome, ROOM, may_be_cut_off, outcome_of, stops_at_read, writes, writes_each};
 use crate::traces::{TRACE, TRANSCRIPT, filling, of_two_threads};
-use crate::{alone, faulty, in_turn};
+use crate::{alone, faulty, guarded, in_turn};
 use std::alloc::AllocError;
 use std::sync::Wait;
 use std::test::Fail;
@@ -42,6 +42,15 @@ fn actors_in_turn_have_transcripts(rt: HostRuntime) -> Result<(), Fail> {
             in_turn::TRACES.as_slice(),
             0,
             in_turn::TEXTS.as_slice()
+        )?
+    );
+    assert!(rt;
+        writes_each(
+            &rt,
+            &words,
+            guarded::TRACES.as_slice(),
+            0,
+            guarded::TEXTS_BY_ACTOR.as_slice()
         )?
     );
     Ok(())

@@ -1,18 +1,17 @@
 -- The acts of a replay, one after the other.
-use Rattle.std.proofs.Common.{◌≡◌, ℕ, ◌+◌, ◌-◌, ◌<◌, ◌≤◌, not, List, [], ◌∷◌, ◌++◌, map, length, drop, get_or, ap, sym, ◌∙◌, subst, arith, Option, length-append, append_assoc}
+use Rattle.std.proofs.Common.{◌≡◌, ℕ, ◌+◌, ◌-◌, ◌<◌, ◌≤◌, not, List, [], ◌∷◌, ◌++◌, map, length, drop, get_or, refl, ap, sym, ◌∙◌, subst, arith, Option, length-append, append_assoc}
 use Rattle.std.proofs.lemmas.List.{drop_more}
 use Rattle.pas_profile.specs.declared.profile.Profile.{Profile}
-use Rattle.pas_steps.specs.Lists.{Whole}
 use Rattle.pas_trace.specs.declared.plan.Op.{Op}
 use Rattle.pas_trace.specs.declared.plan.What.TheVariants.{Alloc}
 use Rattle.pas_report.specs.Rooms.{records_in, room_of, Records}
 use Rattle.pas_report.specs.declared.record.Record.{Record}
-use Rattle.pas_trace.specs.Acts.{Act, Wakes, is_active, numbers_from, active_threads, idle_threads, acts_of_op, acts_of_ops, phase_acts}
-use Rattle.pas_answers.specs.Answers.{Caches, Progress, with_records}
+use Rattle.pas_trace.specs.Acts.{Act, Wakes, Lowers, is_active, numbers_from, active_threads, idle_threads, acts_of_op, acts_of_ops, phase_acts}
+use Rattle.pas_answers.specs.Answers.{Progress, with_records}
 use Rattle.pas_large.specs.Doors.{Indexes}
 use Rattle.pas_answers.specs.Reaching.{Advances}
 use Rattle.pas_plain.specs.declared.pass.PlainPass.{PlainPass}
-use Rattle.pas_answers.specs.Fit.{AreFit, cost_of_act, own_cost_of_act, unbacks_of_act}
+use Rattle.pas_answers.specs.Fit.{AreFit, cost_of_act}
 use Rattle.pas_answers.specs.Names.{names_held}
 use Rattle.pas_bits.specs.Masks.{is_set}
 use Rattle.pas_bits.specs.declared.mask.Mask4.{Mask4}
@@ -20,40 +19,49 @@ use Rattle.pas_plans.specs.Awake.{awake_in, idle_in}
 use Rattle.pas_replay.specs.Sessions.{own_events, ActorStands, Replay, Hand, GoesBy, IsAt, SoFar}
 use Rattle.pas_plans.proofs.ActsLeft.{number_next, number_last, threads_alike}
 use Rattle.pas_replay.proofs.Going.{all_rest}
-use Rattle.pas_replay.proofs.Turning.{AsksNoIndex, free_act}
+use Rattle.pas_replay.proofs.Threads.{still_places, owed_kept}
+use Rattle.pas_replay.proofs.Turning.{AsksNoIndex, less_events, less_tries, other_stands}
 
 -- ---- marks
-still_stands : {f : Profile} {k : ℕ} {slot : Option PlainPass} {l : Whole} (caches : Caches) (acts more : List Act) → own_events f k acts ≡ own_events f k more → ActorStands f k caches slot l acts → ActorStands f k caches slot l more
-still_stands caches acts more same st = let room = st.room in record { pass = st.pass; present = st.present; actor = st.actor; stands = st.stands; rest = st.rest; room = omega (arith, room, same) }
-
 -- no actor has a hand in a mark
-pub after_mark : {r : Replay} {more : List Act} {act : Act} {T : Type 0} {h : Hand} (out' : Records) (mark : Record) → T × SoFar r (act ∷ more) h → ((p : Progress) → Advances r.profile act p (with_records p (mark ∷ []))) → ((j : ℕ) → own_cost_of_act j act ≡ 0) → unbacks_of_act r.profile act ≡ 0 → cost_of_act r.profile act ≡ 1
+still_stands : (threads : ℕ) (f : Profile) (k : ℕ) {slot : Option PlainPass} (p : Progress) (acts more : List Act) (mark : Record) → own_events threads f k more ≤ own_events threads f k acts → ActorStands threads f k p slot acts → ActorStands threads f k (with_records p (mark ∷ [])) slot more
+still_stands threads f k p acts more mark less st =
+    other_stands threads f p (with_records p (mark ∷ [])) {j = k} {k = k + 1} acts more [] (λ e. omega (arith, e)) refl refl refl refl less st
+
+pub after_mark : {r : Replay} {more : List Act} {act : Act} {T : Type 0} {h : Hand} (out' : Records) (mark : Record) → T × SoFar r (act ∷ more) h → ((p : Progress) → Advances r.profile act p (with_records p (mark ∷ []))) → cost_of_act r.profile act ≡ 1
     → ((limit : ℕ) (asked : List ℕ) → AreFit r.profile limit asked (act ∷ more) → AreFit r.profile limit asked more) → AsksNoIndex r.profile act → records_in out' ≡ records_in h.out ++ mark ∷ [] → room_of out' ≡ room_of h.out → T × SoFar r more (record h { out = out' })
-after_mark {r} {more} {act} {T} {h} out' mark (taken, (p, at)) advances free none one fit asks pushed room =
+after_mark {r} {more} {act} {T} {h} out' mark (taken, (p, at)) advances one fit asks pushed room =
     let names = at.names in
+    let next = with_records p (mark ∷ []) in
     let long = ap (λ (rs : List Record). length rs) pushed ∙ length-append (records_in h.out) (mark ∷ []) in
     let spare = at.spare in (
       taken,
       (
-        with_records p (mark ∷ []),
+        next,
         record {
           profile_is = at.profile_is;
           actors = at.actors;
           many = at.many;
+          kept = at.kept;
           threads = at.threads;
           operate = at.operate.1;
+          keep = at.keep.1;
           places = at.places;
           stands = at.stands;
-          each = λ k le. still_stands p.caches (act ∷ more) more (free_act r.profile act more free k (λ scavenger. none)) (at.each k le);
+          each = λ k le. still_stands r.threads r.profile k p (act ∷ more) more mark (less_events r.threads r.profile (act ∷ []) more k) (at.each k le);
           nobody = at.nobody;
           names = record { asked = names.asked; fit = fit (names_held h.table) names.asked names.fit; tells = names.tells; stand = names.stand; known = names.known };
           caches_are = at.caches_are;
+          books_are = at.books_are;
+          books_have = still_places r.threads h.books (act ∷ more) more (less_tries (act ∷ []) more) at.books_have;
           records_are = pushed ∙ ap (λ (rs : List Record). rs ++ mark ∷ []) at.records_are;
-          spare = omega (arith, long, spare, room, one);
+          spare =
+              let same = owed_kept r.threads r.profile p next 0 (record { parts = λ j ne. refl; caches = λ j ne. refl; books = λ j ne. refl }) (r.threads + r.keepers) (λ j low high e. omega (arith, low, e)) in
+              omega (arith, long, spare, room, one, same);
           answers = λ q rest.
-              let next = with_records p (mark ∷ []) in
-              let left = subst (λ (ix : Indexes). GoesBy r.profile ix more next q) (sym (asks h.indexes p).0) rest in
-              at.answers q (((next, advances p, left.0.0), ((asks h.indexes p).1 next (advances p), left.0.1)), (all_rest at, left.1));
+              let asked = asks h.indexes p next (advances p) in
+              let left = subst (λ (ix : Indexes). GoesBy r.threads r.profile ix more next q) (sym asked.0) rest in
+              at.answers q (((next, advances p, left.0.0), (asked.1, left.0.1)), (all_rest at, left.1));
         },
       ),
     )
@@ -79,6 +87,20 @@ module _ {r : Replay} {T : Type 0} {h : Hand} (to : ℕ → Act) (i n : ℕ) (mo
 
   pub no_number : n ≤ i → T × SoFar r (map to (numbers_from (i + 1) (n - i)) ++ more) h → T × SoFar r more h
   no_number le so = as_first more (ap (λ (ks : List ℕ). map to ks) (number_last (i + 1) (n - i) (omega (arith, le)))) so
+
+-- .. where they are those of the keepers
+module _ {r : Replay} {T : Type 0} {h : Hand} (i : ℕ) (more : List Act) where
+  pub next_keeper : (keeper : ℕ) → keeper ≡ r.threads + (i + 1) → i < r.keepers → T × SoFar r (map Lowers (numbers_from (r.threads + (i + 1)) (r.keepers - i)) ++ more) h
+      → T × SoFar r (Lowers keeper ∷ (map Lowers (numbers_from (r.threads + (i + 1 + 1)) (r.keepers - (i + 1))) ++ more)) h
+  next_keeper keeper is lt so =
+      let k = r.threads + (i + 1) in
+      let m = r.keepers - (i + 1) in
+      let next : k + 1 ≡ r.threads + (i + 1 + 1) = omega arith in
+      as_first more (ap (λ (ks : List ℕ). map Lowers ks) (number_next k (r.keepers - i) m (omega (arith, lt))) ∙ ap (λ (n : ℕ). Lowers k ∷ map Lowers (numbers_from n m)) next
+      ∙ ap (λ (n : ℕ). Lowers n ∷ map Lowers (numbers_from (r.threads + (i + 1 + 1)) m)) (sym is)) so
+
+  pub no_keeper : r.keepers ≤ i → T × SoFar r (map Lowers (numbers_from (r.threads + (i + 1)) (r.keepers - i)) ++ more) h → T × SoFar r more h
+  no_keeper le so = as_first more (ap (λ (ks : List ℕ). map Lowers ks) (number_last (r.threads + (i + 1)) (r.keepers - i) (omega (arith, le)))) so
 
 -- ---- the next operation
 -- (any, past the last one)

@@ -1,13 +1,14 @@
 -- What each actor's turn needs and leaves: instances of the turn.
-use Rattle.std.proofs.Common.{◌≡◌, ◌≢◌, ℕ, ◌-◌, ◌≤◌, ◌==◌, Bool, true, false, if◌then◌else◌, List, [], ◌∷◌, ◌++◌, length, set, get_or, Option, refl, ap, sym, ◌∙◌, subst, arith}
-use Rattle.std.proofs.lemmas.Bool.{eq-eqb, ne_eqb}
+use Rattle.std.proofs.Common.{◌≡◌, ℕ, ◌-◌, ◌≤◌, ◌==◌, Bool, true, false, if◌then◌else◌, List, [], ◌∷◌, ◌++◌, length, set, get_or, Option, None, Some, refl, ap, sym, ◌∙◌, subst, arith}
+use Rattle.std.proofs.lemmas.Bool.{eq-eqb}
 use Rattle.std.proofs.lemmas.List.{append-nil}
 use Rattle.pas_profile.specs.declared.name.Block.{Block}
 use Rattle.pas_profile.specs.declared.profile.Profile.{Profile}
-use Rattle.pas_trace.specs.Asked.{work_of}
+use Rattle.pas_trace.specs.Asked.{work_of, keeper_of}
 use Rattle.pas_trace.specs.EveryPlan.{asked_after}
 use Rattle.pas_trace.specs.declared.plan.Op.{Op}
 use Rattle.pas_trace.specs.declared.plan.What.{What}
+use Rattle.pas_trace.specs.declared.plan.Task.{Task}
 use Rattle.pas_trace.specs.declared.plan.Work.{Work}
 use Rattle.pas_trace.specs.declared.plan.Chore.{Chore}
 use Rattle.pas_plain.specs.Seats.{standing_of}
@@ -16,10 +17,11 @@ use Rattle.pas_report.specs.Rooms.{records_in, room_of, Records}
 use Rattle.pas_report.specs.declared.record.Record.{Record}
 use Rattle.pas_cache.specs.Caches.{cached}
 use Rattle.pas_cache.specs.declared.cache.ThreadCache.{ThreadCache}
-use Rattle.pas_trace.specs.Acts.{Act, acts_of_op, acts_of_work, acts_of_chore, Operates, Settles}
+use Rattle.pas_guard.specs.declared.book.GuardBook.{GuardBook}
+use Rattle.pas_trace.specs.Acts.{Act, act_kept, acts_of_op, acts_of_work, acts_of_chore, Operates, Settles}
 use Rattle.pas_answers.specs.Answers.{Named, Progress}
 use Rattle.pas_answers.specs.Calls.{Tells, AllMayStand, MayStand, IsMeant, named_by, freed_by}
-use Rattle.pas_answers.specs.Fit.{AreFit, cost_of_what, cost_of_act, own_cost_of_act, unbacks_of_act}
+use Rattle.pas_answers.specs.Fit.{AreFit, cost_of_what, cost_of_act, own_cost_of_act}
 use Rattle.pas_answers.specs.Names.{block_named, names_held}
 use Rattle.pas_answers.specs.declared.names.Names.{Names}
 use Rattle.pas_answers.proofs.Kept.{meant_by, meant_stands}
@@ -28,7 +30,7 @@ use Rattle.pas_answers.proofs.SingleActs.{if_same, known_if}
 use Rattle.pas_acts.specs.Turns.{RestsAt}
 use Rattle.pas_acts.specs.AtDesks.{here, and_for, MayOperate, ThreadActs}
 use Rattle.pas_acts.proofs.AtDesk.{rests_for}
-use Rattle.pas_replay.specs.Sessions.{Slots, IsTaken, TakesSeat, Replay, HasNames, IsAt, SoFar}
+use Rattle.pas_replay.specs.Sessions.{Hand, Slots, IsTaken, TakesSeat, Replay, HasNames, IsAt, SoFar}
 use Rattle.pas_replay.proofs.Threads.{there_is}
 use Rattle.pas_large.specs.Doors.{Indexes}
 use Rattle.pas_replay.specs.Operating.{ActsByIndexes}
@@ -36,19 +38,20 @@ use Rattle.pas_replay.proofs.Going.{rest_one, rest_two}
 use Rattle.pas_replay.proofs.Turning.{hand, AsksNoIndex, thread_now, later_for, thread_turn}
 
 -- ---- an act of a thread for which no name stands: it wakes, it is stopped where it is idle, it ends
-pub rests_now : {r : Replay} {more : List Act} {act : Act} {desk desk1 : PlainDesk} {passes passes1 : Slots} {caches : List ThreadCache} {places : ℕ} {indexes : Indexes} {table : Names} {out : Records} {p : Progress} (k extra : ℕ) (there : ThreadCache) → 1 ≤ k → k ≤ length caches → own_cost_of_act k act ≡ 0
-    → cost_of_act r.profile act ≡ extra → TakesSeat desk desk1 passes passes1 k → there ≡ get_or caches (k - 1) there → IsAt r (act ∷ more) (hand desk passes caches places indexes table out) p → RestsAt r.profile k (standing_of desk1) (cached there) out (later_for r k p more extra) p
+pub rests_now : {r : Replay} {more : List Act} {act : Act} {desk desk1 : PlainDesk} {passes passes1 : Slots} {caches : List ThreadCache} {books : List GuardBook} {places : ℕ} {indexes : Indexes} {table : Names} {out : Records} {p : Progress} (k extra : ℕ) (there : ThreadCache) → 1 ≤ k → k ≤ length caches → own_cost_of_act k act ≡ 0
+    → cost_of_act r.profile act ≡ extra → TakesSeat desk desk1 passes passes1 k → there ≡ get_or caches (k - 1) there → IsAt r (act ∷ more) (hand desk passes caches books places indexes table out) p → RestsAt r.profile k (standing_of desk1) (cached there) out (later_for r k p more extra) p
 rests_now {more = more} {caches = caches} {p = p} k extra there some within own cost seat is at =
     rests_for (thread_now k 0 extra more some within seat (there_is p.caches caches k there some within at.caches_are is) (omega (arith, own)) (omega (arith, cost)) at) (omega arith) (omega arith)
 
-pub act_turn : {r : Replay} {more : List Act} {act : Act} {desk desk1 desk2 : PlainDesk} {passes passes1 : Slots} {caches : List ThreadCache} {places : ℕ} {indexes : Indexes} {table : Names} {out out1 out2 : Records} {p : Progress} {told : List Record} {extra : ℕ} (k : ℕ) (there cache : ThreadCache)
-    → 1 ≤ k → k ≤ length caches → ((j : ℕ) → own_cost_of_act j act ≡ 0) → unbacks_of_act r.profile act ≡ 0 → ((limit : ℕ) (asked : List ℕ) → AreFit r.profile limit asked (act ∷ more) → AreFit r.profile limit asked more) → AsksNoIndex r.profile act → TakesSeat desk desk1 passes passes1 k → there ≡ get_or caches (k - 1) there
-    → IsAt r (act ∷ more) (hand desk passes caches places indexes table out) p → (did : ThreadActs r.profile k (act ∷ []) [] told (here (standing_of desk1) (cached there) out) (here (standing_of desk2) (cached cache) out1) (later_for r k p more extra) p) → length told ≤ extra
-    → records_in out2 ≡ records_in out1 ++ told → room_of out2 ≡ room_of out1 → IsTaken desk2 passes1 × IsAt r more (hand desk2 passes1 (set caches (k - 1) cache) places indexes table out2) did.reached
-act_turn {r} {more} {act} {caches = caches} {indexes = indexes} {table = table} {p = p} k there cache some within free none fit asks seat is at did few added room =
+pub act_turn : {r : Replay} {more : List Act} {act : Act} {desk desk1 desk2 : PlainDesk} {passes passes1 : Slots} {caches : List ThreadCache} {books : List GuardBook} {places : ℕ} {indexes : Indexes} {table : Names} {out out1 out2 : Records} {p : Progress} {told : List Record} {extra : ℕ} (k : ℕ) (there cache : ThreadCache)
+    → 1 ≤ k → k ≤ length caches → ((limit : ℕ) (asked : List ℕ) → AreFit r.profile limit asked (act ∷ more) → AreFit r.profile limit asked more) → AsksNoIndex r.profile act → TakesSeat desk desk1 passes passes1 k → there ≡ get_or caches (k - 1) there
+    → IsAt r (act ∷ more) (hand desk passes caches books places indexes table out) p → (did : ThreadActs r.profile k (act ∷ []) [] told (here (standing_of desk1) (cached there) out) (here (standing_of desk2) (cached cache) out1) (later_for r k p more extra) p) → length told ≤ extra
+    → records_in out2 ≡ records_in out1 ++ told → room_of out2 ≡ room_of out1 → IsTaken desk2 passes1 × IsAt r more (hand desk2 passes1 (set caches (k - 1) cache) books places indexes table out2) did.reached
+act_turn {r} {more} {act} {caches = caches} {indexes = indexes} {table = table} {p = p} k there cache some within fit asks seat is at did few added room =
     let names = at.names in
-    thread_turn k cache some within seat (there_is p.caches caches k there some within at.caches_are is) (omega (arith, none)) (λ j ne. let own = free j in omega (arith, own)) at did ((asks indexes p).1 did.reaches.0 did.reaches.1, tt) (sym (asks indexes p).0)
-    (rest_one r.profile act p did.reached did.reaches) (subst (λ (ns : List Named). HasNames r.profile more table ns) (sym did.names) record { asked = names.asked; fit = fit (names_held table) names.asked names.fit; tells = names.tells; stand = names.stand; known = names.known }) at.operate.1 few added room
+    let asked = asks indexes p did.reaches.0 did.reaches.1 in
+    thread_turn k cache some within seat (there_is p.caches caches k there some within at.caches_are is) at did (asked.1, tt) (sym asked.0) (rest_one r.threads r.profile act p did.reached did.reaches)
+    (subst (λ (ns : List Named). HasNames r.profile more table ns) (sym did.names) record { asked = names.asked; fit = fit (names_held table) names.asked names.fit; tells = names.tells; stand = names.stand; known = names.known }) at.operate.1 at.keep.1 few added room
 
 -- what a name stands for once another or itself was set
 pub set_stands : (f : Profile) (t : Bool) (came old new : Option Block) → new ≡ (if t then came else old) → MayStand f came → MayStand f old → MayStand f new
@@ -56,8 +59,8 @@ set_stands f true came old new is now before = subst (MayStand f) (sym is) now
 set_stands f false came old new is now before = subst (MayStand f) (sym is) before
 
 -- ---- an operation of thread k, which asks for `what`
-pub may_operate : {r : Replay} {more : List Act} {op : Op} {what : What} {desk desk1 : PlainDesk} {passes passes1 : Slots} {caches : List ThreadCache} {places : ℕ} {indexes : Indexes} {table : Names} {out : Records} {p : Progress} {meant : Option Block} (k : ℕ) (there : ThreadCache) → op.actor ≡ k → op.what ≡ what → 1 ≤ k → k ≤ length caches
-    → TakesSeat desk desk1 passes passes1 k → there ≡ get_or caches (k - 1) there → meant ≡ freed_by (block_named table) what → IsAt r (Operates op ∷ (Settles op.actor ∷ more)) (hand desk passes caches places indexes table out) p
+pub may_operate : {r : Replay} {more : List Act} {op : Op} {what : What} {desk desk1 : PlainDesk} {passes passes1 : Slots} {caches : List ThreadCache} {books : List GuardBook} {places : ℕ} {indexes : Indexes} {table : Names} {out : Records} {p : Progress} {meant : Option Block} (k : ℕ) (there : ThreadCache) → op.actor ≡ k → op.what ≡ what → 1 ≤ k → k ≤ length caches
+    → TakesSeat desk desk1 passes passes1 k → there ≡ get_or caches (k - 1) there → meant ≡ freed_by (block_named table) what → IsAt r (Operates op ∷ (Settles op.actor ∷ more)) (hand desk passes caches books places indexes table out) p
     → MayOperate r.profile op.actor op.what meant (here (standing_of desk1) (cached there) out) (later_for r op.actor p more 0) p
 may_operate {r} {more} {op} {desk1 = desk1} {caches = caches} {table = table} {out} {p} k there mine asks some within seat is means at =
     let cost = if_same (op.actor == k) (cost_of_what op.what) (eq-eqb op.actor k mine) in
@@ -73,31 +76,40 @@ may_operate {r} {more} {op} {desk1 = desk1} {caches = caches} {table = table} {o
       stands = subst (MayStand r.profile) (sym meaning) (meant_stands r.profile (block_named table) op.what at.names.stand);
     }
 
-other_cost : (op : Op) (k j : ℕ) → op.actor ≡ k → j ≢ k → (if op.actor == j then cost_of_what op.what else 0) ≡ 0
-other_cost op k j mine ne = ap (λ (t : Bool). if t then cost_of_what op.what else 0) (ne_eqb op.actor j (λ e. ne (sym e ∙ mine)))
-
-pub operate_turn : {r : Replay} {more : List Act} {op : Op} {what : What} {desk desk1 desk2 : PlainDesk} {passes passes1 : Slots} {caches : List ThreadCache} {places : ℕ} {indexes indexes' : Indexes} {table table' : Names} {out out' : Records} {p : Progress} (k : ℕ) (came : Option Block) (there cache : ThreadCache)
-    → op.actor ≡ k → op.what ≡ what → 1 ≤ k → k ≤ length caches → TakesSeat desk desk1 passes passes1 k → there ≡ get_or caches (k - 1) there → IsAt r (Operates op ∷ (Settles op.actor ∷ more)) (hand desk passes caches places indexes table out) p
+pub operate_turn : {r : Replay} {more : List Act} {op : Op} {what : What} {desk desk1 desk2 : PlainDesk} {passes passes1 : Slots} {caches : List ThreadCache} {books : List GuardBook} {places : ℕ} {indexes indexes' : Indexes} {table table' : Names} {out out' : Records} {p : Progress} (k : ℕ) (came : Option Block) (there cache : ThreadCache)
+    → op.actor ≡ k → op.what ≡ what → 1 ≤ k → k ≤ length caches → TakesSeat desk desk1 passes passes1 k → there ≡ get_or caches (k - 1) there → IsAt r (Operates op ∷ (Settles op.actor ∷ more)) (hand desk passes caches books places indexes table out) p
     → ActsByIndexes r.profile op.actor op indexes indexes' (named_by op.what came) (here (standing_of desk1) (cached there) out) (here (standing_of desk2) (cached cache) out') (later_for r op.actor p more 0) p
-    → names_held table' ≡ names_held table → Tells table' (named_by what came ++ p.names) → AllMayStand r.profile table' → IsTaken desk2 passes1 × SoFar r more (hand desk2 passes1 (set caches (k - 1) cache) places indexes' table' out')
+    → names_held table' ≡ names_held table → Tells table' (named_by what came ++ p.names) → AllMayStand r.profile table' → IsTaken desk2 passes1 × SoFar r more (hand desk2 passes1 (set caches (k - 1) cache) books places indexes' table' out')
 operate_turn {r} {more} {op} {desk1 = desk1} {desk2} {caches = caches} {indexes = indexes} {indexes'} {table = table} {table'} {out} {out'} {p} k came there cache mine asks some within seat is at acted held tells stand =
     let names = at.names in
     let all = subst (λ (j : ℕ). ActsByIndexes r.profile j op indexes indexes' (named_by op.what came) (here (standing_of desk1) (cached there) out) (here (standing_of desk2) (cached cache) out') (later_for r j p more 0) p) mine acted in
     let did = all.did in
-    let so = thread_turn k cache some within seat (there_is p.caches caches k there some within at.caches_are is) (omega arith) (λ j ne. let none = other_cost op k j mine ne in omega (arith, none)) at did all.named all.left
-    (rest_two r.profile op p did.reached did.reaches) (subst (λ (ns : List Named). HasNames r.profile more table' ns) (sym did.names) record {
+    let so = thread_turn k cache some within seat (there_is p.caches caches k there some within at.caches_are is) at did all.named all.left (rest_two r.threads r.profile op p did.reached did.reaches)
+    (subst (λ (ns : List Named). HasNames r.profile more table' ns) (sym did.names) record {
       asked = asked_after op.what names.asked;
       fit = subst (λ (limit : ℕ). AreFit r.profile limit (asked_after op.what names.asked) more) (sym held) names.fit.2;
       tells = subst (λ (w : What). Tells table' (named_by w came ++ p.names)) (sym asks) tells;
       stand = stand;
       known = known_more op.what came names.asked p.names names.known;
     })
-    at.operate.1.1 (omega arith) (sym (append-nil (records_in out'))) refl in
+    at.operate.1.1 at.keep.1.1 (omega arith) (sym (append-nil (records_in out'))) refl in
     (so.0, (did.reached, so.1))
 
--- the acts of an operation, by what it asks for
-pub acts_as_work : (idle : List ℕ) (op : Op) {work work' : Work} → work ≡ work_of op.what → work ≡ work' → acts_of_op idle op ≡ acts_of_work idle op work'
+-- ---- the acts of an operation, by what it asks for
+acts_as_work : (idle : List ℕ) (op : Op) {work work' : Work} → work ≡ work_of op.what → work ≡ work' → acts_of_op idle op ≡ acts_of_work idle op work'
 acts_as_work idle op asks is = ap (λ (w : Work). acts_of_work idle op w) (sym asks ∙ is)
+
+pub acts_as_own : (idle : List ℕ) (op : Op) {work : Work} {task : Task} → work ≡ work_of op.what → work ≡ Work.Own task → acts_of_op idle op ≡ act_kept (keeper_of task) op ∷ (Settles op.actor ∷ [])
+acts_as_own idle op asks is = acts_as_work idle op asks is
+
+-- .. with this keeper, or with none
+pub kept_as : (op : Op) {keeper keeper' : Option ℕ} → keeper ≡ keeper' → act_kept keeper op ∷ (Settles op.actor ∷ []) ≡ act_kept keeper' op ∷ (Settles op.actor ∷ [])
+kept_as op is = ap (λ (o : Option ℕ). act_kept o op ∷ (Settles op.actor ∷ [])) is
+
+-- whose they are
+pub own_actor : (keeper : Option ℕ) (op : Op) {r : Replay} {more : List Act} {h : Hand} → SoFar r (act_kept keeper op ∷ (Settles op.actor ∷ more)) h → (1 ≤ op.actor) × (op.actor ≤ r.threads)
+own_actor None op so = (so.1.names.fit.0.0, so.1.operate.0)
+own_actor (Some keeper) op so = (so.1.names.fit.2.0, so.1.operate.0)
 
 pub acts_as_chore : (idle : List ℕ) (op : Op) {work : Work} {chore chore' : Chore} → work ≡ work_of op.what → work ≡ Work.Chore chore → chore ≡ chore' → acts_of_op idle op ≡ acts_of_chore idle chore'
 acts_as_chore idle op asks is same = acts_as_work idle op asks is ∙ ap (λ (c : Chore). acts_of_chore idle c) same

@@ -50,7 +50,7 @@ module _ {Door : Type 0} (Kept : Door → Door → Type 0) (held : Door → Inde
         let came = asked_on (route_in f r.size r.align) r.heap (pages_of (wanted_by f r)) found before after named in
         record { kept = came.0; named = came.1; left = came.2 }
 
-    handed : (together : (a b c : Door) → Kept a b → Kept b c → Kept a c) (runs : List EndedRun) (before after : Door) → SettlesEach HandsOn runs before after → Kept before after × (held after ≡ with_noted (held before) runs)
+    pub handed : (together : (a b c : Door) → Kept a b → Kept b c → Kept a c) (runs : List EndedRun) (before after : Door) → SettlesEach HandsOn runs before after → Kept before after × (held after ≡ with_noted (held before) runs)
     handed together [] before after same = (kept_same before after same, ap held same)
     handed together (run ∷ runs) before after (next, one, rest) =
         let later = handed together runs next after rest in
@@ -82,6 +82,11 @@ pub operated_many : (f : Profile) (op : Op) (p q : Progress) (is : Reaches f (Op
 operated_many f op p q is indexes = noted_many (is.0.caches op.actor).noted (after_operation f (request_by p.names op.what) indexes) ∙ after_many f (request_by p.names op.what) indexes
 
 -- a vector whose elements were all written back has what the indexes hold then
+pub noted_back : {indexes indexes' : Indexes} (items : Indexes) (many : ℕ) (runs : List EndedRun) → indexes ≡ items → length indexes ≡ many → indexes' ≡ with_noted indexes runs → take many (indexes' ++ drop (length indexes') items) ≡ with_noted items runs
+noted_back {indexes} {indexes'} items many runs is same noted =
+    take_at indexes' (drop (length indexes') items) many (ap (λ (ix : Indexes). length ix) noted ∙ noted_many runs indexes ∙ same) ∙ noted ∙ ap (λ (ix : Indexes). with_noted ix runs) is
+
+-- .. so of an operation
 pub written_back : {f : Profile} {k : ℕ} {op : Op} {indexes indexes' : Indexes} {came : List Named} {old new : Here} {later : Later} {p : Progress} (items : Indexes) (many : ℕ) → indexes ≡ items → length indexes ≡ many → ActsByIndexes f k op indexes indexes' came old new later p
     → ActsByIndexes f k op items (take many (indexes' ++ drop (length indexes') items)) came old new later p
 written_back {f} {k} {op} {indexes} {indexes'} {p = p} items many is same acts =

@@ -3,6 +3,7 @@ mod Threads
 mod Going
 mod Turning
 mod ByActors
+mod Keepers
 mod ActsInOrder
 mod Opening
 mod StartAndEnd

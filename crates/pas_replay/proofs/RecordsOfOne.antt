@@ -8,12 +8,13 @@ use Rattle.pas_steps.specs.Events.{events_by}
 use Rattle.pas_steps.specs.Lists.{Whole, part}
 use Rattle.pas_steps.specs.declared.state.State.{State}
 use Rattle.pas_trace.specs.Plans.{IsPlanOf}
+use Rattle.pas_trace.specs.Reasons.{actors_by}
 use Rattle.pas_trace.specs.declared.plan.Plan.{Plan}
 use Rattle.pas_report.specs.declared.record.Record.{Record}
-use Rattle.pas_trace.specs.Acts.{Act, Operates, Settles, MarksPhase, Wakes, MarksClose, Ends, acts_of}
+use Rattle.pas_trace.specs.Acts.{Act, Operates, Settles, MarksPhase, Wakes, MarksClose, Ends}
 use Rattle.pas_answers.specs.Answers.{Progress, records_of, said_by}
 use Rattle.pas_answers.specs.Reaching.{Advances, Reaches}
-use Rattle.pas_answers.specs.Replays.{at_start, phases_of, IsReplay, Shows, region_of, threads_of}
+use Rattle.pas_answers.specs.Replays.{at_start, IsReplay, Shows, region_of, threads_of, acts_of_plan}
 use Rattle.pas_answers.specs.Ways.{InOrder, OnThreads, is_of, EachOf, records_by, by_actors, by_phases, arranged}
 use Rattle.pas_answers.proofs.OwnRecords.{each_both, piece_of, all_by, none_by}
 use Rattle.pas_replay.specs.OneThread.{IsOfOneThread}
@@ -77,11 +78,11 @@ same_order since (Record.Said k said ∷ rs) own all =
     same_order (since ++ Record.Said k said ∷ []) rs (each_both 1 since (Record.Said k said ∷ []) own (all.0, tt)) all.1 ∙ append_assoc since (Record.Said k said ∷ []) rs
 
 -- ---- the replay
-arranged_same : {text : List ℕ} {plan : Plan} → IsPlanOf text plan → IsOfOneThread plan → (reached : Progress) → Reaches (region_of plan) (acts_of (threads_of plan) (phases_of plan)) at_start reached
+arranged_same : {text : List ℕ} {plan : Plan} → IsPlanOf text plan → IsOfOneThread plan → (reached : Progress) → Reaches (region_of plan) (acts_of_plan plan) at_start reached
     → arranged OnThreads (region_of plan).threads reached.records ≡ reached.records
 arranged_same {text} {plan} is alone reached answers =
-    ap (λ (n : ℕ). arranged OnThreads n reached.records) alone.threads
-    ∙ same_order [] reached.records tt (own_records (region_of plan) (acts_of (threads_of plan) (phases_of plan)) at_start reached (plan_of_one is alone) tt answers)
+    ap (λ (n : ℕ). arranged OnThreads n reached.records) (ap (λ (guard : ℕ). actors_by guard (threads_of plan)) alone.unguarded ∙ alone.threads)
+    ∙ same_order [] reached.records tt (own_records (region_of plan) (acts_of_plan plan) at_start reached (plan_of_one is alone) tt answers)
 
 replay_of_one : {text : List ℕ} {plan : Plan} {whole : Whole} {records : List Record} → IsPlanOf text plan → IsOfOneThread plan → IsReplay InOrder plan whole records → IsReplay OnThreads plan whole records
 replay_of_one {text} {plan} {whole} {records} is alone replay = record {
@@ -91,6 +92,7 @@ replay_of_one {text} {plan} {whole} {records} is alone replay = record {
   records_are = replay.records_are ∙ sym (arranged_same is alone replay.reached replay.answers);
   legal = replay.legal;
   nothing = replay.nothing;
+  keepers = replay.keepers;
   run = replay.run;
   deeds = replay.deeds;
   stamps = replay.stamps;

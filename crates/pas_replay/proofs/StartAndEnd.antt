@@ -1,6 +1,6 @@
 -- How a replay starts, and what it shows at its end.
-use Rattle.std.proofs.Common.{◌≡◌, ℕ, zero, suc, ◌+◌, ◌*◌, ◌<◌, ◌≤◌, true, false, inl, inr, List, [], ◌∷◌, length, Option, Some, None, refl, ap, sym, ◌∙◌, subst, arith, slice_index}
-use Rattle.std.proofs.lemmas.Bool.{cases_lt}
+use Rattle.std.proofs.Common.{◌≡◌, ℕ, zero, suc, ◌+◌, ◌-◌, ◌*◌, ◌/◌, ◌<◌, ◌≤◌, nat_le, Bool, true, false, if◌then◌else◌, inl, inr, List, [], ◌∷◌, length, Option, Some, None, refl, ap, sym, ◌∙◌, subst, arith, slice_index}
+use Rattle.std.proofs.lemmas.Bool.{cases_lt, le-leb, lt-leb}
 use Rattle.std.proofs.Math.Nat.{suc-mul}
 use Rattle.pas_profile.specs.Profiles.{IsValid, IsWordOf}
 use Rattle.pas_profile.specs.declared.profile.Profile.{Profile}
@@ -8,8 +8,10 @@ use Rattle.pas_profile.specs.declared.word.Word.{Word}
 use Rattle.pas_steps.specs.Clear.{HasNothing}
 use Rattle.pas_steps.specs.Lists.{Whole, part, word_after, Legal}
 use Rattle.pas_steps.specs.States.{profile_of as the_profile_of, word_in}
+use Rattle.pas_steps.specs.Unknown.{unknown_pages}
 use Rattle.pas_steps.specs.Views.{View}
 use Rattle.pas_steps.specs.declared.state.State.{State}
+use Rattle.pas_trace.specs.EveryPlan.{operations_of}
 use Rattle.pas_trace.specs.Plans.{IsPlanOf, bounds_of}
 use Rattle.pas_trace.specs.declared.plan.Plan.{Plan}
 use Rattle.pas_plain.specs.Plain.{profile_of, RegionStands}
@@ -17,25 +19,30 @@ use Rattle.pas_plain.specs.declared.pass.PlainPass.{PlainPass}
 use Rattle.pas_plain.specs.declared.region.PlainRegion.{PlainRegion}
 use Rattle.pas_report.specs.Rooms.{records_in, room_of, Records}
 use Rattle.pas_report.specs.declared.record.Record.{Record}
+use Rattle.pas_guard.specs.Books.{FitsBook, is_outer}
+use Rattle.pas_guard.specs.declared.book.Guard.{Guard}
+use Rattle.pas_guard.specs.declared.book.GuardBook.{GuardBook}
 use Rattle.pas_cache.specs.Caches.{Cached, AtRest}
 use Rattle.pas_cache.specs.declared.cache.ThreadCache.{ThreadCache}
 use Rattle.pas_cache.proofs.FlushesAndFrees.{rests_empty}
-use Rattle.pas_trace.specs.Acts.{acts_of}
 use Rattle.pas_answers.specs.Calls.{owed_events}
-use Rattle.pas_answers.specs.Fit.{AreFit, own_costs_of}
+use Rattle.pas_answers.specs.Fit.{AreFit, AreOfThreads, own_costs_of, kept_costs_of}
 use Rattle.pas_answers.specs.Names.{names_held}
-use Rattle.pas_answers.specs.Replays.{at_start, phases_of, region_of, threads_of, empty_cache, empty_caches, Shows}
+use Rattle.pas_answers.specs.Replays.{at_start, phases_of, region_of, threads_of, keepers_of, acts_of_plan, empty_cache, Shows}
 use Rattle.pas_answers.specs.Ways.{InOrder}
 use Rattle.pas_answers.proofs.Consequences.{replays}
 use Rattle.pas_large.specs.Doors.{Indexes}
 use Rattle.pas_answers.proofs.TrueRefusals.{all_refuse, all_take}
 use Rattle.pas_answers.specs.declared.names.Names.{Names}
 use Rattle.pas_replay.specs.Kits.{IsFresh, IsKitOf, replay_of}
-use Rattle.pas_replay.specs.Sessions.{pass_in, SeatStands, ActorStands, AreEmpty, Replay, Hand, hand_of, GoesBy, SoFar, owed_by}
+use Rattle.pas_replay.specs.Sessions.{pass_in, SeatStands, rests_as, owes_as, ActorStands, records_owed_as, AreEmpty, AreLowered, Replay, Hand, hand_of, GoesBy, SoFar, owed_by}
 use Rattle.pas_replay.specs.declared.kit.PlainKit.{PlainKit}
 use Rattle.pas_replay.specs.declared.seats.Actors.{Actors}
 use Rattle.pas_replay.proofs.Going.{all_rest}
-use Rattle.pas_plans.proofs.PlanFacts.{plan_threads, plan_operate, plan_fit, plan_own, plan_scavenger, plan_total}
+use Rattle.pas_trace.proofs.Keepers.{plan_actors}
+use Rattle.pas_plans.specs.Keepers.{guarded_of}
+use Rattle.pas_plans.proofs.PlanFacts.{plan_operate, plan_fit, plan_own, plan_scavenger, plan_total}
+use Rattle.pas_plans.proofs.KeeperActs.{plan_kept_own, plan_tries, plan_keeps}
 use Rattle.pas_plans.proofs.Nothing.{nothing_owed, nothing, no_slots}
 
 -- an actor that made no step, which rests
@@ -44,26 +51,50 @@ starts_at plan k need slot Rest rest within fresh =
     let room = fresh.room in
     record { pass = fresh.pass; present = fresh.present; actor = fresh.actor; stands = fresh.stands; rest = rest; room = omega (arith, room, within) }
 
-actor_starts : {text : List ℕ} {plan : Plan} {kit : PlainKit} → IsPlanOf text plan → IsKitOf plan kit → (k : ℕ) → k ≤ (region_of plan).threads
-    → ActorStands (region_of plan) k empty_caches (pass_in kit.actors.passes.items k) [] (acts_of (threads_of plan) (phases_of plan))
+-- a thread or a keeper, which made no step and has nothing
+abbrev StartsAs : Bool → Plan → ℕ → Option PlainPass → Type 0
+StartsAs kind plan k slot =
+    SeatStands (region_of plan) k (rests_as kind (region_of plan) empty_cache []) slot [] (owes_as kind (region_of plan) empty_cache [] + (if kind then own_costs_of k (acts_of_plan plan) else kept_costs_of k (acts_of_plan plan)))
+
+actor_starts : {text : List ℕ} {plan : Plan} {kit : PlainKit} → IsPlanOf text plan → IsKitOf plan kit → (k : ℕ) → k ≤ (region_of plan).threads → ActorStands (threads_of plan) (region_of plan) k at_start (pass_in kit.actors.passes.items k) (acts_of_plan plan)
 actor_starts {text} {plan} {kit} read made zero le = let bound = plan_scavenger read in starts_at plan 0 _ (pass_in kit.actors.passes.items 0) HasNothing nothing (omega (arith, bound)) (made.fresh 0 (omega arith))
 actor_starts {text} {plan} {kit} read made (suc i) le =
     let f = region_of plan in
-    let own = plan_own read (suc i) (omega arith) le in
+    let k = suc i in
+    let slot = pass_in kit.actors.passes.items k in
+    let fresh = made.fresh k (omega (arith, le)) in
     let owed = nothing_owed f in
-    starts_at plan (suc i) (owed_events f empty_cache [] + own_costs_of (suc i) (acts_of (threads_of plan) (phases_of plan))) (pass_in kit.actors.passes.items (suc i)) (AtRest f empty_cache) (rests_empty f empty_cache [] refl refl nothing) (omega (arith, own, owed)) (made.fresh (suc i) (omega (arith, le)))
+    elim (cases_lt (threads_of plan) k) [
+      | inl past ↦
+          let own = plan_kept_own read k past le in
+          let starts : StartsAs false plan k slot =
+          starts_at plan k (unknown_pages f [] + kept_costs_of k (acts_of_plan plan)) slot (FitsBook f []) (record { apart = tt; of_region = tt; knows = tt; held = nothing.grains; rights = nothing.rights; clear = nothing.clear }) (omega (arith, own, owed)) fresh in
+          subst (λ (kind : Bool). StartsAs kind plan k slot) (sym (lt-leb k (threads_of plan) past)) starts
+      | inr within ↦
+          let own = plan_own read k (omega arith) (omega (arith, within)) in
+          let starts : StartsAs true plan k slot =
+          starts_at plan k (owed_events f empty_cache [] + own_costs_of k (acts_of_plan plan)) slot (AtRest f empty_cache) (rests_empty f empty_cache [] refl refl nothing) (omega (arith, own, owed)) fresh in
+          subst (λ (kind : Bool). StartsAs kind plan k slot) (sym (le-leb k (threads_of plan) (omega (arith, within)))) starts
+    ]
 
-owed_start : (f : Profile) (n : ℕ) → owed_by f [] empty_caches n ≡ n * f.pages
-owed_start f zero = omega arith
-owed_start f (suc n) =
-    let this = nothing_owed f in
-    let rest = owed_start f n in
+-- each owes a deed of each page
+all_owed : (f : Profile) (kind : Bool) → records_owed_as kind f empty_cache [] [] ≡ f.pages
+all_owed f true = nothing_owed f
+all_owed f false = let owed = nothing_owed f in omega (arith, owed)
+
+owed_start : (threads : ℕ) (f : Profile) (n : ℕ) → owed_by threads f at_start n ≡ n * f.pages
+owed_start threads f zero = omega arith
+owed_start threads f (suc n) =
+    let this = all_owed f (nat_le (suc n) threads) in
+    let rest = owed_start threads f n in
     let more = suc-mul n f.pages in
     omega (arith, this, rest, more)
 
 pub start : {text : List ℕ} {plan : Plan} {kit : PlainKit} {out : Records} → IsPlanOf text plan → IsKitOf plan kit → records_in out ≡ [] → plan.total + length (phases_of plan) + 1 ≤ room_of out → SoFar (replay_of plan) (replay_of plan).acts (hand_of kit.region kit.actors kit.names out)
 start {text} {plan} {kit} {out} read made empty room =
-    let owed = owed_start (region_of plan) (threads_of plan) in
+    let actors = plan_actors plan in
+    let owed = owed_start (threads_of plan) (region_of plan) (threads_of plan + keepers_of plan) in
+    let pages = ap (λ (n : ℕ). n * (region_of plan).pages) actors in
     let total = plan_total read in
     let none = ap (λ (rs : List Record). length rs) empty in (
       at_start,
@@ -71,8 +102,10 @@ start {text} {plan} {kit} {out} read made empty room =
         profile_is = made.profile;
         actors = made.actors;
         many = made.unused.many;
-        threads = plan_threads plan;
+        kept = made.books.many;
+        threads = omega (arith, actors);
         operate = plan_operate read;
+        keep = plan_keeps read;
         places = made.places;
         stands = made.opening;
         each = λ k le. actor_starts read made k le;
@@ -85,9 +118,18 @@ start {text} {plan} {kit} {out} read made empty room =
           known = λ n is. absurd (let bad : false ≡ true = is in cc);
         };
         caches_are = λ i d lt. let many = made.unused.many in sym (made.unused.each i d (omega (arith, lt, many)));
+        books_are = λ i d lt. let many = made.books.many in sym (made.books.empty i d (omega (arith, lt, many)));
+        books_have = λ i d lt.
+            let many = made.books.many in
+            let none = ap (λ (gs : List Guard). length gs) (made.books.empty i d (omega (arith, lt, many))) in
+            let places = made.books.places i d (omega (arith, lt, many)) in
+            let next : i + 1 ≡ suc i = omega arith in
+            let guarded = ap (λ (k : ℕ). guarded_of k (operations_of plan)) next in
+            let tries = plan_tries read (suc i) in
+            omega (arith, none, places, guarded, tries);
         records_are = empty;
-        spare = omega (arith, owed, total, none, room);
-        answers = λ q goes. subst (λ (ix : Indexes). GoesBy (region_of plan) ix (acts_of (threads_of plan) (phases_of plan)) at_start q) made.indexes goes;
+        spare = omega (arith, owed, pages, total, none, room);
+        answers = λ q goes. subst (λ (ix : Indexes). GoesBy (threads_of plan) (region_of plan) ix (acts_of_plan plan) at_start q) made.indexes goes;
       },
     )
 
@@ -95,28 +137,53 @@ some_cache : (caches : List ThreadCache) → 1 ≤ length caches → ThreadCache
 some_cache [] bad = absurd (omega (arith, bad))
 some_cache (cache ∷ caches) some = cache
 
-module _ {r : Replay} {h : Hand} (so : SoFar r [] h) (empty : AreEmpty h.caches) where
-  -- an actor holds, has and owes nothing
-  bare : (k : ℕ) → k ≤ r.threads → HasNothing (part k so.0.list)
-  bare zero most = (so.1.each 0 (omega arith)).rest
-  bare (suc i) most =
+some_book : (books : List GuardBook) → 1 ≤ length books → GuardBook
+some_book [] bad = absurd (omega (arith, bad))
+some_book (book ∷ books) some = book
+
+module _ {r : Replay} {h : Hand} (so : SoFar r [] h) (empty : AreEmpty h.caches) (lowered : AreLowered h.books) where
+  -- a thread has no local allocator, and a keeper no guard
+  bare_thread : (i : ℕ) → suc i ≤ r.threads → HasNothing (part (suc i) so.0.list)
+  bare_thread i most =
+      let f = r.profile in
+      let p = so.0 in
       let count = so.1.threads in
       let many = so.1.many in
       let within : i < length h.caches = omega (arith, most, many) in
       let d = some_cache h.caches (omega (arith, within)) in
-      let rest = (so.1.each (suc i) (omega (arith, most, count))).rest in
-      let none = no_slots (so.0.caches (suc i)).locals (ap (λ (c : Cached). c.locals) (so.1.caches_are i d within) ∙ empty i d within) in
+      let rest = subst (λ (kind : Bool). rests_as kind f (p.caches (suc i)) (p.books (suc i)) (part (suc i) p.list)) (le-leb (suc i) r.threads most) (so.1.each (suc i) (omega (arith, most, count))).rest in
+      let none = no_slots (p.caches (suc i)).locals (ap (λ (c : Cached). c.locals) (so.1.caches_are i d within) ∙ empty i d within) in
       record { grains = λ g. rest.locals.grains g ∙ (none g).0; rights = λ page. rest.locals.rights page ∙ (none page).1; clear = rest.locals.clear }
 
-  pub bare_at : (k : ℕ) → HasNothing (part k so.0.list)
-  bare_at k = elim (cases_lt r.threads k) [ inl past ↦ subst HasNothing (sym (so.1.nobody k past)) nothing | inr within ↦ bare k (omega (arith, within)) ]
+  bare_keeper : (i j : ℕ) → suc i ≡ r.threads + suc j → suc j ≤ r.keepers → HasNothing (part (suc i) so.0.list)
+  bare_keeper i j place most =
+      let f = r.profile in
+      let p = so.0 in
+      let count = so.1.threads in
+      let kept = so.1.kept in
+      let within : j < length h.books = omega (arith, most, kept) in
+      let d = some_book h.books (omega (arith, within)) in
+      let fits = subst (λ (kind : Bool). rests_as kind f (p.caches (suc i)) (p.books (suc i)) (part (suc i) p.list)) (lt-leb (suc i) r.threads (omega (arith, place))) (so.1.each (suc i) (omega (arith, place, most, count))).rest in
+      let none = ap p.books place ∙ so.1.books_are j d within ∙ lowered j d within in
+      record { grains = λ g. fits.held g ∙ ap (λ (gs : List Guard). is_outer gs (g / 256)) none; rights = fits.rights; clear = fits.clear }
 
-pub shows : {plan : Plan} {region : PlainRegion} (actors : Actors) (table : Names) {out : Records} {state : State} (limit : ℕ) → IsValid (region_of plan) → AreFit (region_of plan) limit [] (acts_of (threads_of plan) (phases_of plan))
-    → SoFar (replay_of plan) [] (hand_of region actors table out) → AreEmpty actors.caches.items
+  -- an actor holds, has and owes nothing
+  bare : (k : ℕ) → k ≤ r.threads + r.keepers → HasNothing (part k so.0.list)
+  bare zero most = (so.1.each 0 (omega arith)).rest
+  bare (suc i) most = elim (cases_lt r.threads (suc i)) [
+    | inl past ↦ bare_keeper i (i - r.threads) (omega (arith, past)) (omega (arith, past, most))
+    | inr within ↦ bare_thread i (omega (arith, within))
+  ]
+
+  pub bare_at : (k : ℕ) → HasNothing (part k so.0.list)
+  bare_at k = elim (cases_lt (r.threads + r.keepers) k) [ inl past ↦ subst HasNothing (sym (so.1.nobody k past)) nothing | inr within ↦ bare k (omega (arith, within)) ]
+
+pub shows : {plan : Plan} {region : PlainRegion} (actors : Actors) (table : Names) {out : Records} {state : State} (limit : ℕ) → IsValid (region_of plan) → AreOfThreads (threads_of plan) (acts_of_plan plan) → AreFit (region_of plan) limit [] (acts_of_plan plan)
+    → SoFar (replay_of plan) [] (hand_of region actors table out) → AreEmpty actors.caches.items → AreLowered actors.books.items
     → the_profile_of state ≡ profile_of region
     → ((l : Whole) → RegionStands region l → (w : Word) → IsWordOf (profile_of region) w → word_in state w ≡ word_after l w)
     → Shows InOrder plan (records_in out) state
-shows {plan} {region} actors table {out} {state} limit valid fit so empty profile words =
+shows {plan} {region} actors table {out} {state} limit valid threads fit so empty lowered profile words =
     let p = so.0 in
     let at = so.1 in
     let legal = subst (λ (f : Profile). Legal f p.list) at.profile_is at.stands.legal in
@@ -124,9 +191,9 @@ shows {plan} {region} actors table {out} {state} limit valid fit so empty profil
     let answers = all.0.0 in
     record {
       whole = p.list;
-      replay = replays InOrder plan p p.list (records_in out) valid answers refl at.records_are legal (bare_at so empty)
-          (all_refuse (region_of plan) limit [] (acts_of (threads_of plan) (phases_of plan)) at_start p valid fit legal answers)
-          ((all.0.1, all_take (region_of plan) (acts_of (threads_of plan) (phases_of plan)) at_start p valid legal answers), all.1);
+      replay = replays InOrder plan p p.list (records_in out) valid answers refl at.records_are legal (bare_at so empty lowered)
+          (all_refuse (region_of plan) limit [] (acts_of_plan plan) at_start p valid fit legal answers)
+          ((all.0.1, all_take (region_of plan) (acts_of_plan plan) at_start p valid legal answers), all.1) threads;
       profile = profile ∙ at.profile_is;
       words = λ w of. words p.list at.stands w (subst (λ (f : Profile). IsWordOf f w) (sym at.profile_is) of);
     }

@@ -1,6 +1,5 @@
 -- A kit that nobody used, made for a plan.
 use Rattle.std.specs.Prelude.{ℕ, ◌+◌, ◌<◌, ◌≡◌, [], length, Option, Some, None, slice_index}
-use Rattle.pas_trace.specs.Acts.{acts_of}
 use Rattle.pas_trace.specs.Plans.{bounds_of}
 use Rattle.pas_trace.specs.declared.plan.Plan.{Plan}
 use Rattle.pas_plain.specs.Plain.{profile_of, actor_of, room_of_pass, RegionStands, PassStands}
@@ -8,11 +7,12 @@ use Rattle.pas_plain.specs.declared.pass.PlainPass.{PlainPass}
 use Rattle.pas_large.specs.Doors.{no_ranges}
 use Rattle.pas_answers.specs.Fit.{AllBelow}
 use Rattle.pas_answers.specs.Names.{block_named, names_held}
-use Rattle.pas_answers.specs.Replays.{phases_of, region_of, threads_of}
+use Rattle.pas_answers.specs.Replays.{phases_of, region_of, threads_of, keepers_of, acts_of_plan}
 use Rattle.pas_replay.specs.declared.kit.PlainKit.{PlainKit}
 use Rattle.pas_utility.specs.Outcomes.{places_of}
 use Rattle.pas_replay.specs.Sessions.{pass_in, Replay}
 use Rattle.pas_plans.specs.Parts.{AreUnused}
+use Rattle.pas_plans.specs.Keepers.{AreBooks}
 
 -- an actor that did nothing yet: its pass has room for its bound
 pub record IsFresh (plan : Plan) (k : ℕ) (slot : Option PlainPass) : Type 0 where
@@ -22,13 +22,14 @@ pub record IsFresh (plan : Plan) (k : ℕ) (slot : Option PlainPass) : Type 0 wh
   pub stands : PassStands (region_of plan) pass []
   pub room : room_of_pass pass ≡ slice_index (bounds_of plan.bounds) k
 
--- a pass for each actor of the region, a cache for each thread, and an index for each heap, which holds nothing
+-- a pass for each actor of the region, a cache for each thread, a book for each keeper with a place for each request that it tries, and an index for each heap, which holds nothing
 pub record IsKitOf (plan : Plan) (kit : PlainKit) : Type 0 where
   pub profile : profile_of kit.region ≡ region_of plan
   pub opening : RegionStands kit.region []
   pub actors : length kit.actors.passes.items ≡ (region_of plan).threads + 1
   pub fresh : (k : ℕ) → k < (region_of plan).threads + 1 → IsFresh plan k (pass_in kit.actors.passes.items k)
   pub unused : AreUnused (threads_of plan) kit.actors.caches.items
+  pub books : AreBooks plan kit.actors.books.items
   pub places : places_of kit.actors.outcomes ≡ (region_of plan).pages
   pub indexes : kit.actors.indexes.items ≡ no_ranges (region_of plan).heaps
   pub no_name : (name : ℕ) → block_named kit.names name ≡ None
@@ -37,4 +38,4 @@ pub record IsKitOf (plan : Plan) (kit : PlainKit) : Type 0 where
 
 -- the replay of the plan
 abbrev pub replay_of : Plan → Replay
-replay_of plan = record { profile = region_of plan; threads = threads_of plan; acts = acts_of (threads_of plan) (phases_of plan) }
+replay_of plan = record { profile = region_of plan; threads = threads_of plan; keepers = keepers_of plan; acts = acts_of_plan plan }

@@ -1,6 +1,6 @@
 -- What stands between two acts of a replay: one legal list, for which the region and the pass of each actor stand, and at whose end each thread is at
--- rest with its cache, and the scavenger has nothing.
-use Rattle.std.specs.Prelude.{ℕ, zero, suc, ◌+◌, ◌<◌, ◌≤◌, ◌≡◌, List, [], ◌++◌, length, Option, Some, None, slice_index_or, slice_set}
+-- rest with its cache, each keeper fits its book, and the scavenger has nothing.
+use Rattle.std.specs.Prelude.{ℕ, zero, suc, ◌+◌, ◌<◌, ◌≤◌, ◌≡◌, nat_le, Bool, true, false, if◌then◌else◌, List, [], ◌∷◌, ◌++◌, length, Option, Some, None, slice_index_or, slice_set}
 use Rattle.pas_profile.specs.declared.profile.Profile.{Profile}
 use Rattle.pas_steps.specs.Clear.{HasNothing}
 use Rattle.pas_steps.specs.Events.{events_of}
@@ -12,21 +12,31 @@ use Rattle.pas_plain.specs.declared.region.PlainRegion.{PlainRegion}
 use Rattle.pas_plain.specs.declared.pass.PlainPass.{PlainPass}
 use Rattle.pas_plain.specs.declared.desk.PlainDesk.{PlainDesk}
 use Rattle.pas_report.specs.Rooms.{records_in, room_of, Records}
-use Rattle.pas_cache.specs.Caches.{cached, AtRest}
+use Rattle.pas_steps.specs.Unknown.{unknown_pages}
+use Rattle.pas_guard.specs.Books.{FitsBook, guards_in, size_of_book}
+use Rattle.pas_guard.specs.declared.book.Guard.{Guard}
+use Rattle.pas_guard.specs.declared.book.GuardBook.{GuardBook}
+use Rattle.pas_answers.specs.Keeping.{owed_by_keeper}
+use Rattle.pas_cache.specs.Caches.{Cached, cached, AtRest}
 use Rattle.pas_cache.specs.declared.cache.ThreadCache.{ThreadCache}
 use Rattle.pas_utility.specs.Outcomes.{places_of}
-use Rattle.pas_trace.specs.Acts.{Act, acts_of}
+use Rattle.pas_trace.specs.Acts.{Act, Operates, Guards, Settles, acts_of}
 use Rattle.pas_trace.specs.declared.plan.Op.{Op}
-use Rattle.pas_answers.specs.Answers.{Progress, Named, Caches}
-use Rattle.pas_answers.specs.Calls.{Tells, AllMayStand, AreKnown, owed_events}
-use Rattle.pas_answers.specs.Fit.{AreFit, AreOfThreads, costs_of, own_costs_of, unbacks_of}
+use Rattle.pas_trace.specs.declared.item.Request.{Request}
+use Rattle.pas_trace.specs.declared.plan.Task.{Task}
+use Rattle.pas_answers.specs.Answers.{Progress, Named, Caches, Books}
+use Rattle.pas_answers.specs.Calls.{Tells, MayStand, AllMayStand, AreKnown, named_by, owed_events}
+use Rattle.pas_answers.specs.Fit.{AreFit, AreOfThreads, costs_of, own_costs_of, kept_costs_of, unbacks_of}
 use Rattle.pas_answers.specs.Names.{names_held}
 use Rattle.pas_large.specs.Doors.{Indexes, no_ranges}
 use Rattle.pas_answers.specs.Indexes.{ReachesBy}
 use Rattle.pas_answers.specs.Rests.{AllAtRest}
 use Rattle.pas_answers.specs.Replays.{at_start}
+use Rattle.pas_plans.specs.Tries.{tries_of, AreKeptFor}
+use Rattle.pas_profile.specs.declared.name.Block.{Block}
 use Rattle.pas_answers.specs.declared.names.Names.{Names}
 use Rattle.pas_replay.specs.declared.seats.Actors.{Actors}
+use Rattle.pas_replay.specs.declared.seats.Guarded.{Guarded}
 
 -- ---- passes, by actor; None of the one at the desk
 abbrev pub Slots : Type 0
@@ -73,29 +83,58 @@ pub record SeatStands (f : Profile) (k : ℕ) (Rest : View → Type 0) (slot : O
   pub rest : Rest (part k l)
   pub room : length (events_of k (part k l)) + need ≤ room_of_pass pass
 
--- what is so of the view of actor k between its acts: the scavenger has nothing, a thread is at rest with its cache
-abbrev pub rests : Profile → Caches → ℕ → View → Type 0
-rests f caches zero = HasNothing
-rests f caches (suc i) = AtRest f (caches (suc i))
+-- What is so of the view of actor k between its acts, in a replay of so many threads: the scavenger has nothing, a thread is at rest with its cache, and the
+-- actors behind them, the keepers, fit their books.
+abbrev pub rests_as : Bool → Profile → Cached → List Guard → View → Type 0
+rests_as true f c guards = AtRest f c
+rests_as false f c guards = FitsBook f guards
 
--- the events that it owes then
-abbrev pub owes : Profile → Caches → ℕ → View → ℕ
-owes f caches zero v = 0
-owes f caches (suc i) v = owed_events f (caches (suc i)) v
+abbrev pub rests : ℕ → Profile → Progress → ℕ → View → Type 0
+rests threads f p zero = HasNothing
+rests threads f p (suc i) = rests_as (nat_le (suc i) threads) f (p.caches (suc i)) (p.books (suc i))
 
--- how many events it may make for these acts: the scavenger unbacks each page once in a pass
-abbrev pub own_events : Profile → ℕ → List Act → ℕ
-own_events f zero acts = unbacks_of f acts
-own_events f (suc i) acts = own_costs_of (suc i) acts
+-- the events that it owes then: a keeper a deed of each page that it doesn't know
+abbrev pub owes_as : Bool → Profile → Cached → View → ℕ
+owes_as true f c v = owed_events f c v
+owes_as false f c v = unknown_pages f v
+
+abbrev pub owes : ℕ → Profile → Progress → ℕ → View → ℕ
+owes threads f p zero v = 0
+owes threads f p (suc i) v = owes_as (nat_le (suc i) threads) f (p.caches (suc i)) v
+
+-- how many events it may make for these acts: the scavenger unbacks each page once in a pass, and a keeper tries requests
+abbrev pub own_events : ℕ → Profile → ℕ → List Act → ℕ
+own_events threads f zero acts = unbacks_of f acts
+own_events threads f (suc i) acts = if nat_le (suc i) threads then own_costs_of (suc i) acts else kept_costs_of (suc i) acts
 
 -- actor k stands, with room for what it owes and for its acts among those that are left
-abbrev pub ActorStands : Profile → ℕ → Caches → Option PlainPass → Whole → List Act → Type 0
-ActorStands f k caches slot l acts = SeatStands f k (rests f caches k) slot l (owes f caches k (part k l) + own_events f k acts)
+abbrev pub ActorStands : ℕ → Profile → ℕ → Progress → Option PlainPass → List Act → Type 0
+ActorStands threads f k p slot acts = SeatStands f k (rests threads f p k) slot p.list (owes threads f p k (part k p.list) + own_events threads f k acts)
 
--- the events that the first n threads owe
-abbrev pub owed_by : Profile → Whole → Caches → ℕ → ℕ
-owed_by f l caches zero = 0
-owed_by f l caches (suc n) = owed_events f (caches (suc n)) (part (suc n) l) + owed_by f l caches n
+-- the records that actor k owes: a keeper says of each guard that it is lowered
+abbrev pub records_owed_as : Bool → Profile → Cached → List Guard → View → ℕ
+records_owed_as true f c guards v = owed_events f c v
+records_owed_as false f c guards v = owed_by_keeper f guards v
+
+abbrev pub owed_of : ℕ → Profile → Progress → ℕ → ℕ
+owed_of threads f p k = records_owed_as (nat_le k threads) f (p.caches k) (p.books k) (part k p.list)
+
+-- .. the first n actors after the scavenger
+abbrev pub owed_by : ℕ → Profile → Progress → ℕ → ℕ
+owed_by threads f p zero = 0
+owed_by threads f p (suc n) = owed_of threads f p (suc n) + owed_by threads f p n
+
+-- what the books of the keepers have, who are the actors behind so many threads
+abbrev pub HaveBooks : ℕ → Books → List GuardBook → Type 0
+HaveBooks threads books list = (i : ℕ) (d : GuardBook) → i < length list → books (threads + suc i) ≡ guards_in (slice_index_or list i d)
+
+-- .. each has a place for a guard of each request that it may still try
+abbrev pub HavePlaces : ℕ → List GuardBook → List Act → Type 0
+HavePlaces threads list acts = (i : ℕ) (d : GuardBook) → i < length list → length (guards_in (slice_index_or list i d)) + tries_of (threads + suc i) acts ≤ size_of_book (slice_index_or list i d)
+
+-- no book has a guard
+abbrev pub AreLowered : List GuardBook → Type 0
+AreLowered list = (i : ℕ) (d : GuardBook) → i < length list → guards_in (slice_index_or list i d) ≡ []
 
 -- what the caches hold
 abbrev pub AreCaches : Caches → List ThreadCache → Type 0
@@ -106,10 +145,11 @@ abbrev pub AreEmpty : List ThreadCache → Type 0
 AreEmpty list = (i : ℕ) (d : ThreadCache) → i < length list → (cached (slice_index_or list i d)).locals ≡ []
 
 -- ---- the replay goes on
--- a replay: the profile of its region, how many threads it has, and all its acts
+-- a replay: the profile of its region, how many threads and keepers it has, and all its acts
 pub record Replay : Type 0 where
   pub profile : Profile
   pub threads : ℕ
+  pub keepers : ℕ
   pub acts : List Act
 
 -- what a replay has in hand between two acts
@@ -117,6 +157,7 @@ pub record Hand : Type 0 where
   pub region : PlainRegion
   pub passes : Slots
   pub caches : List ThreadCache
+  pub books : List GuardBook
   pub places : ℕ
   pub indexes : Indexes
   pub table : Names
@@ -128,6 +169,7 @@ hand_of region actors table out = record {
   region = region;
   passes = actors.passes.items;
   caches = actors.caches.items;
+  books = actors.books.items;
   places = places_of actors.outcomes;
   indexes = actors.indexes.items;
   table = table;
@@ -140,6 +182,7 @@ hand_at desk actors table out = record {
   region = region_of desk;
   passes = risen desk actors.passes.items;
   caches = actors.caches.items;
+  books = actors.books.items;
   places = places_of actors.outcomes;
   indexes = actors.indexes.items;
   table = table;
@@ -154,35 +197,39 @@ pub record HasNames (f : Profile) (acts : List Act) (table : Names) (names : Lis
   pub stand : AllMayStand f table
   pub known : AreKnown asked names
 
--- acts that take a replay from p to q, with the runs that the indexes name, all actors being at rest between them
-abbrev pub GoesBy : Profile → Indexes → List Act → Progress → Progress → Type 0
-GoesBy f indexes acts p q = (is : ReachesBy f indexes acts p q) × AllAtRest f acts p q is.0
+-- acts that take a replay of so many threads from p to q, with the runs that the indexes name, all actors being at rest between them
+abbrev pub GoesBy : ℕ → Profile → Indexes → List Act → Progress → Progress → Type 0
+GoesBy threads f indexes acts p q = (is : ReachesBy f indexes acts p q) × AllAtRest threads f acts p q is.0
 
 -- These acts of the replay are left, and it came as far as p: wherever they take it from here so, all of its acts take it from the start, where the indexes held
--- nothing. Each actor of the region stands. There is a cache for each thread. The threads are actors of the region, those operations are theirs, and beside them only the scavenger
--- made steps. There is room for what the acts may make.
+-- nothing. Each actor of the region stands. There is a cache for each thread, and a book for each keeper. The threads and keepers are actors of the region,
+-- those operations are theirs, and beside them only the scavenger made steps. There is room for what the acts may make.
 pub record IsAt (r : Replay) (acts : List Act) (h : Hand) (p : Progress) : Type 0 where
   pub profile_is : profile_of h.region ≡ r.profile
   pub actors : length h.passes ≡ r.profile.threads + 1
   pub many : length h.caches ≡ r.threads
-  pub threads : r.threads ≤ r.profile.threads
+  pub kept : length h.books ≡ r.keepers
+  pub threads : r.threads + r.keepers ≤ r.profile.threads
   pub operate : AreOfThreads r.threads acts
+  pub keep : AreKeptFor r.threads r.keepers acts
   pub places : h.places ≡ r.profile.pages
   pub stands : RegionStands h.region p.list
-  pub each : (k : ℕ) → k ≤ r.profile.threads → ActorStands r.profile k p.caches (pass_in h.passes k) p.list acts
-  pub nobody : (k : ℕ) → r.threads < k → part k p.list ≡ []
+  pub each : (k : ℕ) → k ≤ r.profile.threads → ActorStands r.threads r.profile k p (pass_in h.passes k) acts
+  pub nobody : (k : ℕ) → r.threads + r.keepers < k → part k p.list ≡ []
   pub names : HasNames r.profile acts h.table p.names
   pub caches_are : AreCaches p.caches h.caches
+  pub books_are : HaveBooks r.threads p.books h.books
+  pub books_have : HavePlaces r.threads h.books acts
   pub records_are : records_in h.out ≡ p.records
-  pub spare : length (records_in h.out) + (owed_by r.profile p.list p.caches r.threads + costs_of r.profile acts) ≤ room_of h.out
-  pub answers : (q : Progress) → GoesBy r.profile h.indexes acts p q → GoesBy r.profile (no_ranges r.profile.heaps) r.acts at_start q
+  pub spare : length (records_in h.out) + (owed_by r.threads r.profile p (r.threads + r.keepers) + costs_of r.profile acts) ≤ room_of h.out
+  pub answers : (q : Progress) → GoesBy r.threads r.profile h.indexes acts p q → GoesBy r.threads r.profile (no_ranges r.profile.heaps) r.acts at_start q
 
 abbrev pub SoFar : Replay → List Act → Hand → Type 0
 SoFar r acts h = (p : Progress) × IsAt r acts h p
 
 -- the whole replay of these phases
 abbrev pub Replays : List (List Op) → Hand → Hand → Type 0
-Replays phases before after = (r : Replay) → r.acts ≡ acts_of r.threads phases → SoFar r r.acts before → SoFar r [] after
+Replays phases before after = (r : Replay) → r.acts ≡ acts_of r.threads r.keepers phases → SoFar r r.acts before → SoFar r [] after
 
 -- ---- at the desk
 -- what a replay has in hand while an actor sits there
@@ -206,6 +253,29 @@ MayGoOn acts s = (r : Replay) × (more : List Act) × SoFarAt r (acts r.threads 
 -- in each replay in which these acts come next, those after them are left afterwards
 abbrev pub GoesOn : (ℕ → List Act) → Session → Session → Type 0
 GoesOn acts before after = (r : Replay) (more : List Act) → SoFarAt r (acts r.threads ++ more) before → SoFarAt r more after
+
+-- ---- a guarded request, whose keeper tries it first
+-- the task that asks for it
+abbrev pub task_of : Guarded → Task
+task_of request = Task.Guarded request.keeper request.name request.heap request.size request.align
+
+-- .. as a request
+abbrev pub asked_by : Guarded → Request
+asked_by request = record { name = request.name; heap = request.heap; size = request.size; align = request.align }
+
+-- the table has the name that the operation asked for, with what it came to
+pub record HasNamed (op : Op) (came : Option Block) (before after : Names) : Type 0 where
+  pub held : names_held after ≡ names_held before
+  pub tells : (known : List Named) → Tells before known → Tells after (named_by op.what came ++ known)
+  pub stand : (f : Profile) → AllMayStand f before → MayStand f came → AllMayStand f after
+
+-- Where it gave no block, the operation is left to its thread, as any. Where it gave one, nothing but what the cache noted is left of it, once its name stands
+-- for the block.
+abbrev pub HasTried : Op → ℕ → Option Block → Session → Session → Type 0
+HasTried op keeper None before after = (r : Replay) (more : List Act)
+    → SoFarAt r (Guards keeper op ∷ (Settles op.actor ∷ more)) before → SoFarAt r (Operates op ∷ (Settles op.actor ∷ more)) after
+HasTried op keeper (Some block) before after = (r : Replay) (more : List Act) (table : Names) → HasNamed op (Some block) before.table table
+    → SoFarAt r (Guards keeper op ∷ (Settles op.actor ∷ more)) before → SoFarAt r (Settles op.actor ∷ more) (session after.desk after.actors table after.out)
 
 -- ---- the same, where the scavenger read this epoch last for an idle operation
 abbrev pub HasRead : ℕ → Replay → List Act → Session → Type 0

@@ -15,13 +15,13 @@ use pas_report::Records;
 use pas_steps::State;
 use pas_trace::Plan;
 
-/// Whether all operations of the plan are of one thread: it has no other, and the scavenger has none. Two looks at the plan, however long it is:
+/// Whether all operations of the plan are of one thread: it has no other, no keeper, and the scavenger has none. Two looks at the plan, however long it is:
 /// the scavenger's bound counts one record at least for each of its operations, so that 0 tells that there is none.
 pub fn is_of_one_thread(plan: &Plan) -> bool
     requires { (text : List ℕ) × IsPlanOf text plan.now }
     ensures { IsTrue result ↔ IsOfOneThread plan.now }
 {
-    plan.profile.threads == 1 && plan.bounds.as_slice()[SCAVENGER as usize] == 0
+    plan.profile.threads == 1 && plan.guard == 0 && plan.bounds.as_slice()[SCAVENGER as usize] == 0
 }
 
 /// Replays a plan of one thread in the order of the text. All that is said of a replay on threads holds of it: where one actor works there is

@@ -14,7 +14,7 @@ use pas_answers::Remake;
 use pas_answers::names::Names;
 use pas_large_index::LargeIndex;
 use pas_plain::{PlainPass, PlainRegion, close};
-use pas_plans::{caches_for, outcomes_from, rooms_of};
+use pas_plans::{books_for, caches_for, outcomes_from, region_of, rooms_of};
 use pas_profile::NoMemory;
 use pas_report::Records;
 use pas_steps::State;
@@ -70,9 +70,10 @@ impl PlainKit {
         requires { (text : List ℕ) × IsPlanOf text plan.now }
         ensures { IfOk result (λ kit. IsKitOf plan.now kit) }
     {
-        let mut utility = Utility::try_new(alloc, &plan.profile, plan.bounds.as_slice())?;
-        let rooms = rooms_of(alloc, &mut utility, plan.profile.threads)?;
-        let (region, mut passes) = PlainRegion::try_new(alloc, plan.profile, rooms)?;
+        let profile = region_of(plan);
+        let mut utility = Utility::try_new(alloc, &profile, plan.bounds.as_slice())?;
+        let rooms = rooms_of(alloc, &mut utility, profile.threads)?;
+        let (region, mut passes) = PlainRegion::try_new(alloc, profile, rooms)?;
         let places = places_for(alloc, &mut passes)?;
         let caches = caches_for(alloc, &mut utility, plan.profile.threads)?;
         let names = Names::try_new(alloc, plan.names_limit)?;
@@ -80,6 +81,7 @@ impl PlainKit {
         let actors = Actors {
             passes: places,
             caches,
+            books: books_for(alloc, plan)?,
             outcomes: outcomes_from(&mut utility),
             indexes,
         };

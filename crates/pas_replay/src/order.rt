@@ -1,13 +1,19 @@
 //! The phases of a plan in order, and the close.
-ghost use Rattle.std.specs.Prelude.{◌≡◌, ◌+◌, ◌<◌, ◌≤◌, ◌^◌, map, length, [], ◌∷◌};
+ghost use Rattle.std.specs.Prelude.{◌≡◌, ◌+◌, ◌<◌, ◌≤◌, ◌^◌, ◌++◌, List, map, length, [], ◌∷◌};
+ghost use Rattle.pas_trace.specs.Asked.{keeper_of};
 ghost use Rattle.pas_trace.specs.Plans.{ops_of};
-ghost use Rattle.pas_trace.specs.Acts.{Wakes, ReadsEpoch, Ends, numbers_from, idle_stops, acts_of_op, acts_of_ops, acts_of};
-ghost use Rattle.pas_replay.specs.Sessions.{Replay, SoFar, AreEmpty, MayGoOn, GoesOn, Replays, hand_of, session};
+ghost use Rattle.pas_trace.specs.declared.plan.Op.{Op as TheOp};
+ghost use Rattle.pas_answers.specs.Calls.{what_of};
+ghost use Rattle.pas_trace.specs.Acts.{Act, act_kept, Settles, Wakes, ReadsEpoch, Ends, Lowers, numbers_from, idle_stops, acts_of_op, acts_of_ops, acts_of};
+ghost use Rattle.pas_replay.specs.Sessions.{Replay, SoFar, SoFarAt, AreEmpty, AreLowered, MayGoOn, GoesOn, Replays, hand_of, session};
 ghost use Rattle.pas_plans.specs.Awake.{awake_in, idle_in};
 ghost use Rattle.pas_report.specs.Rooms.{Records as TheRecords};
 ghost use Rattle.pas_answers.specs.declared.names.Names.{Names as TheNames};
 
-use crate::seats::{Actors, end, operate, pass, read_epoch, rise, sit, stop_if_idle, tick, wake};
+use crate::seats::{
+    Actors, Guarded, end, guard, lower, operate, pass, read_epoch, rise, sit, stop_if_idle, tick,
+    wake,
+};
 use pas_acts::at_desk::SCAVENGER;
 use pas_answers::Remake;
 use pas_answers::names::Names;
@@ -15,7 +21,7 @@ use pas_bits::Mask4;
 use pas_plain::{PlainDesk, PlainRegion};
 use pas_plans::active;
 use pas_report::{Record, Records};
-use pas_trace::{Chore, Op, Phase, What, Work};
+use pas_trace::{Chore, Op, Phase, Task, What, Work};
 
 /// The number of the phase that begins without a mark.
 const UNMARKED: u32 = 1;
@@ -59,6 +65,31 @@ fn stop_idle(
     }
 }
 
+/// The thread of this number does the task: a guarded request with its keeper, and any other alone.
+#[inline(always)]
+fn own<M: Remake>(
+    desk: &mut PlainDesk,
+    actors: &mut Actors,
+    names: &mut Names,
+    remaker: &M,
+    actor: u8,
+    task: Task,
+    out: &mut Records,
+)
+    requires some { 1 ≤ actor }
+    requires thread { actor ≤ length actors.old.caches.items }
+    requires so_far { (op : TheOp) × (op.actor ≡ actor) × (op.what ≡ what_of task)
+        × MayGoOn (λ n. act_kept (keeper_of task) op ∷ (Settles op.actor ∷ [])) (session desk.old actors.old names.old out.old) }
+    ensures threads { length actors.new.caches.items ≡ length actors.old.caches.items }
+    ensures so_far { (op : TheOp) → op.actor ≡ actor → op.what ≡ what_of task
+        → GoesOn (λ n. act_kept (keeper_of task) op ∷ (Settles op.actor ∷ [])) (session desk.old actors.old names.old out.old) (session desk.new actors.new names.new out.new) }
+{
+    match Guarded::of(task) {
+        Some(request) => guard(desk, actors, names, remaker, actor, request, out),
+        None => operate(desk, actors, names, remaker, actor, task, out),
+    }
+}
+
 /// Performs an operation, in a phase in which these threads have one.
 #[inline(always)]
 fn perform<M: Remake>(
@@ -76,7 +107,7 @@ fn perform<M: Remake>(
     ensures so_far { GoesOn (λ n. acts_of_op (idle_in awake n) op) (session desk.old actors.old names.old out.old) (session desk.new actors.new names.new out.new) }
 {
     match op.work() {
-        Work::Own(task) => operate(desk, actors, names, remaker, op.actor, task, out),
+        Work::Own(task) => own(desk, actors, names, remaker, op.actor, task, out),
         Work::Chore(Chore::Tick(epoch)) => tick(desk, actors, epoch, out),
         Work::Chore(Chore::Pass) => pass(desk, actors, out),
         Work::Chore(Chore::Idle(epochs)) => stop_idle(desk, actors, awake, epochs, out),
@@ -159,8 +190,26 @@ fn stop_all(desk: &mut PlainDesk, actors: &mut Actors, out: &mut Records)
     }
 }
 
-/// Performs the phases in order, with a mark before each from the second on, and closes: a mark, and the stop of each thread. The region stays
-/// at one desk, at which the actors take turns.
+/// Each keeper, in order, lowers all its guards: those of the threads, which are the actors behind them. There are none in a plan that isn't guarded.
+fn lower_all(desk: &mut PlainDesk, actors: &mut Actors, out: &mut Records)
+    requires few { length actors.old.caches.items < 32 }
+    requires books { length actors.old.books.items ≤ length actors.old.caches.items }
+    requires so_far { (table : TheNames) × (r : Replay) × (more : List Act)
+        × SoFarAt r (map Lowers (numbers_from (r.threads + 1) r.keepers) ++ more) (session desk.old actors.old table out.old) }
+    ensures caches { actors.new.caches ≡ actors.old.caches }
+    ensures so_far { (table : TheNames) (r : Replay) (more : List Act)
+        → SoFarAt r (map Lowers (numbers_from (r.threads + 1) r.keepers) ++ more) (session desk.old actors.old table out.old) → SoFarAt r more (session desk.new actors.new table out.new) }
+    ensures lowered { AreLowered actors.new.books.items }
+{
+    let threads = actors.caches.len() as u8;
+    for index in 0..actors.books.len() {
+        let actor = index as u8 + 1;
+        lower(desk, actors, actor, threads + actor, out);
+    }
+}
+
+/// Performs the phases in order, with a mark before each from the second on, and closes: a mark, the stop of each thread, and the last sweep of each keeper.
+/// The region stays at one desk, at which the actors take turns.
 pub(crate) fn replay<M: Remake>(
     region: PlainRegion,
     actors: &mut Actors,
@@ -171,9 +220,11 @@ pub(crate) fn replay<M: Remake>(
 ) -> PlainRegion
     requires phases { length phases.now < 2 ^ 32 }
     requires few { length actors.old.caches.items < 32 }
-    requires so_far { (r : Replay) × (r.acts ≡ acts_of r.threads (map ops_of phases.now)) × SoFar r r.acts (hand_of region actors.old names.old out.old) }
+    requires books { length actors.old.books.items ≤ length actors.old.caches.items }
+    requires so_far { (r : Replay) × (r.acts ≡ acts_of r.threads r.keepers (map ops_of phases.now)) × SoFar r r.acts (hand_of region actors.old names.old out.old) }
     ensures so_far { Replays (map ops_of phases.now) (hand_of region actors.old names.old out.old) (hand_of result actors.new names.new out.new) }
     ensures empty { AreEmpty actors.new.caches.items }
+    ensures lowered { AreLowered actors.new.books.items }
 {
     let mut desk = sit(region, actors, SCAVENGER);
     let mut number = 0;
@@ -196,5 +247,6 @@ pub(crate) fn replay<M: Remake>(
     }
     out.push(Record::Close);
     stop_all(&mut desk, actors, out);
+    lower_all(&mut desk, actors, out);
     rise(desk, actors)
 }

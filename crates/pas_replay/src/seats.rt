@@ -1,14 +1,18 @@
 //! The actors' places at the region. One sits at the desk at a time.
-ghost use Rattle.std.specs.Prelude.{◌≡◌, ◌≢◌, ◌<◌, ◌-◌, ◌≤◌, ◌++◌, ℕ, List, [], ◌∷◌, length, option_and_then, slice_set};
+ghost use Rattle.std.specs.Prelude.{◌≡◌, ◌≢◌, ◌<◌, ◌+◌, ◌-◌, ◌≤◌, ◌++◌, ℕ, List, None, [], ◌∷◌, length, MatchOption, option_and_then, slice_set};
 ghost use Rattle.pas_profile.specs.declared.profile.Profile.{Profile as TheProfile};
 ghost use Rattle.pas_plain.specs.Plain.{actor_of};
 ghost use Rattle.pas_plain.specs.Seats.{pass_of, standing_of};
+ghost use Rattle.pas_plain.specs.declared.desk.PlainDesk.{PlainDesk as TheDesk};
 ghost use Rattle.pas_cache.specs.Caches.{cached};
 ghost use Rattle.pas_cache.specs.declared.cache.ThreadCache.{ThreadCache as TheCache};
+ghost use Rattle.pas_guard.specs.Books.{guards_in};
+ghost use Rattle.pas_guard.specs.declared.book.GuardBook.{GuardBook as TheBook};
 ghost use Rattle.pas_report.specs.Rooms.{Records as TheRecords};
-ghost use Rattle.pas_trace.specs.Asked.{request_of, freed_of};
-ghost use Rattle.pas_trace.specs.Acts.{Act, Operates, Settles, Ticks, MakesPass, ReadsEpoch, StopsIdle, Wakes, Ends};
-ghost use Rattle.pas_answers.specs.Answers.{Named, Progress};
+ghost use Rattle.pas_trace.specs.Asked.{request_of, freed_of, keeper_of};
+ghost use Rattle.pas_trace.specs.Acts.{Act, Operates, Guards, Settles, Ticks, MakesPass, ReadsEpoch, StopsIdle, Wakes, Ends, Lowers};
+ghost use Rattle.pas_answers.specs.Answers.{Named, Progress, settled};
+ghost use Rattle.pas_answers.specs.Indexes.{with_noted};
 ghost use Rattle.pas_acts.specs.Works.{Later};
 ghost use Rattle.pas_acts.specs.AtDesks.{here, MayOperate};
 ghost use Rattle.pas_replay.specs.Operating.{ActsByIndexes};
@@ -17,13 +21,14 @@ ghost use Rattle.pas_trace.specs.declared.plan.Op.{Op as TheOp};
 ghost use Rattle.pas_answers.specs.Fit.{IsFitWhat};
 ghost use Rattle.pas_answers.specs.Names.{block_named, names_held};
 ghost use Rattle.pas_answers.specs.declared.names.Names.{Names as TheNames};
-ghost use Rattle.pas_replay.specs.Sessions.{Replay, pass_in, hand_of, hand_at, session, IsTaken, MaySit, MayTakeSeat, TakesSeat, SoFarAt, MayGoOn, GoesOn, HasRead, MayGoOnAt, GoesOnAt};
+ghost use Rattle.pas_replay.specs.Sessions.{Replay, pass_in, hand_of, hand_at, session, IsTaken, MaySit, MayTakeSeat, TakesSeat, SoFarAt, MayGoOn, GoesOn, HasRead, MayGoOnAt, GoesOnAt, task_of, HasTried};
 
 use pas_acts::at_desk::SCAVENGER;
-use pas_acts::{at_desk, turns};
+use pas_acts::{at_desk, keepers, turns};
 use pas_answers::Remake;
 use pas_answers::names::Names;
 use pas_cache::ThreadCache;
+use pas_guard::GuardBook;
 use pas_large::PlainDoor;
 use pas_large_index::LargeIndex;
 use pas_plain::{PlainDesk, PlainPass, PlainRegion};
@@ -42,6 +47,8 @@ pub(crate) struct Actors {
     pub(crate) caches: Vec<ThreadCache>,
     /// The scavenger's list for what a pass comes to.
     pub(crate) outcomes: Outcomes,
+    /// By thread, from thread 1 on: what its keeper has up. None in a plan that isn't guarded.
+    pub(crate) books: Vec<GuardBook>,
     /// By heap: the pages where large blocks ended, which a large request is given first.
     pub(crate) indexes: Vec<LargeIndex>,
 }
@@ -52,6 +59,7 @@ pub(crate) fn sit(region: PlainRegion, actors: &mut Actors, actor: u8) -> PlainD
     requires may { MaySit region (pass_in actors.old.passes.items actor) actor }
     ensures taken { IsTaken result actors.new.passes.items }
     ensures caches { actors.new.caches ≡ actors.old.caches }
+    ensures books { actors.new.books ≡ actors.old.books }
     ensures hand { (table : TheNames) (out : TheRecords) → hand_of region actors.old table out ≡ hand_at result actors.new table out }
 {
     let Some(pass) = actors.passes[actor as usize].take() else {
@@ -64,6 +72,7 @@ pub(crate) fn sit(region: PlainRegion, actors: &mut Actors, actor: u8) -> PlainD
 pub(crate) fn rise(desk: PlainDesk, actors: &mut Actors) -> PlainRegion
     requires { IsTaken desk actors.old.passes.items }
     ensures caches { actors.new.caches ≡ actors.old.caches }
+    ensures books { actors.new.books ≡ actors.old.books }
     ensures hand { (table : TheNames) (out : TheRecords) → hand_at desk actors.old table out ≡ hand_of result actors.new table out }
 {
     let place = desk.actor() as usize;
@@ -120,6 +129,7 @@ fn keep(names: &mut Names, task: Task, came: Option<Block>)
 {
     match task {
         Task::Request { name, .. } => names.set(name, came),
+        Task::Guarded { name, .. } => names.set(name, came),
         Task::Remake { name, .. } => names.set(name, came),
         _ => {}
     }
@@ -182,6 +192,150 @@ pub(crate) fn operate<M: Remake>(
     let meant = freed(names, task);
     let came = operate_by(desk, &mut actors.indexes, cache, remaker, task, meant, out);
     keep(names, task, came);
+}
+
+/// A guarded request of a thread, with the number of its keeper.
+#[derive(Clone, Copy, Drop)]
+pub(crate) struct Guarded {
+    keeper: u8,
+    name: u32,
+    heap: u8,
+    size: u32,
+    align: u32,
+}
+
+impl Guarded {
+    /// What is asked for, where the task is a guarded request.
+    #[inline(always)]
+    pub(crate) fn of(task: Task) -> Option<Guarded>
+        ensures { MatchOption result (keeper_of task ≡ None) (λ request. task ≡ task_of request) }
+    {
+        match task {
+            Task::Guarded {
+                keeper,
+                name,
+                heap,
+                size,
+                align,
+            } => Some(Guarded {
+                keeper,
+                name,
+                heap,
+                size,
+                align,
+            }),
+            _ => None,
+        }
+    }
+
+    /// The task that asks for it.
+    fn task(self) -> Task
+        ensures { result ≡ task_of self }
+    {
+        Task::Guarded {
+            keeper: self.keeper,
+            name: self.name,
+            heap: self.heap,
+            size: self.size,
+            align: self.align,
+        }
+    }
+}
+
+/// The keeper of the thread of this number tries its request: it lowers the guards of blocks that ended, and raises one. The block that it gave, if any.
+fn try_by(
+    desk: &mut PlainDesk,
+    actors: &mut Actors,
+    actor: u8,
+    request: Guarded,
+    out: &mut Records,
+) -> Option<Block>
+    requires so_far { (op : TheOp) × (op.actor ≡ actor) × (op.what ≡ what_of (task_of request)) × (table : TheNames)
+        × MayGoOn (λ n. Guards request.keeper op ∷ (Settles op.actor ∷ [])) (session desk.old actors.old table out.old) }
+    ensures threads { length actors.new.caches.items ≡ length actors.old.caches.items }
+    ensures tried { (op : TheOp) (table : TheNames) → op.actor ≡ actor → op.what ≡ what_of (task_of request)
+        → HasTried op request.keeper result (session desk.old actors.old table out.old) (session desk.new actors.new table out.new) }
+{
+    take_seat(desk, &mut actors.passes, request.keeper);
+    let book = &mut actors.books[actor as usize - 1];
+    keepers::try_guarded(
+        desk,
+        book,
+        request.name,
+        request.heap,
+        request.size,
+        request.align,
+        out,
+    )
+}
+
+/// The indexes take the runs of large blocks that the cache noted.
+fn settle_by(indexes: &mut [LargeIndex], cache: &mut ThreadCache)
+    ensures cache { cached cache.new ≡ settled (cached cache.old) }
+    ensures indexes { indexes.new ≡ with_noted indexes.old (cached cache.old).noted }
+{
+    let mut plain = PlainDoor::new(indexes);
+    cache.settle(&mut plain);
+}
+
+/// The indexes take the runs of large blocks that the cache of the thread of this number noted, whoever sits at the desk.
+fn settle(actors: &mut Actors, actor: u8)
+    requires some { 1 ≤ actor }
+    requires thread { actor ≤ length actors.old.caches.items }
+    ensures threads { length actors.new.caches.items ≡ length actors.old.caches.items }
+    ensures so_far { (desk : TheDesk) (table : TheNames) (out : TheRecords) → GoesOn (λ n. Settles actor ∷ []) (session desk actors.old table out) (session desk actors.new table out) }
+{
+    let cache = &mut actors.caches[actor as usize - 1];
+    settle_by(&mut actors.indexes, cache);
+}
+
+/// The thread of this number makes the guarded request: its keeper tries it first, and where that gave no block it is served or refused as any other. In both
+/// ways the indexes take the runs of large blocks that the thread's cache noted.
+pub(crate) fn guard<M: Remake>(
+    desk: &mut PlainDesk,
+    actors: &mut Actors,
+    names: &mut Names,
+    remaker: &M,
+    actor: u8,
+    request: Guarded,
+    out: &mut Records,
+)
+    requires some { 1 ≤ actor }
+    requires thread { actor ≤ length actors.old.caches.items }
+    requires so_far { (op : TheOp) × (op.actor ≡ actor) × (op.what ≡ what_of (task_of request))
+        × MayGoOn (λ n. Guards request.keeper op ∷ (Settles op.actor ∷ [])) (session desk.old actors.old names.old out.old) }
+    ensures threads { length actors.new.caches.items ≡ length actors.old.caches.items }
+    ensures so_far { (op : TheOp) → op.actor ≡ actor → op.what ≡ what_of (task_of request)
+        → GoesOn (λ n. Guards request.keeper op ∷ (Settles op.actor ∷ [])) (session desk.old actors.old names.old out.old) (session desk.new actors.new names.new out.new) }
+{
+    match try_by(desk, actors, actor, request, out) {
+        Some(block) => {
+            keep(names, request.task(), Some(block));
+            settle(actors, actor);
+        }
+        None => operate(desk, actors, names, remaker, actor, request.task(), out),
+    }
+}
+
+/// The keeper of the thread of this number lowers all its guards, as the replay closes. Its book is empty then.
+pub(crate) fn lower(
+    desk: &mut PlainDesk,
+    actors: &mut Actors,
+    actor: u8,
+    keeper: u8,
+    out: &mut Records,
+)
+    requires some { 1 ≤ actor }
+    requires thread { actor ≤ length actors.old.books.items }
+    requires keeper { keeper ≡ length actors.old.caches.items + actor }
+    requires so_far { (table : TheNames) × MayGoOn (λ n. Lowers keeper ∷ []) (session desk.old actors.old table out.old) }
+    ensures caches { actors.new.caches ≡ actors.old.caches }
+    ensures book { (book : TheBook) × (actors.new.books.items ≡ slice_set actors.old.books.items (actor - 1) book) × (guards_in book ≡ []) }
+    ensures so_far { (table : TheNames) → GoesOn (λ n. Lowers keeper ∷ []) (session desk.old actors.old table out.old) (session desk.new actors.new table out.new) }
+{
+    take_seat(desk, &mut actors.passes, keeper);
+    let book = &mut actors.books[actor as usize - 1];
+    keepers::lower_all(desk, book, out);
 }
 
 /// The thread of this number is stopped, as the replay closes. Its cache is empty then.

@@ -153,7 +153,7 @@ module _ (f : Profile) (k : ℕ) (entry : Entry) (p : Progress) (w : World) (c' 
   q = with_steps p k steps emptied
 
   between : IsBetween f q
-  between = record { legal = after.legal; rest = record { threads = λ j is. rest_at j (j == k) (part j q.list) (after.rest.threads j is); scavenger = after.rest.scavenger } }
+  between = record { legal = after.legal; rest = record { working = λ j is. rest_at j (j == k) (part j q.list) (after.rest.working j is); keeping = after.rest.keeping; scavenger = after.rest.scavenger } }
 
   flushed_first : IsSame f (with_records q (records_of (events_by k (part k p.list) steps))) (flushes f k w)
   flushed_first = flush_same f k p w steps emptied valid thread before same usable both.0 refl between
@@ -180,6 +180,7 @@ module _ (f : Profile) (k : ℕ) (entry : Entry) (p : Progress) (w : World) (c' 
   added = record {
     pages = pages_next f q.list q.list v (set_cache k new v) flushed_first.pages (unchanged q.list) (cache_state v k new refl);
     caches = same_again f p.caches (adds k entry v).caches k emptied c' (same_with f (with_cached p.caches k emptied) v.caches k c' new thread flushed_first.caches new_same);
+    guards = flushed_first.guards;
     names = flushed_first.names;
     records = ap (λ (rs : List Record). p.records ++ rs) (nothing_more (records_of (events_by k (part k p.list) steps))) ∙ flushed_first.records;
     epoch = flushed_first.epoch;
@@ -240,8 +241,9 @@ free_sized_act f line k name room is p p' w usable taken = name_any f k p p' w i
 named_same : (f : Profile) (k name : ℕ) (o : Option Block) (said : TheSaid) (p : Progress) (w : World) → IsSame f p w → IsSame f (after_with p k [] (Some said) (named name o ∷ p.names) (p.caches k)) (names_it name o (says (Record.Said k said) w))
 named_same f k name o said p w same =
     let to : IsSame f (after_with p k [] (Some said) p.names (p.caches k)) (says (Record.Said k said) w) = said_same f k said p w same in record {
-      pages = pages_next f p.list p.list w (names_it name o (says (Record.Said k said) w)) same.pages (unchanged p.list) (record { events = refl; live = refl; hinted = refl; locals = refl });
+      pages = pages_next f p.list p.list w (names_it name o (says (Record.Said k said) w)) same.pages (unchanged p.list) (record { events = refl; live = refl; hinted = refl; locals = refl; guards = refl });
       caches = to.caches;
+      guards = to.guards;
       names = ap (λ (ns : List Named). named name o ∷ ns) same.names;
       records = to.records;
       epoch = to.epoch;

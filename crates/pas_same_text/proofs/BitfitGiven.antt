@@ -181,7 +181,7 @@ module _ (f : Profile) (k name heap size align : ℕ) (p p' : Progress) (w : Wor
   agreed = agreed_steps f k l search valid legal_search
 
   may : MaySearch d own
-  may = may_search_bitfit f own heap c.locals (before.rest.threads k thread).locals
+  may = may_search_bitfit f own heap c.locals (before.rest.working k thread).locals
 
   of_page : IsPage f page
   of_page = given.served.page
@@ -244,7 +244,7 @@ module _ (f : Profile) (k name heap size align : ℕ) (p p' : Progress) (w : Wor
 
   -- ---- what was free
   old : HasSame f p w
-  old = record { events = same.pages.events; live = same.pages.live; caches = same.caches }
+  old = record { events = same.pages.events; live = same.pages.live; caches = same.caches; guards = same.guards }
 
   read_free : (b : ℕ) → b < 256 → in_run first n b ≡ true → free_of_page l page b ≡ true
   read_free b small kept = by_bit (free_of_page l page b) refl
@@ -313,6 +313,7 @@ module _ (f : Profile) (k name heap size align : ℕ) (p p' : Progress) (w : Wor
     events = ap (λ (b : Block). Event.Give k b ∷ (shown es w).events) (sym block_is) ∙ (ap (λ (xs : List Event). Event.Give k block ∷ xs) (shown_events es w ∙ ap (λ (base : List Event). es ++ base) same.pages.events) ∙ sym visible_are);
     live = ap (λ (bs : List Block). told ∷ bs) (shown_lives es w same.pages.live);
     caches = subst (AreSameCaches f (with_cached p.caches k c)) (sym (shown_rest es w).caches) (same_kept f p.caches w.caches k same.caches);
+    guards = (shown_rest es w).guards ∙ same.guards;
   }
 
   -- ---- other pages
@@ -462,6 +463,7 @@ module _ (f : Profile) (k name heap size align : ℕ) (p p' : Progress) (w : Wor
       offered = offers_kept f k p q w v d page search rest searched_to own_offer;
     };
     caches = same_now.caches;
+    guards = same_now.guards;
     names = ap (λ (b : Block). named name (Some b) ∷ (shown es w).names) (sym block_is) ∙ ap (λ (ns : List Named). named name (Some block) ∷ ns) ((shown_rest es w).names ∙ same.names);
     records = ap (λ (rs : List Record). p.records ++ rs) (nothing_more (records_of (events_by k own (rest ++ search))))
         ∙ (ap (λ (xs : List Event). p.records ++ records_of xs) (given.events k own)

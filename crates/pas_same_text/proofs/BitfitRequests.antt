@@ -123,7 +123,7 @@ module _ (f : Profile) (k name heap size align : ℕ) (p p' : Progress) (w : Wor
   -- nothing could serve before, and the reason is true after
   truly : IsTrueRefusal f (wanted_for f heap size align) c.locals p.list (triples k a.steps ++ p.list) room
   truly = subst (λ (r : Route). IsTrulyRefusedBy r f (wanted_for f heap size align) c.locals p.list (triples k a.steps ++ p.list) room) route
-      (truly_refused f heap size align k a.found c a.cache p.list a.steps room valid admitted (before.rest.threads k thread) there.legal by_own)
+      (truly_refused f heap size align k a.found c a.cache p.list a.steps room valid admitted (before.rest.working k thread) there.legal by_own)
 
   reason : IsTrueReason f d (triples k a.steps ++ p.list) room
   reason = subst (λ (e : Directory). IsTrueReason f e (triples k a.steps ++ p.list) room) home truly.reason
@@ -132,7 +132,7 @@ module _ (f : Profile) (k name heap size align : ℕ) (p p' : Progress) (w : Wor
   unfit = subst (λ (e : Directory). HasNoFit (NoneFits (run_for bytes align)) f e p.list) home (subst (λ (r : Route). HasNoFit (no_fit_by r bytes align) f (directory_for f heap size align) p.list) route truly.entry_fit)
 
   old : HasSame f p w
-  old = record { events = same.pages.events; live = same.pages.live; caches = same.caches }
+  old = record { events = same.pages.events; live = same.pages.live; caches = same.caches; guards = same.guards }
 
   some : 1 ≤ bytes / 16
   some = let low = (bitfit_room f.classes size align route).0 in omega (arith, low)

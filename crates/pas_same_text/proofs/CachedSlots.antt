@@ -39,7 +39,7 @@ use Rattle.pas_answers.specs.Answers.{Progress, Named, named, Answer, having, Is
 use Rattle.pas_answers.specs.Answers.{block_of as block_answered}
 use Rattle.pas_one_text.specs.State.{Local, World, cache_of, locals_of}
 use Rattle.pas_one_text.specs.Classes.{is_for, others, gives_first, gives_up, fetches, serves_class, serves_class_by}
-use Rattle.pas_one_text.specs.Pages.{is_free, is_kept, is_of, has_room, is_offered}
+use Rattle.pas_one_text.specs.Pages.{is_free, has_room, is_offered}
 use Rattle.pas_one_text.specs.Searches.{some_of, address_on}
 use Rattle.pas_same_text.specs.Same.{IsSame, HasSame, IsSameCache, IsSameLocal, AreSameLocals, IsRising, has_number}
 use Rattle.pas_one_text.specs.Order.{serves}
@@ -47,6 +47,7 @@ use Rattle.pas_same_text.specs.Acts.{IsBetween, StaysSameWhere, HasCachedSlot}
 use Rattle.pas_same_text.proofs.CacheLists.{same_with}
 use Rattle.pas_same_text.proofs.FreeGrains.{free_same}
 use Rattle.pas_same_text.proofs.GivenBack.{each_same}
+use Rattle.pas_same_text.proofs.GivenPages.{had_room}
 use Rattle.pas_same_text.proofs.LoggedFrees.{after_with}
 use Rattle.pas_same_text.proofs.RestingPages.{bit_offered, offered_bit}
 use Rattle.pas_same_text.proofs.SameLocals.{Finds, found_same, others_same, last_same, head_lowest, rest_same}
@@ -160,10 +161,11 @@ module _ (f : Profile) (k name : ℕ) (p : Progress) (w : World) (s s' : Slots) 
     events = ap (λ (b : Block). Event.Give k b ∷ w.events) (sym block_is) ∙ ap (λ (es : List Event). Event.Give k block ∷ es) g.same.pages.events;
     live = ap (λ (bs : List Block). text_block w l n ∷ bs) g.same.pages.live;
     caches = same_with f p.caches w.caches k c' (record (cache_of w k) { locals = text_locals w k l more }) g.thread g.same.caches cache_same;
+    guards = g.same.guards;
   }
 
   before_same : HasSame f p w
-  before_same = record { events = g.same.pages.events; live = g.same.pages.live; caches = g.same.caches }
+  before_same = record { events = g.same.pages.events; live = g.same.pages.live; caches = g.same.caches; guards = g.same.guards }
 
   free_kept : (q b : ℕ) → b < 256 → is_free to q b ≡ is_free w q b
   free_kept q b small =
@@ -173,18 +175,16 @@ module _ (f : Profile) (k name : ℕ) (p : Progress) (w : World) (s s' : Slots) 
   room_kept : (d : Directory) (q : ℕ) → has_room to d q ≡ has_room w d q
   room_kept d q = room_same w to d q (free_kept q)
 
-  had_room : (d : Directory) (q : ℕ) → is_offered w d q ≡ true → has_room w d q ≡ true
-  had_room d q h = and_second (not (is_kept w q)) (has_room w d q) (and_second (is_of w d q) (not (is_kept w q) && has_room w d q) h)
-
   offered_kept : (q : ℕ) (d : Directory) → IsDirectoryOf f d → is_offered to d q ≡ eligible_bit (given_to p k name block answer page start word c').list (number_of d) q
   offered_kept q d of = same_truth (is_offered to d q) (eligible_bit (given_to p k name block answer page start word c').list (number_of d) q)
       (offered_bit f (given_to p k name block answer page start word c') to g.valid g.after has_same q d of)
-      (λ h. bit_offered f (given_to p k name block answer page start word c') to g.valid g.after has_same q d of h (room_kept d q ∙ had_room d q (g.same.pages.offered q d of ∙ h)))
+      (λ h. bit_offered f (given_to p k name block answer page start word c') to g.valid g.after has_same q d of h (room_kept d q ∙ had_room w d q (g.same.pages.offered q d of ∙ h)))
 
   pub given_same : IsSame f (given_to p k name block answer page start word c') to
   given_same = record {
     pages = record { events = has_same.events; live = has_same.live; hinted = g.same.pages.hinted; offered = offered_kept };
     caches = has_same.caches;
+    guards = g.same.guards;
     names = ap (λ (b : Block). named name (Some b) ∷ w.names) (sym block_is) ∙ ap (λ (ns : List Named). named name (Some block) ∷ ns) g.same.names;
     records = ap (λ (b : Block). p.records ++ Record.Event (Event.Give k b) ∷ []) block_is ∙ records_next p.records w.records (Record.Event (Event.Give k (text_block w l n))) g.same.records;
     epoch = g.same.epoch;

@@ -45,6 +45,7 @@ use Rattle.pas_same_text.proofs.FreeGrains.{free_same, holder_is}
 use Rattle.pas_same_text.proofs.GivenPages.{IsGivenBack, room_from, covered_not_held, free_left, given_pages}
 use Rattle.pas_same_text.proofs.GivingBack.{OffersPage, hint_marks, offer_marks, offered_of_region, epoch_stays_by}
 use Rattle.pas_same_text.proofs.RestingPages.{deed_now}
+use Rattle.pas_same_text.proofs.StillIndexes.{same_guards, flushes_keep}
 
 -- ---- records
 map_reversed : (es : List Event) → map Record.Event (reverse es) ≡ reverse (map Record.Event es)
@@ -155,6 +156,7 @@ module _ (f : Profile) (k : ℕ) (p : Progress) (w : World) (steps : List Made) 
     events = to.events;
     live = to.live;
     caches = subst (λ (c : Cached). AreSameCaches f (with_cached p.caches k c) v.caches) cache_is to.same;
+    guards = same_guards w v (flushes_keep f k w) ∙ same.guards;
   }
 
   -- the caches have the grains that they had
@@ -165,8 +167,8 @@ module _ (f : Profile) (k : ℕ) (p : Progress) (w : World) (steps : List Made) 
   pub still_held : (j g : ℕ) → holds (part j (with_steps p k steps c').list) g ≡ true → holds (part j p.list) g ≡ true
   still_held j g held =
       let is : IsThread f j = holder_is f (with_steps p k steps c') v valid after flush_has j g held in
-      (before.rest.threads j is).locals.grains g
-      ∙ (ap (λ (ls : List Slots). any_covers ls g) (sym (kept_at j (j == k) refl)) ∙ (sym ((after.rest.threads j is).locals.grains g) ∙ held))
+      (before.rest.working j is).locals.grains g
+      ∙ (ap (λ (ls : List Slots). any_covers ls g) (sym (kept_at j (j == k) refl)) ∙ (sym ((after.rest.working j is).locals.grains g) ∙ held))
 
   given : IsGivenBack f k p.list w steps v
   given = record {
@@ -187,6 +189,7 @@ module _ (f : Profile) (k : ℕ) (p : Progress) (w : World) (steps : List Made) 
   flush_same = record {
     pages = given_pages f k p.list (with_steps p k steps c') w v steps valid same.pages refl after flush_has given;
     caches = flush_has.caches;
+    guards = flush_has.guards;
     names = to.names ∙ same.names;
     records = events_recorded p.records w.records v.records (events_by k (part k p.list) steps) same.records (flush_records f k p w steps c'.noted valid thread same legal h);
     epoch = to.epoch ∙ (same.epoch ∙ sym (epoch_stays_by freeing refl k steps p.list to.kinds));

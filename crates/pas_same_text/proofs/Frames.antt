@@ -1,5 +1,5 @@
 -- What an act that changes no page keeps.
-use Rattle.std.proofs.Common.{◌≡◌, ℕ, ◌/◌, ◌%◌, ◌==◌, Bool, true, false, not, ◌&&◌, if◌then◌else◌, List, ◌∷◌, refl, ap, sym, ◌∙◌}
+use Rattle.std.proofs.Common.{◌≡◌, ℕ, ◌/◌, ◌%◌, ◌==◌, Bool, true, false, not, ◌&&◌, ◌||◌, if◌then◌else◌, List, ◌∷◌, refl, ap, sym, ◌∙◌}
 use Rattle.pas_profile.specs.Directories.{number_of}
 use Rattle.pas_profile.specs.declared.directory.Directory.{Directory}
 use Rattle.pas_profile.specs.declared.event.Event.{Event}
@@ -13,7 +13,7 @@ use Rattle.pas_steps.specs.Lists.{Whole, word_after, visible}
 use Rattle.pas_steps.specs.Desks.{made, triple}
 use Rattle.pas_steps.specs.declared.step.Step.TheVariants.{Look, Tick}
 use Rattle.pas_core.specs.Rights.{empty_bit, eligible_bit}
-use Rattle.pas_one_text.specs.State.{Local, World}
+use Rattle.pas_one_text.specs.State.{Local, Guard, World}
 use Rattle.pas_one_text.specs.Pages.{is_offered, is_same, is_free_of, each_of}
 use Rattle.pas_bits.specs.Runs.{meets_page}
 use Rattle.pas_profile.specs.Blocks.{grain_of, length_of}
@@ -56,26 +56,24 @@ pub record HaveSameState (w w' : World) : Type 0 where
   pub live : w'.live ≡ w.live
   pub hinted : w'.hinted ≡ w.hinted
   pub locals : all_locals w'.caches ≡ all_locals w.caches
+  pub guards : w'.guards ≡ w.guards
 
--- ---- offers, by the events, the live blocks and the local allocators that a state has
-abbrev offered_of : List Event → List Block → List Local → Directory → ℕ → Bool
-offered_of events live locals d page = is_same d (deed_in events page) && (not (list_any (λ l. l.keeps) (filter (λ l. l.page == page) locals))
-    && not (each_of 0 256 (λ b. not (usable_by_kind d.kind b && is_free_of (filter (λ x. meets_page (grain_of x.name) (length_of x) page) live) (filter (λ l. l.page == page) locals) page b))))
+-- ---- offers, by the events, the live blocks, the local allocators and the guards that a state has
+abbrev offered_of : List Event → List Block → List Local → List Guard → Directory → ℕ → Bool
+offered_of events live locals guards d page = is_same d (deed_in events page) && (not (list_any (λ l. l.keeps) (filter (λ l. l.page == page) locals))
+    && (not (list_any (λ g. (g.low == page) || (g.high == page)) guards) && not (each_of 0 256 (λ b. not (usable_by_kind d.kind b && is_free_of (filter (λ x. meets_page (grain_of x.name) (length_of x) page) live) (filter (λ l. l.page == page) locals) page b)))))
 
-offered_is : (w : World) (d : Directory) (page : ℕ) → is_offered w d page ≡ offered_of w.events w.live (all_locals w.caches) d page
+offered_is : (w : World) (d : Directory) (page : ℕ) → is_offered w d page ≡ offered_of w.events w.live (all_locals w.caches) w.guards d page
 offered_is w d page = refl
 
 pub offered_same : (w w' : World) (d : Directory) (page : ℕ) → HaveSameState w w' → is_offered w' d page ≡ is_offered w d page
 offered_same w w' d page same =
     offered_is w' d page
-    ∙ (ap (λ (es : List Event). offered_of es w'.live (all_locals w'.caches) d page) same.events
-    ∙ (ap (λ (bs : List Block). offered_of w.events bs (all_locals w'.caches) d page) same.live
-    ∙ (ap (λ (ls : List Local). offered_of w.events w.live ls d page) same.locals
-    ∙ sym (offered_is w d page))))
-
--- the pages are the same where the caches' local allocators are
-pub unmoved : (w w' : World) → w'.events ≡ w.events → w'.live ≡ w.live → w'.hinted ≡ w.hinted → all_locals w'.caches ≡ all_locals w.caches → HaveSameState w w'
-unmoved w w' events live hinted locals = record { events = events; live = live; hinted = hinted; locals = locals }
+    ∙ (ap (λ (es : List Event). offered_of es w'.live (all_locals w'.caches) w'.guards d page) same.events
+    ∙ (ap (λ (bs : List Block). offered_of w.events bs (all_locals w'.caches) w'.guards d page) same.live
+    ∙ (ap (λ (ls : List Local). offered_of w.events w.live ls w'.guards d page) same.locals
+    ∙ (ap (λ (gs : List Guard). offered_of w.events w.live (all_locals w.caches) gs d page) same.guards
+    ∙ sym (offered_is w d page)))))
 
 -- ---- both together
 pub pages_next : (f : Profile) (l l' : Whole) (w w' : World) → ArePagesSame f l w → HaveSamePages l l' → HaveSameState w w' → ArePagesSame f l' w'

@@ -79,8 +79,8 @@ module _ (f : Profile) (p : Progress) (w : World) (valid : IsValid f) (between :
   -- ---- caches
   cache_grains : (k page b : ℕ) → b < 256 → IsThread f k → list_any (has_grain page b) (cache_in w.caches k).locals ≡ holds (part k p.list) (256 * page + b)
   cache_grains k page b small is =
-      grains_same f (part k p.list) (p.caches k).locals (cache_in w.caches k).locals page b small (same.caches.each k is).locals (between.rest.threads k is).locals.known
-      ∙ sym ((between.rest.threads k is).locals.grains (256 * page + b))
+      grains_same f (part k p.list) (p.caches k).locals (cache_in w.caches k).locals page b small (same.caches.each k is).locals (between.rest.working k is).locals.known
+      ∙ sym ((between.rest.working k is).locals.grains (256 * page + b))
 
   cached_none : (page b : ℕ) → b < 256 → ((k : ℕ) → holds (part k p.list) (256 * page + b) ≡ false) → is_cached (locals_on w page) b ≡ false
   cached_none page b small nobody = false_from_ne_true (is_cached (locals_on w page) b) (λ h.

@@ -24,7 +24,7 @@ use Rattle.pas_rights.specs.Looks.{HintsEmpty}
 use Rattle.pas_free_log.specs.Frames.{freeing}
 use Rattle.pas_answers.specs.Answers.{Progress}
 use Rattle.pas_one_text.specs.State.{World}
-use Rattle.pas_one_text.specs.Pages.{each_of, is_free, is_empty, is_hinted, is_kept, is_of, is_offered, has_room}
+use Rattle.pas_one_text.specs.Pages.{each_of, is_free, is_empty, is_hinted, is_kept, is_guarded, is_of, is_offered, has_room}
 use Rattle.pas_same_text.specs.Same.{HasSame, ArePagesSame, has_number}
 use Rattle.pas_same_text.specs.Acts.{IsBetween}
 use Rattle.pas_same_text.specs.Words.{free_bit}
@@ -61,7 +61,7 @@ room_grows w v d page grows room =
     (grows o.number o.high (and_second (usable_by_kind d.kind o.number) (is_free w page o.number) both))
 
 pub had_room : (w : World) (d : Directory) (q : ℕ) → is_offered w d q ≡ true → has_room w d q ≡ true
-had_room w d q h = and_second (not (is_kept w q)) (has_room w d q) (and_second (is_of w d q) (not (is_kept w q) && has_room w d q) h)
+had_room w d q h = and_second (not (is_guarded w q)) (has_room w d q) (and_second (not (is_kept w q)) (not (is_guarded w q) && has_room w d q) (and_second (is_of w d q) (not (is_kept w q) && (not (is_guarded w q) && has_room w d q)) h))
 
 -- ---- grains of a legal list
 -- a grain of a live block is held by nobody

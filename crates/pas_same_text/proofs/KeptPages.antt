@@ -42,7 +42,7 @@ all_kept (s ∷ slots) (l ∷ locals) page same =
 
 module _ (f : Profile) (p : Progress) (w : World) (valid : IsValid f) (between : IsBetween f p) (same : HasSame f p w) where
   cache_keeps : (k page : ℕ) → IsThread f k → list_any (keeps_page page) (cache_in w.caches k).locals ≡ has_right (part k p.list) page
-  cache_keeps k page is = all_kept (p.caches k).locals (cache_in w.caches k).locals page (same.caches.each k is).locals ∙ sym ((between.rest.threads k is).locals.rights page)
+  cache_keeps k page is = all_kept (p.caches k).locals (cache_in w.caches k).locals page (same.caches.each k is).locals ∙ sym ((between.rest.working k is).locals.rights page)
 
   -- a page that is kept is in some thread's hands
   pub keeper : (page : ℕ) → is_kept w page ≡ true → (k : ℕ) × (has_right (part k p.list) page ≡ true)

@@ -27,9 +27,11 @@ mod StopActs
 mod BackActs
 mod UsableBlocks
 mod WholeText
+mod Unguarded
 mod AllActs
 mod SearchedPages
 mod Stamped
+mod StillIndexes
 mod SameIndexes
 mod SearchMarks
 mod SearchedMarks

@@ -39,8 +39,9 @@ after_with p k steps said names c = with_records (record (with_steps p k steps c
 -- ---- an answer without a step, which changes nothing but says something
 pub said_same : (f : Profile) (k : ℕ) (said : TheSaid) (p : Progress) (w : World) → IsSame f p w → IsSame f (after_with p k [] (Some said) p.names (p.caches k)) (says (Record.Said k said) w)
 said_same f k said p w same = record {
-  pages = pages_next f p.list p.list w (says (Record.Said k said) w) same.pages (unchanged p.list) (record { events = refl; live = refl; hinted = refl; locals = refl });
+  pages = pages_next f p.list p.list w (says (Record.Said k said) w) same.pages (unchanged p.list) (record { events = refl; live = refl; hinted = refl; locals = refl; guards = refl });
   caches = same_kept f p.caches w.caches k same.caches;
+  guards = same.guards;
   names = same.names;
   records = records_next p.records w.records (Record.Said k said) same.records;
   epoch = same.epoch;
@@ -64,6 +65,7 @@ added_same f k entry p w is same =
       pages = pages_next f p.list p.list w (set_cache k new w) same.pages (unchanged p.list) (cache_state w k new refl);
       caches = same_with f p.caches w.caches k (with_entry (p.caches k) entry) new is same.caches
           (record { locals = was.locals; log = ap (λ (es : List Entry). es ++ entry ∷ []) was.log; noted = was.noted; began = was.began });
+      guards = same.guards;
       names = same.names;
       records = nothing_more p.records ∙ same.records;
       epoch = same.epoch;

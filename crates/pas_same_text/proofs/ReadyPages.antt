@@ -39,13 +39,14 @@ shown_lives (e ∷ es) w is = ap (live_after e) (shown_lives es w is)
 pub record HasRest (w v : World) : Type 0 where
   pub names : v.names ≡ w.names
   pub caches : v.caches ≡ w.caches
+  pub guards : v.guards ≡ w.guards
   pub hinted : v.hinted ≡ w.hinted
   pub epoch : v.epoch ≡ w.epoch
   pub read : v.read ≡ w.read
 
 pub shown_rest : (es : List Event) (w : World) → HasRest w (shown es w)
-shown_rest [] w = record { names = refl; caches = refl; hinted = refl; epoch = refl; read = refl }
-shown_rest (e ∷ es) w = let r = shown_rest es w in record { names = r.names; caches = r.caches; hinted = r.hinted; epoch = r.epoch; read = r.read }
+shown_rest [] w = record { names = refl; caches = refl; guards = refl; hinted = refl; epoch = refl; read = refl }
+shown_rest (e ∷ es) w = let r = shown_rest es w in record { names = r.names; caches = r.caches; guards = r.guards; hinted = r.hinted; epoch = r.epoch; read = r.read }
 
 -- ---- events at one page
 -- its deed by actor k, or its backing

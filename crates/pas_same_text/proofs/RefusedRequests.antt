@@ -52,10 +52,10 @@ module _ (f : Profile) (k name : ℕ) (p : Progress) (w : World) (d : Directory)
   shown = visible_steps k steps p.list ∙ ap (λ (es : List Event). es ++ visible p.list) no_event
 
   old : HasSame f p w
-  old = record { events = same.pages.events; live = same.pages.live; caches = same.caches }
+  old = record { events = same.pages.events; live = same.pages.live; caches = same.caches; guards = same.guards }
 
   now : HasSame f p' v
-  now = record { events = same.pages.events ∙ sym shown; live = same.pages.live; caches = same_kept f p.caches w.caches k same.caches }
+  now = record { events = same.pages.events ∙ sym shown; live = same.pages.live; caches = same_kept f p.caches w.caches k same.caches; guards = same.guards }
 
   searched : (page : ℕ) → IsSearchedTo f k p p' w v d page steps []
   searched page = record {
@@ -91,6 +91,7 @@ module _ (f : Profile) (k name : ℕ) (p : Progress) (w : World) (d : Directory)
       offered = λ q e of_e. offer_other f k p p' w v d (suc q) steps [] (searched (suc q)) q e (beside q) of_e;
     };
     caches = now.caches;
+    guards = same.guards;
     names = ap (λ (ns : List Named). named name None ∷ ns) same.names;
     records = ap (λ (es : List Event). p.records ++ (records_of es ++ Record.Said k (said_of_room name room) ∷ [])) no_event ∙ records_next p.records w.records (Record.Said k (said_of_room name room)) same.records;
     epoch = same.epoch ∙ sym (epoch_stays_by allocating refl k steps p.list (only_within searching allocating steps refl searches.kinds));

@@ -1,5 +1,5 @@
 -- Pages whenever all actors are at rest: a page with room that nobody keeps is offered, and an offered page is offered in the text where it has room.
-use Rattle.std.proofs.Common.{◌≡◌, ℕ, zero, suc, ◌+◌, ◌*◌, ◌/◌, ◌%◌, ◌<◌, ◌≤◌, ◌==◌, Bool, true, false, not, ◌&&◌, List, Option, None, Some, inl, inr, refl, ap, sym, ◌∙◌, arith}
+use Rattle.std.proofs.Common.{◌≡◌, ℕ, zero, suc, ◌+◌, ◌*◌, ◌/◌, ◌%◌, ◌<◌, ◌≤◌, ◌==◌, Bool, true, false, not, ◌&&◌, ◌||◌, List, Option, None, Some, inl, inr, refl, ap, sym, ◌∙◌, arith}
 use Rattle.std.proofs.lemmas.Bool.{eq-eqb, eqb-true, false≢true, true≢false, and_cases, and_from, not_from_false, false_from_ne_true}
 use Rattle.pas_bits.specs.Bits.{has_bit}
 use Rattle.pas_profile.specs.Directories.{number_of, deed_word_of, deed_word_numbered, directory_read, IsKind}
@@ -12,6 +12,7 @@ use Rattle.pas_profile.proofs.Codecs.{numbered, deed_word_of-positive, read-deed
 use Rattle.pas_machine.specs.State.{deed_in}
 use Rattle.pas_steps.specs.Clear.{IsClear}
 use Rattle.pas_steps.specs.Lists.{part, word_after, visible}
+use Rattle.std.specs.List.{list_any}
 use Rattle.pas_steps.specs.Views.{usable_by, usable_by_kind}
 use Rattle.pas_core.specs.Good.{word_of_deed}
 use Rattle.pas_core.specs.Rights.{eligible_bit, IsUsableFree, IsRightOffered, IsRightInOnePlace}
@@ -19,8 +20,8 @@ use Rattle.pas_core.proofs.Deeds.{deed_of, directory_is_of}
 use Rattle.pas_core.proofs.Offers.{offered_at_rest}
 use Rattle.pas_core.proofs.Rights.{right_in_one_place}
 use Rattle.pas_answers.specs.Answers.{Progress}
-use Rattle.pas_one_text.specs.State.{World}
-use Rattle.pas_one_text.specs.Pages.{each_of, is_same, is_of, is_kept, is_free, has_room, is_offered}
+use Rattle.pas_one_text.specs.State.{Guard, World}
+use Rattle.pas_one_text.specs.Pages.{each_of, is_same, is_of, is_kept, is_guarded, is_free, has_room, is_offered}
 use Rattle.pas_same_text.specs.Same.{HasSame}
 use Rattle.pas_same_text.specs.Acts.{IsBetween}
 use Rattle.pas_same_text.proofs.FreeGrains.{free_same}
@@ -72,7 +73,7 @@ not-no false h = absurd (true≢false h)
 module _ (f : Profile) (p : Progress) (w : World) (valid : IsValid f) (between : IsBetween f p) (same : HasSame f p w) where
   pub clear_of : (k : ℕ) → k ≤ f.threads → IsClear (part k p.list)
   clear_of zero le = between.rest.scavenger.clear
-  clear_of (suc i) le = let some : 1 ≤ suc i = omega arith in (between.rest.threads (suc i) (some, le)).locals.clear
+  clear_of (suc i) le = let some : 1 ≤ suc i = omega arith in (between.rest.working (suc i) (some, le)).locals.clear
 
   pub deed_now : (page : ℕ) (d : Directory) → IsDirectoryOf f d → is_of w d page ≡ true → deed_in (visible p.list) page ≡ Some d
   deed_now page d of h =
@@ -114,10 +115,10 @@ module _ (f : Profile) (p : Progress) (w : World) (valid : IsValid f) (between :
 
   pub offered_bit : (page : ℕ) (d : Directory) → IsDirectoryOf f d → is_offered w d page ≡ true → eligible_bit p.list (number_of d) page ≡ true
   offered_bit page d of h =
-      let own : is_of w d page ≡ true = and_first (is_of w d page) (not (is_kept w page) && has_room w d page) h in
-      let rest : (not (is_kept w page) && has_room w d page) ≡ true = and_second (is_of w d page) (not (is_kept w page) && has_room w d page) h in
-      let kept : is_kept w page ≡ false = no-not (is_kept w page) (and_first (not (is_kept w page)) (has_room w d page) rest) in
-      let room : has_room w d page ≡ true = and_second (not (is_kept w page)) (has_room w d page) rest in
+      let own : is_of w d page ≡ true = and_first (is_of w d page) (not (is_kept w page) && (not (is_guarded w page) && has_room w d page)) h in
+      let rest : (not (is_kept w page) && (not (is_guarded w page) && has_room w d page)) ≡ true = and_second (is_of w d page) (not (is_kept w page) && (not (is_guarded w page) && has_room w d page)) h in
+      let kept : is_kept w page ≡ false = no-not (is_kept w page) (and_first (not (is_kept w page)) (not (is_guarded w page) && has_room w d page) rest) in
+      let room : has_room w d page ≡ true = and_second (not (is_guarded w page)) (has_room w d page) (and_second (not (is_kept w page)) (not (is_guarded w page) && has_room w d page) rest) in
       let o : Fails 0 256 (λ b. not (usable_by_kind d.kind b && is_free w page b)) = some_fails 256 0 (λ b. not (usable_by_kind d.kind b && is_free w page b)) (no-not (each_of 0 256 (λ b. not (usable_by_kind d.kind b && is_free w page b))) room) in
       let both : (usable_by_kind d.kind o.number && is_free w page o.number) ≡ true = not-no (usable_by_kind d.kind o.number && is_free w page o.number) o.fails in
       let small : o.number < 256 = o.high in
@@ -144,8 +145,13 @@ module _ (f : Profile) (p : Progress) (w : World) (valid : IsValid f) (between :
       )
   bit_tells page d of (inr (inr (inr parked))) h = absurd (false≢true (sym (parked.not_offered (number_of d)) ∙ h))
 
+  -- no page is guarded
+  unguarded : (page : ℕ) → is_guarded w page ≡ false
+  unguarded page = ap (λ (gs : List Guard). list_any (λ g. (g.low == page) || (g.high == page)) gs) same.guards
+
   pub bit_offered : (page : ℕ) (d : Directory) → IsDirectoryOf f d → eligible_bit p.list (number_of d) page ≡ true → has_room w d page ≡ true → is_offered w d page ≡ true
   bit_offered page d of h room =
       let told = bit_tells page d of (right_in_one_place f p.list between.legal page) h in
-      and_from (is_of w d page) (not (is_kept w page) && has_room w d page) told.0
-      (and_from (not (is_kept w page)) (has_room w d page) (not_from_false (is_kept w page) told.1) room)
+      and_from (is_of w d page) (not (is_kept w page) && (not (is_guarded w page) && has_room w d page)) told.0
+      (and_from (not (is_kept w page)) (not (is_guarded w page) && has_room w d page) (not_from_false (is_kept w page) told.1)
+      (and_from (not (is_guarded w page)) (has_room w d page) (not_from_false (is_guarded w page) (unguarded page)) room))

@@ -26,15 +26,12 @@ use Rattle.pas_same_text.proofs.Frames.{unchanged, look_word, look_pages, tick_p
 pub records_next : (rs ws : List Record) (r : Record) → rs ≡ reverse ws → rs ++ r ∷ [] ≡ reverse (r ∷ ws)
 records_next rs ws r is = ap (λ (xs : List Record). xs ++ r ∷ []) is ∙ sym (reverse_onto ws r [])
 
--- states of the same events, blocks, hints and caches
-same_state : (w : World) → HaveSameState w w
-same_state w = record { events = refl; live = refl; hinted = refl; locals = refl }
-
 -- a line is said
 pub says_same : (f : Profile) (p : Progress) (w : World) (r : Record) → IsSame f p w → IsSame f (with_records p (r ∷ [])) (says r w)
 says_same f p w r same = record {
-  pages = pages_next f p.list p.list w (says r w) same.pages (unchanged p.list) (record { events = refl; live = refl; hinted = refl; locals = refl });
+  pages = pages_next f p.list p.list w (says r w) same.pages (unchanged p.list) (record { events = refl; live = refl; hinted = refl; locals = refl; guards = refl });
   caches = same.caches;
+  guards = same.guards;
   names = same.names;
   records = records_next p.records w.records r same.records;
   epoch = same.epoch;
@@ -50,7 +47,7 @@ close_same f p p' w taken = subst (λ (q : Progress). IsSame f q (says Record.Cl
 
 -- ---- a cache changes, and no local allocator of it
 pub cache_state : (w : World) (k : ℕ) (new : Cache) → new.locals ≡ (cache_of w k).locals → HaveSameState w (set_cache k new w)
-cache_state w k new is = record { events = refl; live = refl; hinted = refl; locals = locals_with w.caches k new is }
+cache_state w k new is = record { events = refl; live = refl; hinted = refl; locals = locals_with w.caches k new is; guards = refl }
 
 -- ---- the start of a phase
 read_now : (f : Profile) (p : Progress) (k epoch : ℕ) → Legal f (triple k (made (Look TheWord.Epoch) epoch) ∷ p.list) → epoch ≡ word_after p.list TheWord.Epoch
@@ -65,6 +62,7 @@ wakes_to f k epoch p w is same legal =
     record {
       pages = pages_next f p.list (triple k (made (Look TheWord.Epoch) epoch) ∷ p.list) w (begins k w) same.pages (look_pages k epoch TheWord.Epoch p.list) (cache_state w k new refl);
       caches = same_with f p.caches w.caches k (begun (p.caches k) epoch) new is same.caches (record { locals = was.locals; log = was.log; noted = was.noted; began = now });
+      guards = same.guards;
       names = same.names;
       records = same.records;
       epoch = same.epoch ∙ sym (look_word k epoch TheWord.Epoch TheWord.Epoch p.list);
@@ -80,8 +78,9 @@ wake_same f k is p p' w taken =
 -- ---- the scavenger reads the epoch
 reads_to : (f : Profile) (epoch : ℕ) (p : Progress) (w : World) → IsSame f p w → Legal f (after_reading p epoch).list → IsSame f (after_reading p epoch) (reads_epoch w)
 reads_to f epoch p w same legal = record {
-  pages = pages_next f p.list (triple 0 (made (Look TheWord.Epoch) epoch) ∷ p.list) w (reads_epoch w) same.pages (look_pages 0 epoch TheWord.Epoch p.list) (record { events = refl; live = refl; hinted = refl; locals = refl });
+  pages = pages_next f p.list (triple 0 (made (Look TheWord.Epoch) epoch) ∷ p.list) w (reads_epoch w) same.pages (look_pages 0 epoch TheWord.Epoch p.list) (record { events = refl; live = refl; hinted = refl; locals = refl; guards = refl });
   caches = same.caches;
+  guards = same.guards;
   names = same.names;
   records = same.records;
   epoch = same.epoch ∙ sym (look_word 0 epoch TheWord.Epoch TheWord.Epoch p.list);
@@ -103,8 +102,9 @@ ticks_to f asked answer p w same legal =
     let now : answer ≡ w.epoch = ticked f p asked answer legal ∙ sym same.epoch in
     let line : Record = Record.Said 0 (Said.Tick (max w.epoch asked)) in
     record {
-      pages = pages_next f p.list (triple 0 (made (Tick asked) answer) ∷ p.list) w (ticks asked w) same.pages (tick_pages 0 answer asked p.list) (record { events = refl; live = refl; hinted = refl; locals = refl });
+      pages = pages_next f p.list (triple 0 (made (Tick asked) answer) ∷ p.list) w (ticks asked w) same.pages (tick_pages 0 answer asked p.list) (record { events = refl; live = refl; hinted = refl; locals = refl; guards = refl });
       caches = same.caches;
+      guards = same.guards;
       names = same.names;
       records = ap (λ (e : ℕ). p.records ++ Record.Said 0 (Said.Tick (max e asked)) ∷ []) now ∙ records_next p.records w.records line same.records;
       epoch = ap (λ (e : ℕ). max e asked) same.epoch;
@@ -120,8 +120,9 @@ tick_same f asked p p' w taken =
 -- ---- what is handed on to the indexes
 indexed_same : (f : Profile) (p : Progress) (run : EndedRun) (w : World) → IsSame f p w → IsSame f p (indexes_run run w)
 indexed_same f p run w same = record {
-  pages = pages_next f p.list p.list w (indexes_run run w) same.pages (unchanged p.list) (record { events = refl; live = refl; hinted = refl; locals = refl });
+  pages = pages_next f p.list p.list w (indexes_run run w) same.pages (unchanged p.list) (record { events = refl; live = refl; hinted = refl; locals = refl; guards = refl });
   caches = same.caches;
+  guards = same.guards;
   names = same.names;
   records = same.records;
   epoch = same.epoch;
@@ -140,6 +141,7 @@ handed_on f k p w is same =
     record {
       pages = pages_next f p.list p.list w (set_cache k new w) same.pages (unchanged p.list) (cache_state w k new refl);
       caches = same_with f p.caches w.caches k (settled (p.caches k)) new is same.caches (record { locals = was.locals; log = was.log; noted = refl; began = was.began });
+      guards = same.guards;
       names = same.names;
       records = same.records;
       epoch = same.epoch;

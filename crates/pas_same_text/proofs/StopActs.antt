@@ -59,6 +59,7 @@ use Rattle.pas_same_text.proofs.GivenPages.{IsGivenBack, room_from, covered_not_
 use Rattle.pas_same_text.proofs.GivenUp.{IsGivenUp, AllOfRegion, unique_of, all_up}
 use Rattle.pas_same_text.proofs.GivingBack.{IsMarked, marked_parts, hint_marks, offer_marks, offered_of_region, hints_both, epoch_stays_by}
 use Rattle.pas_same_text.proofs.RestingPages.{deed_now, free_at}
+use Rattle.pas_same_text.proofs.StillIndexes.{same_guards, stops_keep}
 use Rattle.pas_same_text.proofs.StopSteps.{IsMarkedBy, IsMarkedIn, AllClasses, ReadsRoom, room_earlier, grain_read, all_marked, all_hints}
 
 -- ---- what is known of each local allocator of a cache
@@ -125,10 +126,10 @@ module _ (f : Profile) (k : ℕ) (p : Progress) (w : World) (flushed stopped : L
   own_same = subst (λ (d : Cached). IsSameCache d (cache_of vf k)) (same_own p.caches k own) (to.same.each k thread)
 
   known : All (IsLocal f (part k p.list)) c.locals
-  known = (before.rest.threads k thread).locals.known
+  known = (before.rest.working k thread).locals.known
 
   up : IsGivenUp f k (locals_of vf k) vf v
-  up = all_up f k vf thread.0 (let many = to.same.many in let few = thread.1 in omega (arith, many, few)) (unique_of c.locals (locals_of vf k) own_same.locals (before.rest.threads k thread).locals.apart.one_each)
+  up = all_up f k vf thread.0 (let many = to.same.many in let few = thread.1 in omega (arith, many, few)) (unique_of c.locals (locals_of vf k) own_same.locals (before.rest.working k thread).locals.apart.one_each)
       (all_of_region f (part k p.list) c.locals (locals_of vf k) own_same.locals known)
 
   -- ---- events and caches
@@ -147,6 +148,7 @@ module _ (f : Profile) (k : ℕ) (p : Progress) (w : World) (flushed stopped : L
     events = events;
     live = up.live ∙ (to.live ∙ ap lives_in (sym up.events));
     caches = same_again f p.caches v.caches k own c' (subst (AreSameCaches f (with_cached (with_cached p.caches k own) k c')) (sym up.caches) (same_with f (with_cached p.caches k own) vf.caches k c' (record (cache_of vf k) { locals = [] }) thread to.same new_same));
+    guards = same_guards w v (stops_keep f k w) ∙ same.guards;
   }
 
   -- ---- grains that an actor holds then
@@ -157,8 +159,8 @@ module _ (f : Profile) (k : ℕ) (p : Progress) (w : World) (flushed stopped : L
   held_before : (j g : ℕ) → holds (part j p'.list) g ≡ true → ((j == k) ≡ false) × (holds (part j p.list) g ≡ true)
   held_before j g held =
       let is : IsThread f j = holder_is f p' v valid after has j g held in
-      let was = held_at j g (j == k) refl (sym ((after.rest.threads j is).locals.grains g) ∙ held) in
-      (was.0, (before.rest.threads j is).locals.grains g ∙ was.1)
+      let was = held_at j g (j == k) refl (sym ((after.rest.working j is).locals.grains g) ∙ held) in
+      (was.0, (before.rest.working j is).locals.grains g ∙ was.1)
 
   fewer : OnlyFewer w.events v.events
   fewer = subst (OnlyFewer w.events) (sym up.events) to.fewer
@@ -189,7 +191,7 @@ module _ (f : Profile) (k : ℕ) (p : Progress) (w : World) (flushed stopped : L
       let covered : covers s g ≡ true =
       ap (λ (t : Bool). t && is_set s.starts (start_of s.class (g % 256))) (eq-eqb s.page (g / 256) (page ∙ sym at_page))
       ∙ (ap (λ (x : ℕ). is_set s.starts (start_of s.class x)) at_grain ∙ (ap (is_set s.starts) first ∙ m.2)) in
-      let held : holds (part k p.list) g ≡ true = (before.rest.threads k thread).locals.grains g ∙ in_cache g covered in
+      let held : holds (part k p.list) g ≡ true = (before.rest.working k thread).locals.grains g ∙ in_cache g covered in
       let free : free_bit p'.list g ≡ true = free_left f p'.list valid after.legal g
       (λ j now. let was = held_before j g now in false≢true (sym was.0 ∙ one_holder f p.list valid before.legal j k g was.1 held))
       (λ a b' lives of_it. covered_not_held f p.list valid before.legal g a b' (lived f p p' w v to.pages valid before after same.pages.events has usable fewer (λ j x now. (held_before j x now).1) a b' lives) of_it k held) in
@@ -235,6 +237,7 @@ module _ (f : Profile) (k : ℕ) (p : Progress) (w : World) (flushed stopped : L
   stop_same = record {
     pages = given_pages f k p.list p' w v (stopped ++ flushed) valid same.pages refl after has given;
     caches = has.caches;
+    guards = has.guards;
     names = up.names ∙ (to.names ∙ same.names);
     records = events_recorded p.records w.records v.records (events_by k (part k p.list) (stopped ++ flushed)) same.records all_records;
     epoch = up.epoch ∙ (to.epoch ∙ (same.epoch ∙ sym (epoch_stays_by freeing refl k (stopped ++ flushed) p.list all_kinds)));

@@ -31,12 +31,13 @@ use Rattle.pas_steps.specs.Lists.{Whole, part, word_after, visible, Legal}
 use Rattle.pas_steps.specs.Views.{View, known_deed, usable_by_kind}
 use Rattle.pas_steps.specs.declared.step.Made.{Made}
 use Rattle.pas_steps.proofs.Adding.{triples_append}
+use Rattle.pas_steps.proofs.Apart.{no_events}
 use Rattle.pas_steps.proofs.Frames.{events_append}
 use Rattle.pas_steps.proofs.Parts.{part_of_own}
 use Rattle.pas_core.specs.Good.{IsPartOf, word_of_deed}
 use Rattle.pas_core.proofs.Deeds.{known_is, deed_of, directory_is_of}
 use Rattle.pas_core.proofs.MachineRuns.{runs}
-use Rattle.pas_core.proofs.OneActor.{legal_earlier}
+use Rattle.pas_core.proofs.OneActor.{legal_before, legal_earlier}
 use Rattle.pas_core.proofs.Rights.{deeds_known}
 use Rattle.pas_free_log.specs.Flushes.{Settled, shown_for, event_for}
 use Rattle.pas_free_log.specs.Logs.{entry_of, sized_entry}
@@ -50,11 +51,19 @@ use Rattle.pas_cache.specs.Contents.{Cached}
 use Rattle.pas_cache.specs.Serves.{Wanted, wanted_for, IsPlaced, IsInSlot, IsPreparing, IsDeedOf}
 use Rattle.pas_scavenger.specs.Pages.{unback_of}
 use Rattle.pas_scavenger.specs.Passes.{unbacks_in}
+use Rattle.pas_report.specs.declared.record.Record.{Record}
 use Rattle.pas_report.specs.declared.record.Said.{Said}
+use Rattle.pas_guard.specs.Sweeps.{SweepSteps, sweeping}
+use Rattle.pas_guard.specs.declared.book.Guard.{Guard}
 use Rattle.pas_trace.specs.Acts.{Act}
+use Rattle.pas_trace.specs.Asked.{request_in}
 use Rattle.pas_trace.specs.declared.item.Request.{Request}
+use Rattle.pas_trace.specs.declared.plan.Op.{Op}
 use Rattle.pas_trace.specs.declared.plan.What.{What}
 use Rattle.pas_answers.specs.Answers.{Progress, Having, Answer, having, IsGiven, RefusalEnds, RequestEnds, IsFreed, IsFreedBy, IsStopped, IsAnswered, IsRemadeBy, IsReplaced, request_for, standing_for, entry_with, wanted_by}
+use Rattle.pas_answers.specs.Guarding.{Tried, IsTried, TryEnds, after_trying}
+use Rattle.pas_answers.specs.Reaching.{AnswersTried, AnswersGuarded}
+use Rattle.pas_answers.proofs.Reached.{tried_on, pieces_back}
 use Rattle.pas_same_text.specs.Acts.{AreBlocksUsable, HasUsableBlocks, KeepsUsable}
 use Rattle.pas_same_text.proofs.Flushes.{visible_steps}
 
@@ -282,6 +291,7 @@ remade_usable f k name size align (Some (Some old)) p a valid legal (inr replace
 -- ---- the acts
 operation_usable : (f : Profile) (k : ℕ) (what : What) (p : Progress) (a : Answer) → IsValid f → Legal f (triples k a.steps ++ p.list) → IsAnswered f k what (having p.names (part k p.list) (p.caches k)) a → HasUsableBlocks p → AreBlocksUsable (visible (triples k a.steps ++ p.list))
 operation_usable f k (What.Alloc name heap size align) p a valid legal h usable = by_answer f k heap size align p.list a.steps valid legal usable h.answer h.ends
+operation_usable f k (What.Guarded keeper name heap size align) p a valid legal h usable = by_answer f k heap size align p.list a.steps valid legal usable h.answer h.ends
 operation_usable f k (What.Free name) p a valid legal h usable = steps_usable f k a.steps p.list valid legal (named_gives f k (p.caches k) a.cache name None (standing_for p.names name) a.steps a.said (part k p.list) h.0) usable
 operation_usable f k (What.FreeSized name room) p a valid legal h usable = steps_usable f k a.steps p.list valid legal (named_gives f k (p.caches k) a.cache name (Some room) (standing_for p.names name) a.steps a.said (part k p.list) h.0) usable
 operation_usable f k (What.Raw block) p a valid legal h usable = steps_usable f k a.steps p.list valid legal (freed_gives f k (p.caches k) a.cache (entry_of block) a.steps a.said (part k p.list) h.0) usable
@@ -293,12 +303,47 @@ operation_usable f k (What.Tick e) p a valid legal h usable = absurd h
 operation_usable f k What.Pass p a valid legal h usable = absurd h
 operation_usable f k (What.Idle n) p a valid legal h usable = absurd h
 
+-- ---- the acts of keepers
+-- a sweep makes no event
+sweep_usable : (f : Profile) (keeper : ℕ) (all : Bool) (guards guards' : List Guard) (said : List Record) (steps : List Made) (l : Whole) → IsValid f → Legal f (triples keeper steps ++ l) → SweepSteps f keeper all guards guards' said steps → AreBlocksUsable (visible l)
+    → AreBlocksUsable (visible (triples keeper steps ++ l))
+sweep_usable f keeper all guards guards' said steps l valid legal h usable = steps_usable f keeper steps l valid legal (subst AreNoGives (sym (no_events sweeping refl keeper (part keeper l) steps h.kinds)) tt) usable
+
+-- a raise gives its block as any request does, or makes deeds alone
+raise_usable : (f : Profile) (keeper : ℕ) (r : Request) (block : Option Block) (steps : List Made) (l : Whole) → IsValid f → Legal f (triples keeper steps ++ l) → TryEnds f keeper r (part keeper l) steps block → AreBlocksUsable (visible l) → AreBlocksUsable (visible (triples keeper steps ++ l))
+raise_usable f keeper r None steps l valid legal ends usable = steps_usable f keeper steps l valid legal (all_deeds (wanted_by f r).directory (events_by keeper (part keeper l) steps) ends) usable
+raise_usable f keeper r (Some block) steps l valid legal given usable = by_answer f keeper r.heap r.size r.align l steps valid legal usable (Ok block) given
+
+tried_usable : (f : Profile) (keeper : ℕ) (r : Request) (l : Whole) (guards : List Guard) (t : Tried) → IsValid f → Legal f (triples keeper t.steps ++ l) → IsTried f keeper r (part keeper l) guards t → AreBlocksUsable (visible l) → AreBlocksUsable (visible (triples keeper t.steps ++ l))
+tried_usable f keeper r l guards t valid legal h usable =
+    let whole : Legal f (triples keeper (h.raised ++ h.swept) ++ l) = subst (λ (ms : List Made). Legal f (triples keeper ms ++ l)) h.steps_are legal in
+    let first : Legal f (triples keeper h.swept ++ l) = legal_earlier f keeper h.raised h.swept l whole in
+    let swept : AreBlocksUsable (visible (triples keeper h.swept ++ l)) = sweep_usable f keeper false guards h.left h.lowered h.swept l valid first h.sweep usable in
+    let ends : TryEnds f keeper r (part keeper (triples keeper h.swept ++ l)) h.raised t.block = subst (λ (v : View). TryEnds f keeper r v h.raised t.block) (sym (part_of_own keeper h.swept l)) h.ends in
+    subst (λ (ms : List Made). AreBlocksUsable (visible (triples keeper ms ++ l))) (sym h.steps_are)
+    (subst (λ (m : Whole). AreBlocksUsable (visible m)) (triples_append keeper h.raised h.swept l)
+    (raise_usable f keeper r t.block h.raised (triples keeper h.swept ++ l) valid (subst (Legal f) (sym (triples_append keeper h.raised h.swept l)) whole) ends swept))
+
+-- what follows a try
+left_usable : (f : Profile) (op : Op) (r : Request) (block : Option Block) (p p' : Progress) → IsValid f → Legal f p'.list → AnswersTried f op r block p p' → HasUsableBlocks p → HasUsableBlocks p'
+left_usable f op r (Some block) p p' valid legal is usable = subst HasUsableBlocks (sym is) usable
+left_usable f op r None p p' valid legal is usable = subst HasUsableBlocks (sym is.2) (operation_usable f op.actor op.what p is.0 valid (subst (λ (q : Progress). Legal f q.list) is.2 legal) is.1 usable)
+
+guarded_usable : (f : Profile) (keeper : ℕ) (op : Op) (o : Option Request) (p p' : Progress) → IsValid f → Legal f p'.list → AnswersGuarded f keeper op o p p' → HasUsableBlocks p → HasUsableBlocks p'
+guarded_usable f keeper op None p p' valid legal is usable = absurd is
+guarded_usable f keeper op (Some r) p p' valid legal is usable =
+    let midway : Progress = after_trying p keeper is.0 in
+    let on = tried_on f op r is.0.block midway p' is.2 in
+    let there : Legal f midway.list = pieces_back (Legal f) (legal_before f) on.0 midway.list (subst (Legal f) on.1 legal) in
+    left_usable f op r is.0.block midway p' valid legal is.2 (tried_usable f keeper r p.list (p.books keeper) is.0 valid there is.1 usable)
+
 pub act_usable : (f : Profile) (act : Act) → KeepsUsable f act
 act_usable f (Act.MarksPhase n) p p' valid before after is usable = subst HasUsableBlocks (sym is) usable
 act_usable f Act.MarksClose p p' valid before after is usable = subst HasUsableBlocks (sym is) usable
 act_usable f (Act.Wakes k) p p' valid before after is usable = subst HasUsableBlocks (sym is.1) usable
 act_usable f (Act.Operates op) p p' valid before after is usable =
     subst HasUsableBlocks (sym is.2) (operation_usable f op.actor op.what p is.0 valid (subst (λ (q : Progress). Legal f q.list) is.2 after.legal) is.1 usable)
+act_usable f (Act.Guards keeper op) p p' valid before after is usable = guarded_usable f keeper op (request_in op.what) p p' valid after.legal is usable
 act_usable f (Act.Settles k) p p' valid before after is usable = subst HasUsableBlocks (sym is) usable
 act_usable f (Act.Ticks asked) p p' valid before after is usable = subst HasUsableBlocks (sym is.1) usable
 act_usable f Act.MakesPass p p' valid before after is usable =
@@ -311,3 +356,5 @@ act_usable f (Act.StopsIdle k n) p p' valid before after is usable = elim is [
 ]
 act_usable f (Act.Ends k) p p' valid before after is usable =
     subst HasUsableBlocks (sym is.3) (steps_usable f k is.0 p.list valid (subst (λ (q : Progress). Legal f q.list) is.3 after.legal) (stop_gives k (p.caches k) is.1 is.0 (part k p.list) is.2) usable)
+act_usable f (Act.Lowers keeper) p p' valid before after is usable =
+    subst HasUsableBlocks (sym is.3) (sweep_usable f keeper true (p.books keeper) [] is.1 is.0 p.list valid (subst (λ (q : Progress). Legal f q.list) is.3 after.legal) is.2.sweep usable)

@@ -53,6 +53,7 @@ pub start_same : (f : Profile) → IsSame f at_start (opened f)
 start_same f = record {
   pages = record { events = refl; live = refl; hinted = λ page. sym (none_of_zero (page % 64)); offered = λ page d of. sym (none_of_zero (page % 64)) };
   caches = start_caches f;
+  guards = refl;
   names = refl;
   records = refl;
   epoch = refl;

@@ -23,10 +23,10 @@ use Rattle.pas_one_text.specs.State.{World}
 use Rattle.pas_one_text.specs.Order.{acts_on}
 use Rattle.pas_same_text.specs.Same.{IsSame, HasSame}
 
--- what is so of a replay between two acts: its list is legal, and all actors are at rest
+-- what is so of a replay between two acts: its list is legal, and all actors are at rest, each with a cache: the region has no keepers
 pub record IsBetween (f : Profile) (p : Progress) : Type 0 where
   pub legal : Legal f p.list
-  pub rest : AreAtRest f p.caches p.list
+  pub rest : AreAtRest f.threads f p.caches p.books p.list
 
 -- .. and the events, the live blocks and the caches of the text are its own
 pub record IsAtRest (f : Profile) (p : Progress) (w : World) : Type 0 where
@@ -70,14 +70,15 @@ pub record AreEndsStamped (l : Whole) : Type 0 where
 abbrev pub KeepsStamped : Profile → Act → Type 0
 KeepsStamped f act = (p p' : Progress) → IsValid f → IsBetween f p → IsBetween f p' → Advances f act p p' → AreEndsStamped p.list → AreEndsStamped p'.list
 
--- where the act hands on what a cache noted, that is the cache of a thread
+-- where the act hands on what a cache noted, that is the cache of a thread; and it is no guarded request
 abbrev pub HandsOnOwn : Profile → Act → Type 0
 HandsOnOwn f (Act.Settles k) = IsThread f k
+HandsOnOwn f (Act.Guards keeper op) = ⊥
 HandsOnOwn f act = Unit {0}
 
 -- THE INDEXES of the text are those of a replay: where they hold the same before the act, they do after it.
 abbrev pub KeepsIndexes : Profile → Act → Type 0
-KeepsIndexes f act = (p p' : Progress) (w : World) (indexes : Indexes) → HandsOnOwn f act → IsTaken f act p p' w → w.indexes ≡ indexes → (acts_on f act w).indexes ≡ indexes_after f act p indexes
+KeepsIndexes f act = (p p' : Progress) (w : World) (indexes : Indexes) → HandsOnOwn f act → (taken : IsTaken f act p p' w) → w.indexes ≡ indexes → (acts_on f act w).indexes ≡ indexes_after f act p p' taken.advances indexes
 
 -- thread k's log has room for one more
 abbrev pub HasLogRoom : ℕ → Progress → Type 0

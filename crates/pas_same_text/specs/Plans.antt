@@ -27,12 +27,14 @@ IsIdleRemake size align (Some (Some old)) = suits old size align ≡ true
 -- .. and every other operation of a thread
 abbrev pub IsProvedWhat : Profile → ℕ → What → Progress → Type 0
 IsProvedWhat f k (What.Alloc name heap size align) p = IsAdmitted f size align heap × IsServedSo (route_in f size align) heap k p
+IsProvedWhat f k (What.Guarded keeper name heap size align) p = IsAdmitted f size align heap × IsServedSo (route_in f size align) heap k p
 IsProvedWhat f k (What.Remake name old heap size align) p = IsIdleRemake size align (standing_for p.names old)
 IsProvedWhat f k what p = Unit {0}
 
--- .. and every other act but a pass
+-- .. and every other act but a pass and those of keepers
 abbrev pub IsProvedAct : Profile → Act → Progress → Type 0
 IsProvedAct f (Act.Operates op) p = IsThread f op.actor × IsProvedWhat f op.actor op.what p
+IsProvedAct f (Act.Guards keeper op) p = ⊥
 IsProvedAct f (Act.Settles k) p = IsThread f k
 IsProvedAct f (Act.Ticks epoch) p = Unit {0}
 IsProvedAct f Act.MakesPass p = ⊥
@@ -42,6 +44,7 @@ IsProvedAct f (Act.MarksPhase n) p = Unit {0}
 IsProvedAct f (Act.Wakes k) p = IsThread f k
 IsProvedAct f Act.MarksClose p = Unit {0}
 IsProvedAct f (Act.Ends k) p = IsThread f k
+IsProvedAct f (Act.Lowers keeper) p = ⊥
 
 abbrev pub AllProved : (f : Profile) (acts : List Act) (p p' : Progress) → Reaches f acts p p' → Type 0
 AllProved f [] p p' is = Unit {0}

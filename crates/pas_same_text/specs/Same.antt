@@ -60,11 +60,12 @@ abbrev pub lives_in : List Event → List Block
 lives_in [] = []
 lives_in (e ∷ es) = live_after e (lives_in es)
 
--- the events are those that the list shows, and the caches are the same: so what is free and what is kept follows
+-- the events are those that the list shows, the caches are the same, and no guard is up: so what is free and what is kept follows
 pub record HasSame (f : Profile) (p : Progress) (w : World) : Type 0 where
   pub events : w.events ≡ visible p.list
   pub live : w.live ≡ lives_in w.events
   pub caches : AreSameCaches f p.caches w.caches
+  pub guards : w.guards ≡ []
 
 -- the events are those that the list shows, and the bits of hints and of offers are those of its words
 pub record ArePagesSame (f : Profile) (l : Whole) (w : World) : Type 0 where
@@ -77,6 +78,7 @@ pub record ArePagesSame (f : Profile) (l : Whole) (w : World) : Type 0 where
 pub record IsSame (f : Profile) (p : Progress) (w : World) : Type 0 where
   pub pages : ArePagesSame f p.list w
   pub caches : AreSameCaches f p.caches w.caches
+  pub guards : w.guards ≡ []
   pub names : w.names ≡ p.names
   pub records : p.records ≡ reverse w.records
   pub epoch : w.epoch ≡ word_after p.list Word.Epoch

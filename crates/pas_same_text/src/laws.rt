@@ -2,7 +2,7 @@
 ghost use Rattle.std.specs.Prelude.{ℕ, ◌+◌, ◌*◌, ◌<◌, ◌≡◌, List, [], ◌∷◌, ◌++◌, true, Ok};
 ghost use Rattle.pas_profile.specs.declared.name.Name.{Name};
 ghost use Rattle.pas_profile.specs.declared.profile.Profile.{Profile};
-ghost use Rattle.pas_trace.specs.Acts.{Act, acts_of};
+ghost use Rattle.pas_trace.specs.Acts.{Act};
 ghost use Rattle.pas_trace.specs.EveryPlan.{IsThread};
 ghost use Rattle.pas_trace.specs.declared.plan.What.TheVariants.{Alloc, Flush, Free, FreeSized, Raw, RawSized, Stop};
 ghost use Rattle.pas_profile.specs.Requests.{route_in};
@@ -23,7 +23,7 @@ ghost use Rattle.pas_same_text.specs.Searched.{IsSearch};
 ghost use Rattle.pas_search.specs.Searches.{FromOffered, ByDeed};
 ghost use Rattle.pas_one_text.specs.Searches.{refusal, searched};
 ghost use Rattle.pas_answers.specs.Reaching.{Reaches};
-ghost use Rattle.pas_answers.specs.Replays.{IsReplay, at_start, phases_of, region_of, threads_of};
+ghost use Rattle.pas_answers.specs.Replays.{IsReplay, at_start, phases_of, region_of, keepers_of, acts_of_plan};
 ghost use Rattle.pas_answers.specs.Rests.{AllAtRest};
 ghost use Rattle.pas_answers.specs.Ways.{InOrder};
 ghost use Rattle.pas_one_text.specs.Order.{acts_on, opened, replayed};
@@ -80,7 +80,7 @@ pub fn frees_stay_the_same()
     ensures named_sized { (f : Profile) (line k name room : ℕ) → IsThread f k → StaysSameWhere (HasLogRoom k) f (Act.Operates (record { line = line; actor = k; what = FreeSized name room })) }
 {}
 
-/// Whenever all actors are at rest and the events, the live blocks and the caches are the same: a grain is free in the text exactly where its bit is set, and a
+/// Whenever all actors are at rest, no guard is up, and the events, the live blocks and the caches are the same: a grain is free in the text exactly where its bit is set, and a
 /// page is kept exactly where some actor has its right. A page with room that nobody keeps is offered, and an offered page is offered in the text where it has room.
 pub fn states_are_told()
     ensures free { (f : Profile) (p : Progress) (w : World) → IsAtRest f p w → (page b : ℕ) → b < 256 → is_free w page b ≡ free_bit p.list (256 * page + b) }
@@ -129,37 +129,38 @@ pub fn stops_stay_the_same()
     ensures ends { (f : Profile) (k : ℕ) → IsThread f k → StaysSameWhere HasUsableBlocks f (Act.Ends k) }
 {}
 
-/// Whatever act a replay goes on by, each live block lies on grains that blocks of its page's directory may cover after it, where that was so before.
+/// Whatever act a replay goes on by, with no guard up before and after it, each live block lies on grains that blocks of its page's directory may cover after it, where that was so before.
 pub fn blocks_stay_usable()
     ensures { (f : Profile) (act : Act) → KeepsUsable f act }
 {}
 
-/// Each page where a block ended is stamped between two acts, whatever they are: so its stamp is the greatest epoch of an end there, at any moment between acts.
+/// Each page where a block ended is stamped between two acts, whatever they are, as long as no guard is up: so its stamp is the greatest epoch of an end there, at any moment between acts.
 pub fn stamps_are_kept()
     ensures start { AreEndsStamped [] }
     ensures keeps { (f : Profile) (act : Act) → KeepsStamped f act }
     ensures told { (f : Profile) (p : Progress) → IsValid f → IsBetween f p → AreEndsStamped p.list → AreStamped f p.list }
 {}
 
-/// The indexes of the text hold nothing at first, and whatever act a replay goes on by, they hold after it what those of the replay do, where that was so before.
+/// The indexes of the text hold nothing at first, and whatever act but a guarded request a replay goes on by, they hold after it what those of the replay do,
+/// where that was so before.
 pub fn indexes_stay_the_same()
     ensures start { (f : Profile) → (opened f).indexes ≡ no_ranges f.heaps }
     ensures act { (f : Profile) (act : Act) → KeepsIndexes f act }
 {}
 
-/// Acts one after the other keep the text, where all actors are at rest between them: all acts but a pass, and of requests those of a class for which a slot is
-/// cached and bit-fit ones. Before the first act the text's state is the replay's.
+/// Acts one after the other keep the text, where all actors are at rest between them: all acts but a pass and those of keepers, and of requests those of a class
+/// for which a slot is cached and bit-fit ones. Before the first act the text's state is the replay's.
 pub fn acts_stay_the_same()
     ensures start { (f : Profile) → IsSame f at_start (opened f) }
-    ensures acts { (f : Profile) (acts : List Act) (p p' : Progress) (is : Reaches f acts p p') (w : World) → IsValid f → Legal f p'.list → AllAtRest f acts p p' is → AllProved f acts p p' is → HasUsableBlocks p → IsSame f p w → IsSame f p' (each (acts_on f) acts w) }
+    ensures acts { (f : Profile) (acts : List Act) (p p' : Progress) (is : Reaches f acts p p') (w : World) → IsValid f → Legal f p'.list → AllAtRest f.threads f acts p p' is → AllProved f acts p p' is → HasUsableBlocks p → IsSame f p w → IsSame f p' (each (acts_on f) acts w) }
 {}
 
 /// The text of a state that is the replay's is what is written of that replay: the lines of its records, and then the report of the machine that its events reach, with
 /// the marks after its list. So it is of the replay of a plan in the order of the text, where all its acts are such.
 pub fn texts_are_told()
     ensures state { (f : Profile) (p : Progress) (w : World) → IsValid f → Legal f p.list → AreTrueMarks f p.list → IsSame f p w → text_of f w ≡ lines_of p.records ++ report_text f (visible p.list) (marks_after p.list) }
-    ensures replay { (plan : Plan) (whole : Whole) (records : List Record) (is : IsReplay InOrder plan whole records) → IsValid (region_of plan) → AllProved (region_of plan) (acts_of (threads_of plan) (phases_of plan)) at_start is.reached is.answers
-        → text_of (region_of plan) (replayed (region_of plan) (phases_of plan)) ≡ lines_of records ++ report_text (region_of plan) (visible whole) (marks_after whole) }
+    ensures replay { (plan : Plan) (whole : Whole) (records : List Record) (is : IsReplay InOrder plan whole records) → IsValid (region_of plan) → AllProved (region_of plan) (acts_of_plan plan) at_start is.reached is.answers
+        → text_of (region_of plan) (replayed (region_of plan) (keepers_of plan) (phases_of plan)) ≡ lines_of records ++ report_text (region_of plan) (visible whole) (marks_after whole) }
 {}
 
 /// A search that found a page found the one that the text finds: the lowest offered page on which something fits, or where there is none, the lowest that nobody has.

@@ -28,7 +28,7 @@ fn read_directory<D: Desk>(desk: &mut D, page: u32) -> Directory
 /// What came of the page, whose empty bit the actor cleared. At most 37 steps, and one event.
 ///
 /// Its outcome is the first that applies. Whatever it is, all that was got is put back, and the page is left where its right was got.
-pub fn examine<D: Desk>(desk: &mut D, page: u32, epoch: u64) -> Outcome
+pub(crate) fn examine<D: Desk>(desk: &mut D, page: u32, epoch: u64) -> Outcome
     requires page { IsPage (D.standing desk.old).seat.profile page }
     requires can { CanCall (D.standing desk.old) (MayExamine page epoch) }
     requires room { 1 ≤ D.spare_of desk.old }

@@ -10,7 +10,7 @@ use pas_steps::Desk;
 
 /// Judges the page after its grains were taken up to the word that wasn't whole, and unbacks it where all 256 are held and its stamp is old
 /// enough for the epoch. At most three steps, and one event.
-pub fn judge<D: Desk>(desk: &mut D, page: u32, epoch: u64, used: Option<Used>) -> Outcome
+pub(crate) fn judge<D: Desk>(desk: &mut D, page: u32, epoch: u64, used: Option<Used>) -> Outcome
     requires page { IsPage (D.standing desk.old).seat.profile page }
     requires can { CanCall (D.standing desk.old) (MayJudge page epoch used) }
     requires room { 1 ≤ D.spare_of desk.old }

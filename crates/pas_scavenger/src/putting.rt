@@ -10,7 +10,7 @@ use pas_rights::{leave, put, returned};
 use pas_steps::Desk;
 
 /// Puts all grains that are held back, ends what is owed on their page, and leaves it. At most 23 steps.
-pub fn put_back<D: Desk>(desk: &mut D, page: u32, directory: Directory, grains: &Mask4)
+pub(crate) fn put_back<D: Desk>(desk: &mut D, page: u32, directory: Directory, grains: &Mask4)
     requires page { IsPage (D.standing desk.old).seat.profile page }
     requires directory { IsDirectoryOf (D.standing desk.old).seat.profile directory }
     requires can { CanCall (D.standing desk.old) (MayPutBack page directory grains.now) }

@@ -12,7 +12,7 @@ use pas_rights::Used;
 use pas_steps::Desk;
 
 /// Takes the free grains of the page word by word until a word wasn't all ones, and answers that word. The right is the actor's.
-pub fn take_grains<D: Desk>(desk: &mut D, page: u32) -> Option<Used>
+pub(crate) fn take_grains<D: Desk>(desk: &mut D, page: u32) -> Option<Used>
     requires page { IsPage (D.standing desk.old).seat.profile page }
     requires can { CanCall (D.standing desk.old) (HasRight page) }
     ensures takes { TakesUntilUsed page (D.standing desk.old) (D.standing desk.new) result }
@@ -28,7 +28,7 @@ pub fn take_grains<D: Desk>(desk: &mut D, page: u32) -> Option<Used>
 }
 
 /// The grains that were taken so: all of the words before that one, and the free ones of it.
-pub fn grains_of(used: Option<Used>) -> Mask4
+pub(crate) fn grains_of(used: Option<Used>) -> Mask4
     requires { AreUsed used }
     ensures { (g : ℕ) → is_set result g ≡ was_free used g }
 {

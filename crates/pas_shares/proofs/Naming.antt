@@ -1,5 +1,5 @@
 -- An answer by what a worker knows of names is one by what all know.
-use Rattle.std.proofs.Common.{◌≡◌, ℕ, ◌==◌, ◌||◌, Bool, true, false, if◌then◌else◌, inl, inr, List, ◌∷◌, Option, Some, None, refl, ap, sym, ◌∙◌, subst}
+use Rattle.std.proofs.Common.{◌≡◌, ◌≢◌, ℕ, ◌==◌, ◌||◌, Bool, true, false, if◌then◌else◌, inl, inr, List, ◌∷◌, Option, Some, None, refl, ap, sym, ◌∙◌, subst}
 use Rattle.std.proofs.lemmas.Bool.{ne_eqb, cases_eq}
 use Rattle.pas_profile.specs.declared.profile.Profile.{Profile}
 use Rattle.pas_profile.specs.declared.name.Block.{Block}
@@ -7,7 +7,7 @@ use Rattle.pas_steps.specs.Views.{View}
 use Rattle.pas_steps.specs.declared.step.Made.{Made}
 use Rattle.pas_trace.specs.EveryPlan.{is_asked, asked_after}
 use Rattle.pas_trace.specs.declared.plan.What.{What}
-use Rattle.pas_trace.specs.declared.plan.What.TheVariants.{Alloc, Free, FreeSized, Raw, RawSized, Remake, Flush, Stop}
+use Rattle.pas_trace.specs.declared.plan.What.TheVariants.{Alloc, Guarded, Free, FreeSized, Raw, RawSized, Remake, Flush, Stop}
 use Rattle.pas_report.specs.declared.record.Said.{Said}
 use Rattle.pas_cache.specs.Caches.{Cached}
 use Rattle.pas_answers.specs.Answers.{Named, named, block_of, standing_for, having, Answer, answer_of, IsFreedBy, IsRemadeBy, IsAnswered}
@@ -103,10 +103,28 @@ asks_name f k what asked few names v c a name block asks request new among only 
   same_names = λ n other. ap (λ (t : Bool). if t then Some block else standing_for names n) (ne_eqb name n (λ e. other (request n e)));
 }
 
+-- a name that is new to all comes to stand for a block in the hands of one worker
+pub record IsNamedNew (asked : List ℕ) (few names : List Named) (name : ℕ) (block : Option Block) : Type 0 where
+  pub own : AreAmong (named name block ∷ few) (named name block ∷ names)
+  pub others : (more : List Named) → AreAmong more names → AreAmong more (named name block ∷ names)
+  pub only_asked : OnlyAsked (name ∷ asked) (named name block ∷ names)
+  pub same_names : (n : ℕ) → name ≢ n → standing_for (named name block ∷ names) n ≡ standing_for names n
+
+pub names_new : (asked : List ℕ) (few names : List Named) (name : ℕ) (block : Option Block) → is_asked asked name ≡ false → AreAmong few names → OnlyAsked asked names → IsNamedNew asked few names name block
+names_new asked few names name block new among only = record {
+  own = λ n b is. both_more (name == n) block (standing_for few n) (standing_for names n) b (among n b) is;
+  others = λ more is n b known. new_here name n block names b (only name new) (is n b known);
+  only_asked = λ n is. asked_more (name == n) block (standing_for names n) (is_asked asked n) (only n) is;
+  same_names = λ n other. ap (λ (t : Bool). if t then Some block else standing_for names n) (ne_eqb name n other);
+}
+
 pub retold : (f : Profile) (limit k : ℕ) (what : What) (asked : List ℕ) (few names : List Named) (v : View) (c : Cached) (a : Answer)
     → AreAmong few names → OnlyAsked asked names → IsFitWhat f limit asked what → IsAnswered f k what (having few v c) a → Retold f k what asked names v c a
 retold f limit k (Alloc name heap size align) asked few names v c a among only fit answered =
     asks_name f k (Alloc name heap size align) asked few names v c a name (block_of answered.answer) refl (λ n same. same) fit.1.1 among only answered.names_are
+    (record { rest = answered.rest; answer = answered.answer; serves = answered.serves; kinds = answered.kinds; ends = answered.ends; said_is = answered.said_is; names_are = refl })
+retold f limit k (Guarded keeper name heap size align) asked few names v c a among only fit answered =
+    asks_name f k (Guarded keeper name heap size align) asked few names v c a name (block_of answered.answer) refl (λ n same. same) fit.1.1 among only answered.names_are
     (record { rest = answered.rest; answer = answered.answer; serves = answered.serves; kinds = answered.kinds; ends = answered.ends; said_is = answered.said_is; names_are = refl })
 retold f limit k (Free name) asked few names v c a among only fit answered = keeps_names f k (Free name) asked few names v c a answered.1 among only (freed_same f k c a.cache name None (standing_for few name) (standing_for names name) a.steps a.said (among name) answered.0, refl)
 retold f limit k (FreeSized name room) asked few names v c a among only fit answered = keeps_names f k (FreeSized name room) asked few names v c a answered.1 among only (freed_same f k c a.cache name (Some room) (standing_for few name) (standing_for names name) a.steps a.said (among name) answered.0, refl)

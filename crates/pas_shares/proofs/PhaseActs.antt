@@ -1,29 +1,44 @@
 -- The acts of a phase are shared among its workers.
-use Rattle.std.proofs.Common.{◌≡◌, ℕ, ◌≤◌, ◌==◌, ◌||◌, not, Bool, true, false, if◌then◌else◌, inl, inr, List, [], ◌∷◌, ◌++◌, map, refl, ap, sym, ◌∙◌, arith}
+use Rattle.std.proofs.Common.{◌≡◌, ℕ, zero, suc, ◌+◌, ◌-◌, ◌≤◌, ◌==◌, ◌||◌, not, Option, None, Some, Bool, true, false, if◌then◌else◌, inl, inr, List, [], ◌∷◌, ◌++◌, map, refl, ap, sym, ◌∙◌, arith}
+use Rattle.std.specs.Prelude.{MatchOption}
 use Rattle.std.specs.List.{AllByRecursion, filter}
-use Rattle.std.proofs.lemmas.Bool.{eq-eqb, ne_eqb, false≢true, cases_eq, or_left, or_right, or_parts}
+use Rattle.std.proofs.lemmas.Bool.{eq-eqb, ne_eqb, le-leb, lt-leb, false≢true, cases_eq, or_left, or_right, or_parts}
 use Rattle.pas_profile.specs.declared.profile.Profile.{Profile}
 use Rattle.pas_profile.proofs.Lists.{all_both}
-use Rattle.pas_trace.specs.Asked.{work_of}
+use Rattle.pas_trace.specs.Asked.{work_of, of_task, keeper_of, keeper_in}
 use Rattle.pas_trace.specs.EveryPlan.{AreSound, IsActorBy, asked_after}
 use Rattle.pas_trace.specs.declared.plan.Chore.{Chore}
 use Rattle.pas_trace.specs.declared.plan.Work.{Work}
 use Rattle.pas_trace.specs.declared.plan.Op.{Op}
-use Rattle.pas_trace.specs.Acts.{Act, Operates, Settles, Ticks, MakesPass, ReadsEpoch, StopsIdle, is_active, numbers_from, idle_threads, acts_of_chore, acts_of_work, acts_of_op, acts_of_ops, own_acts, scavenger_acts}
-use Rattle.pas_shares.specs.Shares.{Owners, actor_of_act, IsInHand, AreInHand, acts_by, owner_in, ActsAreShared}
+use Rattle.pas_trace.specs.Acts.{Act, Settles, Ticks, MakesPass, ReadsEpoch, StopsIdle, is_active, numbers_from, idle_threads, acts_of_chore, acts_of_work, acts_of_op, acts_of_ops, own_acts, scavenger_acts, act_kept}
+use Rattle.pas_shares.specs.Shares.{Owners, actor_of_act, IsInHand, AreInHand, acts_by, thread_in, owner_in, AreKeptBehind, ActsAreShared}
 
 -- ---- who owns whom
 -- each operation's actor is its own worker
 abbrev OwnThemselves : Owners → List Op → Type 0
 OwnThemselves owner ops = AllByRecursion (λ op. owner op.actor ≡ op.actor) ops
 
+-- a thread stands for itself, and a keeper for the thread behind which it stands
+pub own_thread : (threads k : ℕ) → k ≤ threads → thread_in threads k ≡ k
+own_thread threads k most = ap (λ (t : Bool). if t then k else k - threads) (le-leb k threads most)
+
+pub kept_thread : (threads k : ℕ) → 1 ≤ k → thread_in threads (threads + k) ≡ k
+kept_thread threads k some =
+    let place : threads + k - threads ≡ k = omega arith in
+    ap (λ (t : Bool). if t then threads + k else threads + k - threads) (lt-leb (threads + k) threads (omega (arith, some))) ∙ place
+
+-- a thread is owned by itself where it is active, and by the scavenger elsewhere, and so is its keeper
+pub owner_of : (threads : ℕ) (ops : List Op) (j k : ℕ) → thread_in threads j ≡ k → owner_in threads ops j ≡ (if is_active ops k then k else 0)
+owner_of threads ops j k is = ap (λ (i : ℕ). if is_active ops i then i else 0) is
+
 -- those that are active among some are so among all
-all_own : (all ops : List Op) → ((k : ℕ) → is_active ops k ≡ true → is_active all k ≡ true) → OwnThemselves (owner_in all) ops
-all_own all [] within = tt
-all_own all (op ∷ ops) within = (
-  ap (λ (t : Bool). if t then op.actor else 0) (within op.actor (or_left (op.actor == op.actor) (is_active ops op.actor) (eq-eqb op.actor op.actor refl))),
-  all_own all ops (λ k is. within k (or_right (op.actor == k) (is_active ops k) is)),
-)
+all_own : (threads : ℕ) (all ops : List Op) → ((k : ℕ) → is_active ops k ≡ true → is_active all k ≡ true) → ((k : ℕ) → is_active ops k ≡ true → k ≤ threads) → OwnThemselves (owner_in threads all) ops
+all_own threads all [] within most = tt
+all_own threads all (op ∷ ops) within most =
+    let here = or_left (op.actor == op.actor) (is_active ops op.actor) (eq-eqb op.actor op.actor refl) in (
+      owner_of threads all op.actor op.actor (own_thread threads op.actor (most op.actor here)) ∙ ap (λ (t : Bool). if t then op.actor else 0) (within op.actor here),
+      all_own threads all ops (λ k is. within k (or_right (op.actor == k) (is_active ops k) is)) (λ k is. most k (or_right (op.actor == k) (is_active ops k) is)),
+    )
 
 pub zero_own : (t : Bool) → ◌≡◌ {A = ℕ} (if t then 0 else 0) 0
 zero_own true = refl
@@ -72,12 +87,22 @@ module _ (f : Profile) (P : Act → Type 0) (idle : List ℕ) (each : (op : Op) 
   all_of_ops asked [] sound = tt
   all_of_ops asked (op ∷ ops) sound = all_both P (acts_of_op idle op) (acts_of_ops idle ops) (each op sound.0) (all_of_ops (asked_after op.what asked) ops sound.2)
 
+-- .. by what is so of each operation besides
+module _ (f : Profile) (P : Act → Type 0) (Q : Op → Type 0) (idle : List ℕ) (each : (op : Op) → IsActorBy f (work_of op.what) op.actor → Q op → AllByRecursion P (acts_of_op idle op)) where
+  all_of_kept : (asked : List ℕ) (ops : List Op) → AreSound f asked ops → AllByRecursion Q ops → AllByRecursion P (acts_of_ops idle ops)
+  all_of_kept asked [] sound kept = tt
+  all_of_kept asked (op ∷ ops) sound kept = all_both P (acts_of_op idle op) (acts_of_ops idle ops) (each op sound.0 kept.0) (all_of_kept (asked_after op.what asked) ops sound.2 kept.1)
+
 -- the maker of each of these acts is actor j
 abbrev AreOf : ℕ → List Act → Type 0
 AreOf j acts = AllByRecursion (λ act. actor_of_act act ≡ j) acts
 
+kept_is_of : (keeper : Option ℕ) (op : Op) → AreOf op.actor (act_kept keeper op ∷ (Settles op.actor ∷ []))
+kept_is_of None op = (refl, (refl, tt))
+kept_is_of (Some keeper) op = (refl, (refl, tt))
+
 work_is_of : (f : Profile) (idle : List ℕ) (op : Op) (work : Work) → IsActorBy f work op.actor → AreOf op.actor (acts_of_work idle op work)
-work_is_of f idle op (Work.Own task) of = (refl, (refl, tt))
+work_is_of f idle op (Work.Own task) of = kept_is_of (keeper_of task) op
 work_is_of f idle op (Work.Chore chore) of =
     all_of_chore (λ act. actor_of_act act ≡ op.actor) (λ k. Unit {0}) idle chore (λ epoch. sym of) (sym of) (sym of) (λ k n is. sym of) (all_any idle)
 
@@ -113,43 +138,77 @@ module _ (f : Profile) (owner : Owners) (k : ℕ) (idle : List ℕ) (whole : Lis
 
 -- no operation of a thread is a chore
 own_next : (f : Profile) (k : ℕ) (idle : List ℕ) (op : Op) (work : Work) (rest : List Act) → 1 ≤ k → IsActorBy f work op.actor
-    → (if op.actor == k then Operates op ∷ (Settles op.actor ∷ rest) else rest) ≡ (if op.actor == k then acts_of_work idle op work ++ rest else rest)
+    → (if op.actor == k then act_kept (of_task keeper_of work) op ∷ (Settles op.actor ∷ rest) else rest) ≡ (if op.actor == k then acts_of_work idle op work ++ rest else rest)
 own_next f k idle op (Work.Own task) rest some of = refl
 own_next f k idle op (Work.Chore chore) rest some of =
     let ne = ne_eqb op.actor k (λ is. omega (arith, some, of, is)) in
-    ap (λ (t : Bool). if t then Operates op ∷ (Settles op.actor ∷ rest) else rest) ne ∙ sym (ap (λ (t : Bool). if t then acts_of_chore idle chore ++ rest else rest) ne)
+    ap (λ (t : Bool). if t then act_kept None op ∷ (Settles op.actor ∷ rest) else rest) ne ∙ sym (ap (λ (t : Bool). if t then acts_of_chore idle chore ++ rest else rest) ne)
 
 pub none_own : (k : ℕ) (ops : List Op) → is_active ops k ≡ false → own_acts k ops ≡ []
 none_own k [] is = refl
 none_own k (op ∷ ops) is =
     let both = or_parts (op.actor == k) (is_active ops k) is in
-    ap (λ (t : Bool). if t then Operates op ∷ (Settles op.actor ∷ own_acts k ops) else own_acts k ops) both.0 ∙ none_own k ops both.1
+    ap (λ (t : Bool). if t then act_kept (keeper_in op.what) op ∷ (Settles op.actor ∷ own_acts k ops) else own_acts k ops) both.0 ∙ none_own k ops both.1
 
 -- ---- all is in hand
 -- each of these is in the scavenger's hands
 abbrev AreIdle : Owners → List ℕ → Type 0
 AreIdle owner ks = AllByRecursion (λ k. owner k ≡ owner 0) ks
 
-hands_one : (owner : Owners) (idle : List ℕ) (op : Op) (work : Work) → AreIdle owner idle → AreInHand owner (acts_of_work idle op work)
-hands_one owner idle op (Work.Own task) all = (tt, (tt, tt))
-hands_one owner idle op (Work.Chore chore) all = all_of_chore (IsInHand owner) (λ k. owner k ≡ owner 0) idle chore (λ epoch. tt) tt tt (λ k n is. is) all
+kept_in_hand : (owner : Owners) (keeper : Option ℕ) (op : Op) → MatchOption keeper (Unit {0}) (λ k. owner k ≡ owner op.actor) → AreInHand owner (act_kept keeper op ∷ (Settles op.actor ∷ []))
+kept_in_hand owner None op own = (tt, (tt, tt))
+kept_in_hand owner (Some keeper) op own = (own, (tt, tt))
 
-idle_one : (ops : List Op) (k : ℕ) (t : Bool) (rest : List ℕ) → is_active ops k ≡ t → AreIdle (owner_in ops) rest → AreIdle (owner_in ops) (if not t then k ∷ rest else rest)
-idle_one ops k true rest is all = all
-idle_one ops k false rest is all = (ap (λ (t : Bool). if t then k else 0) is ∙ sym (zero_own (is_active ops 0)), all)
+hands_one : (owner : Owners) (idle : List ℕ) (op : Op) (work : Work) → MatchOption (of_task keeper_of work) (Unit {0}) (λ k. owner k ≡ owner op.actor) → AreIdle owner idle → AreInHand owner (acts_of_work idle op work)
+hands_one owner idle op (Work.Own task) own all = kept_in_hand owner (keeper_of task) op own
+hands_one owner idle op (Work.Chore chore) own all = all_of_chore (IsInHand owner) (λ k. owner k ≡ owner 0) idle chore (λ epoch. tt) tt tt (λ k n is. is) all
 
-are_idle : (ops : List Op) (ks : List ℕ) → AreIdle (owner_in ops) (filter (λ k. not (is_active ops k)) ks)
-are_idle ops [] = tt
-are_idle ops (k ∷ ks) = idle_one ops k (is_active ops k) (filter (λ k. not (is_active ops k)) ks) refl (are_idle ops ks)
+-- a keeper is in the hands of its thread's worker
+kept_owned : (f : Profile) (threads : ℕ) (ops : List Op) (op : Op) (work : Work) (o : Option ℕ) → of_task keeper_of work ≡ o → IsActorBy f work op.actor → op.actor ≤ threads → MatchOption o (Unit {0}) (λ keeper. keeper ≡ threads + op.actor)
+    → MatchOption o (Unit {0}) (λ k. owner_in threads ops k ≡ owner_in threads ops op.actor)
+kept_owned f threads ops op work None is of most kept = tt
+kept_owned f threads ops op (Work.Own task) (Some keeper) is of most kept =
+    let a = op.actor in
+    owner_of threads ops keeper a (ap (thread_in threads) kept ∙ kept_thread threads a of.0) ∙ sym (owner_of threads ops a a (own_thread threads a most))
+kept_owned f threads ops op (Work.Chore chore) (Some keeper) is of most kept = absurd (cc)
+
+idle_one : (threads : ℕ) (ops : List Op) (k : ℕ) (t : Bool) (rest : List ℕ) → k ≤ threads → is_active ops k ≡ t → AreIdle (owner_in threads ops) rest → AreIdle (owner_in threads ops) (if not t then k ∷ rest else rest)
+idle_one threads ops k true rest most is all = all
+idle_one threads ops k false rest most is all =
+    let own = owner_of threads ops k k (own_thread threads k most) ∙ ap (λ (t : Bool). if t then k else 0) is in
+    let scavenger = owner_of threads ops 0 0 (own_thread threads 0 (omega arith)) ∙ zero_own (is_active ops 0) in
+    (own ∙ sym scavenger, all)
+
+-- so many numbers from k on are below the next one
+are_idle : (threads : ℕ) (ops : List Op) (k n : ℕ) → k + n ≤ threads + 1 → AreIdle (owner_in threads ops) (filter (λ k. not (is_active ops k)) (numbers_from k n))
+are_idle threads ops k zero within = tt
+are_idle threads ops k (suc n) within =
+    idle_one threads ops k (is_active ops k) (filter (λ k. not (is_active ops k)) (numbers_from (k + 1) n)) (omega (arith, within)) refl (are_idle threads ops (k + 1) n (omega (arith, within)))
+
+-- each operation is active among all
+actors_within : (threads : ℕ) (all ops : List Op) → ((k : ℕ) → is_active ops k ≡ true → is_active all k ≡ true) → ((k : ℕ) → is_active all k ≡ true → k ≤ threads) → AllByRecursion (λ (op : Op). op.actor ≤ threads) ops
+actors_within threads all [] within most = tt
+actors_within threads all (op ∷ ops) within most = (
+  most op.actor (within op.actor (or_left (op.actor == op.actor) (is_active ops op.actor) (eq-eqb op.actor op.actor refl))),
+  actors_within threads all ops (λ k is. within k (or_right (op.actor == k) (is_active ops k) is)) most,
+)
+
+both_kept : (threads : ℕ) (ops : List Op) → AreKeptBehind threads ops → AllByRecursion (λ (op : Op). op.actor ≤ threads) ops
+    → AllByRecursion (λ (op : Op). (op.actor ≤ threads) × MatchOption (keeper_in op.what) (Unit {0}) (λ keeper. keeper ≡ threads + op.actor)) ops
+both_kept threads [] kept most = tt
+both_kept threads (op ∷ ops) kept most = ((most.0, kept.0), both_kept threads ops kept.1 most.1)
 
 pub acts_are_shared : ActsAreShared
-acts_are_shared f threads asked ops sound =
+acts_are_shared f threads asked ops sound kept most =
     let idle = idle_threads threads ops in
-    let own = all_own ops ops (λ k is. is) in
-    let of_thread : (k : ℕ) → 1 ≤ k → acts_by (owner_in ops) k (acts_of_ops idle ops) ≡ own_acts k ops = λ k some.
-    of_ops f (owner_in ops) k idle (own_acts k) refl (λ op rest of. own_next f k idle op (work_of op.what) (own_acts k rest) some of) asked ops own sound in (
-      all_of_ops f (IsInHand (owner_in ops)) idle (λ op of. hands_one (owner_in ops) idle op (work_of op.what) (are_idle ops (numbers_from 1 threads))) asked ops sound,
-      λ k some active. of_thread k some,
-      λ k some inactive. of_thread k some ∙ none_own k ops inactive,
-      of_ops f (owner_in ops) 0 idle (scavenger_acts idle) refl (λ op rest of. refl) asked ops own sound,
+    let owner = owner_in threads ops in
+    let own = all_own threads ops ops (λ k is. is) most in
+    let of_thread : (k : ℕ) → 1 ≤ k → acts_by owner k (acts_of_ops idle ops) ≡ own_acts k ops = λ k some.
+    of_ops f owner k idle (own_acts k) refl (λ op rest of. own_next f k idle op (work_of op.what) (own_acts k rest) some of) asked ops own sound in (
+      all_of_kept f (IsInHand owner) (λ (op : Op). (op.actor ≤ threads) × MatchOption (keeper_in op.what) (Unit {0}) (λ keeper. keeper ≡ threads + op.actor)) idle
+          (λ op of here. hands_one owner idle op (work_of op.what) (kept_owned f threads ops op (work_of op.what) (keeper_in op.what) refl of here.0 here.1) (are_idle threads ops 1 threads (omega arith)))
+          asked ops sound (both_kept threads ops kept (actors_within threads ops ops (λ k is. is) most)),
+      λ k some within active. of_thread k some,
+      λ k some within inactive. of_thread k some ∙ none_own k ops inactive,
+      of_ops f owner 0 idle (scavenger_acts idle) refl (λ op rest of. refl) asked ops own sound,
     )

@@ -8,7 +8,8 @@ use Rattle.pas_steps.specs.declared.step.Made.{Made}
 use Rattle.pas_steps.proofs.Parts.{part_of_own, part_of_others}
 use Rattle.pas_report.specs.declared.record.Record.{Record}
 use Rattle.pas_cache.specs.Caches.{Cached}
-use Rattle.pas_answers.specs.Answers.{Named, Caches, with_cache, Progress, with_records}
+use Rattle.pas_answers.specs.Answers.{Named, Caches, with_cache, Books, with_book, Progress, with_records}
+use Rattle.pas_guard.specs.declared.book.Guard.{Guard}
 use Rattle.pas_answers.specs.Ways.{EachOf, records_by}
 use Rattle.pas_answers.proofs.OwnRecords.{records_both, none_by}
 use Rattle.pas_shares.specs.Shares.{Owners, AreAmong, IsShareOf}
@@ -23,19 +24,22 @@ same_part j k steps l m same = elim (cases_eq k j) [
 -- ---- one thing of the two is changed, and stays shared
 module _ {owner : Owners} {w : ℕ} {own p : Progress} (share : IsShareOf owner w own p) where
   by_lists : (l m : Whole) → ((j : ℕ) → owner j ≡ w → part j l ≡ part j m) → IsShareOf owner w (record own { list = l }) (record p { list = m })
-  by_lists l m same = record { parts = same; caches = share.caches; records = share.records; epoch = share.epoch; names = share.names }
+  by_lists l m same = record { parts = same; caches = share.caches; books = share.books; records = share.records; epoch = share.epoch; names = share.names }
 
   by_caches : (c d : Caches) → ((j : ℕ) → owner j ≡ w → c j ≡ d j) → IsShareOf owner w (record own { caches = c }) (record p { caches = d })
-  by_caches c d same = record { parts = share.parts; caches = same; records = share.records; epoch = share.epoch; names = share.names }
+  by_caches c d same = record { parts = share.parts; caches = same; books = share.books; records = share.records; epoch = share.epoch; names = share.names }
+
+  by_books : (a b : Books) → ((j : ℕ) → owner j ≡ w → a j ≡ b j) → IsShareOf owner w (record own { books = a }) (record p { books = b })
+  by_books a b same = record { parts = share.parts; caches = share.caches; books = same; records = share.records; epoch = share.epoch; names = share.names }
 
   by_records : (rs ss : List Record) → ((j : ℕ) → owner j ≡ w → records_by j rs ≡ records_by j ss) → IsShareOf owner w (record own { records = rs }) (record p { records = ss })
-  by_records rs ss same = record { parts = share.parts; caches = share.caches; records = same; epoch = share.epoch; names = share.names }
+  by_records rs ss same = record { parts = share.parts; caches = share.caches; books = share.books; records = same; epoch = share.epoch; names = share.names }
 
   pub by_names : (few many : List Named) → AreAmong few many → IsShareOf owner w (record own { names = few }) (record p { names = many })
-  by_names few many among = record { parts = share.parts; caches = share.caches; records = share.records; epoch = share.epoch; names = among }
+  by_names few many among = record { parts = share.parts; caches = share.caches; books = share.books; records = share.records; epoch = share.epoch; names = among }
 
   pub by_epochs : (e f : ℕ) → (owner 0 ≡ w → e ≡ f) → IsShareOf owner w (record own { epoch = e }) (record p { epoch = f })
-  by_epochs e f same = record { parts = share.parts; caches = share.caches; records = share.records; epoch = same; names = share.names }
+  by_epochs e f same = record { parts = share.parts; caches = share.caches; books = share.books; records = share.records; epoch = same; names = share.names }
 
 -- ---- the same change at both
 pub share_list : {owner : Owners} {w : ℕ} {own p : Progress} (k : ℕ) (steps : List Made) → IsShareOf owner w own p → IsShareOf owner w (record own { list = triples k steps ++ own.list }) (record p { list = triples k steps ++ p.list })
@@ -44,6 +48,10 @@ share_list {owner} {w} {own} {p} k steps share = by_lists share (triples k steps
 pub share_cache : {owner : Owners} {w : ℕ} {own p : Progress} (k : ℕ) (c c' : Cached) → c ≡ c' → IsShareOf owner w own p → IsShareOf owner w (record own { caches = with_cache own.caches k c }) (record p { caches = with_cache p.caches k c' })
 share_cache {owner} {w} {own} {p} k c c' same share =
     by_caches share (with_cache own.caches k c) (with_cache p.caches k c') (λ j is. ap (λ (d : Cached). if j == k then c else d) (share.caches j is) ∙ ap (λ (d : Cached). if j == k then d else p.caches j) same)
+
+pub share_book : {owner : Owners} {w : ℕ} {own p : Progress} (k : ℕ) (guards : List Guard) → IsShareOf owner w own p → IsShareOf owner w (record own { books = with_book own.books k guards }) (record p { books = with_book p.books k guards })
+share_book {owner} {w} {own} {p} k guards share =
+    by_books share (with_book own.books k guards) (with_book p.books k guards) (λ j is. ap (λ (gs : List Guard). if j == k then guards else gs) (share.books j is))
 
 pub share_records : {owner : Owners} {w : ℕ} {own p : Progress} (rs : List Record) → IsShareOf owner w own p → IsShareOf owner w (with_records own rs) (with_records p rs)
 share_records {owner} {w} {own} {p} rs share =
@@ -59,6 +67,10 @@ beside_list {owner} {x} {own} {p} k steps other share = by_lists share own.list 
 pub beside_cache : {owner : Owners} {x : ℕ} {own p : Progress} (k : ℕ) (c : Cached) → owner k ≢ x → IsShareOf owner x own p → IsShareOf owner x own (record p { caches = with_cache p.caches k c })
 beside_cache {owner} {x} {own} {p} k c other share =
     by_caches share own.caches (with_cache p.caches k c) (λ j is. share.caches j is ∙ sym (ap (λ (t : Bool). if t then c else p.caches j) (ne_eqb j k (λ same. apart owner k j x other is (sym same)))))
+
+pub beside_book : {owner : Owners} {x : ℕ} {own p : Progress} (k : ℕ) (guards : List Guard) → owner k ≢ x → IsShareOf owner x own p → IsShareOf owner x own (record p { books = with_book p.books k guards })
+beside_book {owner} {x} {own} {p} k guards other share =
+    by_books share own.books (with_book p.books k guards) (λ j is. share.books j is ∙ sym (ap (λ (t : Bool). if t then guards else p.books j) (ne_eqb j k (λ same. apart owner k j x other is (sym same)))))
 
 -- none of these records is of an actor in the hands of worker x
 abbrev pub AreElsewhere : Owners → ℕ → List Record → Type 0

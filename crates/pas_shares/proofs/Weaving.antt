@@ -1,5 +1,6 @@
 -- What workers did, each for itself, is put into the order of the acts.
-use Rattle.std.proofs.Common.{◌≡◌, ◌≢◌, ℕ, ◌+◌, ◌==◌, ◌≤◌, Bool, if◌then◌else◌, inl, inr, List, [], ◌∷◌, ◌++◌, append_assoc, max, refl, ap, sym, ◌∙◌, subst}
+use Rattle.std.proofs.Common.{◌≡◌, ◌≢◌, ℕ, ◌+◌, ◌==◌, ◌≤◌, Bool, true, false, Option, None, Some, if◌then◌else◌, inl, inr, List, [], ◌∷◌, ◌++◌, append_assoc, max, refl, ap, sym, ◌∙◌, subst}
+use Rattle.std.specs.Prelude.{IsSomeAnd}
 use Rattle.std.proofs.lemmas.List.{append-nil}
 use Rattle.std.proofs.lemmas.Bool.{eq-eqb, ne_eqb, cases_eq}
 use Rattle.pas_profile.specs.declared.profile.Profile.{Profile}
@@ -14,16 +15,24 @@ use Rattle.pas_report.specs.declared.record.Record.{Record}
 use Rattle.pas_report.specs.declared.record.Said.{Said}
 use Rattle.pas_cache.specs.Caches.{Cached}
 use Rattle.pas_passes.specs.Records.{records_of_pass}
-use Rattle.pas_trace.specs.Acts.{Act, Operates, Settles, Ticks, MakesPass, ReadsEpoch, StopsIdle, MarksPhase, Wakes, MarksClose, Ends}
-use Rattle.pas_answers.specs.Answers.{Named, having, answer_of, standing_for, IsAnswered, IsStopped, Progress, with_records, with_steps, after_answer, after_settling, after_wake, after_reading, after_tick, after_pass, after_stop, stopped, epoch_look, begun, settled, IsIdleFor, records_of, said_by}
+use Rattle.pas_trace.specs.Acts.{Act, Operates, Guards, Settles, Ticks, MakesPass, ReadsEpoch, StopsIdle, MarksPhase, Wakes, MarksClose, Ends, Lowers}
+use Rattle.pas_answers.specs.Answers.{Named, named, having, answer_of, standing_for, IsAnswered, IsStopped, Progress, with_records, with_steps, after_answer, after_settling, after_wake, after_reading, after_tick, after_pass, after_stop, stopped, epoch_look, begun, settled, IsIdleFor, records_of, said_by}
 use Rattle.pas_answers.specs.Fit.{AreFit, IsFitWhat}
 use Rattle.pas_answers.specs.Ways.{EachOf, AreSpoken}
-use Rattle.pas_answers.proofs.OwnRecords.{events_of_piece, pass_of, piece_of, spoken_piece, spoken_both}
-use Rattle.pas_answers.specs.Reaching.{Advances, Reaches}
-use Rattle.pas_shares.specs.Shares.{Owners, actor_of_act, IsInHand, AreInHand, acts_by, Asks, asked_after_act, IsShareOf, IsWoven}
+use Rattle.pas_answers.proofs.OwnRecords.{events_of_piece, pass_of, piece_of, spoken_piece, spoken_both, swept_each, try_each}
+use Rattle.pas_profile.specs.declared.name.Block.{Block}
+use Rattle.pas_trace.specs.Asked.{request_in}
+use Rattle.pas_trace.specs.EveryPlan.{asked_with, is_asked}
+use Rattle.pas_trace.specs.declared.item.Request.{Request}
+use Rattle.pas_trace.specs.declared.plan.What.{What}
+use Rattle.pas_trace.specs.declared.plan.What.TheVariants.{Alloc, Guarded, Remake}
+use Rattle.pas_guard.specs.declared.book.Guard.{Guard}
+use Rattle.pas_answers.specs.Guarding.{Tried, IsTried, after_trying, after_giving, IsLowered, after_lowering}
+use Rattle.pas_answers.specs.Reaching.{AnswersTried, AnswersGuarded, Advances, Reaches}
+use Rattle.pas_shares.specs.Shares.{Owners, actor_of_act, IsInHand, AreInHand, acts_by, Asks, IsRequestOf, asked_after_act, IsShareOf, IsWoven}
 use Rattle.pas_answers.specs.Calls.{OnlyAsked}
-use Rattle.pas_shares.proofs.Naming.{retold}
-use Rattle.pas_shares.proofs.Sharing.{by_names, by_epochs, share_list, share_cache, share_records, beside_list, beside_cache, beside_records, elsewhere, elsewhere_both}
+use Rattle.pas_shares.proofs.Naming.{retold, names_new}
+use Rattle.pas_shares.proofs.Sharing.{by_names, by_epochs, share_list, share_cache, share_book, share_records, beside_list, beside_cache, beside_book, beside_records, elsewhere, elsewhere_both}
 
 -- ---- one act
 -- An act that was answered from a share on is answered from all on. Its worker has its share of what came of it, and each other worker the one that it had.
@@ -106,17 +115,93 @@ idle_one f owner asked k n p before after mine only share did =
       | inr not_so ↦ woven_by p [] only refl (sym (append-nil p.records)) tt not_so.1 share (λ x o other theirs. theirs) (inr (λ idle. not_so.0 (subst (λ (A : Type 0). A) (sym same) idle), refl))
     ]
 
--- ---- any act
--- what of the fitness of all acts is that of the first, and of the others after it
+-- ---- a guarded request: its keeper's piece, and what follows it
+-- the name that a request is for
+abbrev name_for : Option Request → ℕ
+name_for None = 0
+name_for (Some r) = r.name
 
+-- an operation that makes a request asks for a new name, and for no other
+new_request : (f : Profile) (limit : ℕ) (asked : List ℕ) (what : What) (r : Request) → request_in what ≡ Some r → IsFitWhat f limit asked what → is_asked asked r.name ≡ false
+new_request f limit asked (Alloc name heap size align) r asks fit = subst (λ (n : ℕ). is_asked asked n ≡ false) (ap name_for asks) fit.1.1
+new_request f limit asked (Guarded keeper name heap size align) r asks fit = subst (λ (n : ℕ). is_asked asked n ≡ false) (ap name_for asks) fit.1.1
+new_request f limit asked (Remake name old heap size align) r asks fit = subst (λ (n : ℕ). is_asked asked n ≡ false) (ap name_for asks) fit.1.1
+new_request f limit asked what r asks fit = absurd (cc)
+
+asks_this : (what : What) (r : Request) (n : ℕ) → request_in what ≡ Some r → r.name ≡ n → IsRequestOf n what
+asks_this what r n asks same = subst (λ (o : Option Request). IsSomeAnd o (λ q. q.name ≡ n)) (sym asks) same
+
+-- The worker's own progress after the try is its share of that of all; each other worker has its share as before.
+record TriedOne (owner : Owners) (w : ℕ) (p own : Progress) (keeper : ℕ) (t : Tried) : Type 0 where
+  share : IsShareOf owner w (after_trying own keeper t) (after_trying p keeper t)
+  beside : (x : ℕ) (other : Progress) → w ≢ x → IsShareOf owner x other p → IsShareOf owner x other (after_trying p keeper t)
+
+tried_one : (owner : Owners) (w : ℕ) (p own : Progress) (keeper : ℕ) (t : Tried) → owner keeper ≡ w → EachOf keeper t.records → IsShareOf owner w own p → TriedOne owner w p own keeper t
+tried_one owner w p own keeper t mine each share = record {
+  share = share_records t.records (share_book keeper t.guards (share_list keeper t.steps share));
+  beside = λ x other ne theirs.
+      let away : owner keeper ≢ x = λ is. ne (sym mine ∙ is) in
+      beside_records t.records (elsewhere owner x keeper t.records each away) (beside_book keeper t.guards away (beside_list keeper t.steps away theirs));
+}
+
+module _ (f : Profile) (owner : Owners) (limit : ℕ) (asked : List ℕ) (keeper : ℕ) (op : Op) (p before after : Progress) (fit : IsFitWhat f limit asked op.what) (mine : owner keeper ≡ owner op.actor) (only : OnlyAsked asked p.names)
+    (share : IsShareOf owner (owner op.actor) before p) where
+  -- what comes after it, where the keeper gave a block, and where it gave none
+  followed : (r : Request) (t : Tried) (block : Option Block) → request_in op.what ≡ Some r → t.block ≡ block → IsTried f keeper r (part keeper p.list) (p.books keeper) t → EachOf keeper t.records
+      → AnswersTried f op r block (after_trying before keeper t) after → IsWovenOne f owner (Guards keeper op) asked p after
+  followed r t (Some block) asks given is each did =
+      let one = tried_one owner (owner op.actor) p before keeper t mine each share in
+      let next = after_giving (after_trying p keeper t) r.name block in
+      let new = names_new asked before.names p.names r.name (Some block) (new_request f limit asked op.what r asks fit) share.names only in
+      record {
+        next = next;
+        advances = subst (λ (o : Option Request). AnswersGuarded f keeper op o p next) (sym asks) (t, is, subst (λ (b : Option Block). AnswersTried f op r b (after_trying p keeper t) next) (sym given) refl);
+        share = subst (λ (q : Progress). IsShareOf owner (owner op.actor) q next) (sym did) (by_names one.share (named r.name (Some block) ∷ before.names) (named r.name (Some block) ∷ p.names) new.own);
+        beside = λ x o other theirs. by_names (one.beside x o other theirs) o.names (named r.name (Some block) ∷ p.names) (new.others o.names theirs.names);
+        said = t.records;
+        records_are = refl;
+        spoken = spoken_piece keeper t.records each;
+        only_asked = subst (λ (ns : List ℕ). OnlyAsked ns (named r.name (Some block) ∷ p.names)) (sym (ap (λ (o : Option Request). asked_with o asked) asks)) new.only_asked;
+        same_names = λ n none. new.same_names n (λ same. none (asks_this op.what r n asks same));
+      }
+  followed r t None asks given is each did =
+      let one = tried_one owner (owner op.actor) p before keeper t mine each share in
+      let late = operates_one f owner limit asked op (after_trying p keeper t) (after_trying before keeper t) after fit only one.share did in
+      record {
+        next = late.next;
+        advances = subst (λ (o : Option Request). AnswersGuarded f keeper op o p late.next) (sym asks) (t, is, subst (λ (b : Option Block). AnswersTried f op r b (after_trying p keeper t) late.next) (sym given) late.advances);
+        share = late.share;
+        beside = λ x o other theirs. late.beside x o other (one.beside x o other theirs);
+        said = t.records ++ late.said;
+        records_are = late.records_are ∙ append_assoc p.records t.records late.said;
+        spoken = spoken_both t.records late.said (spoken_piece keeper t.records each) late.spoken;
+        only_asked = late.only_asked;
+        same_names = λ n none. late.same_names n none;
+      }
+
+  guarded : (o : Option Request) → request_in op.what ≡ o → AnswersGuarded f keeper op o before after → IsWovenOne f owner (Guards keeper op) asked p after
+  guarded None asks did = absurd did
+  guarded (Some r) asks did =
+      let here : IsTried f keeper r (part keeper p.list) (p.books keeper) did.0 =
+      subst (λ (gs : List Guard). IsTried f keeper r (part keeper p.list) gs did.0) (share.books keeper mine) (subst (λ (v : View). IsTried f keeper r v (before.books keeper) did.0) (share.parts keeper mine) did.1) in
+      followed r did.0 did.0.block asks refl here (try_each f keeper r (part keeper p.list) (p.books keeper) did.0 here) did.2
+
+guards_one : (f : Profile) (owner : Owners) (limit : ℕ) (asked : List ℕ) (keeper : ℕ) (op : Op) (p before after : Progress) → IsFitWhat f limit asked op.what → owner keeper ≡ owner op.actor → OnlyAsked asked p.names
+    → IsShareOf owner (owner op.actor) before p → Advances f (Guards keeper op) before after → IsWovenOne f owner (Guards keeper op) asked p after
+guards_one f owner limit asked keeper op p before after fit mine only share did = guarded f owner limit asked keeper op p before after fit mine only share (request_in op.what) refl did
+
+-- ---- any act
+-- what of the fitness of all acts is that of the others after the first
 rest_fit : (f : Profile) (limit : ℕ) (asked : List ℕ) (act : Act) (acts : List Act) → AreFit f limit asked (act ∷ acts) → AreFit f limit (asked_after_act act asked) acts
 rest_fit f limit asked (Operates op) acts fit = fit.2
+rest_fit f limit asked (Guards keeper op) acts fit = fit.4
 rest_fit f limit asked (Ticks epoch) acts fit = fit.1
 rest_fit f limit asked act acts fit = fit
 
 woven_one : (f : Profile) (owner : Owners) (limit : ℕ) (asked : List ℕ) (act : Act) (acts : List Act) (p before after : Progress) → AreFit f limit asked (act ∷ acts) → IsInHand owner act → OnlyAsked asked p.names
     → IsShareOf owner (owner (actor_of_act act)) before p → Advances f act before after → IsWovenOne f owner act asked p after
 woven_one f owner limit asked (Operates op) acts p before after fit hand only share did = operates_one f owner limit asked op p before after fit.1 only share did
+woven_one f owner limit asked (Guards keeper op) acts p before after fit hand only share did = guards_one f owner limit asked keeper op p before after fit.3 hand only share did
 woven_one f owner limit asked (Settles k) acts p before after fit hand only share did =
     let same = ap settled (share.caches k refl) in
     woven_by (after_settling p k) [] only refl (sym (append-nil p.records)) tt did (share_cache k (settled (before.caches k)) (settled (p.caches k)) same share) (λ x o other theirs. beside_cache k (settled (p.caches k)) other theirs) refl
@@ -143,6 +228,14 @@ woven_one f owner limit asked (Wakes k) acts p before after fit hand only share 
     let same = ap (λ (d : Cached). begun d e) (share.caches k refl) in
     woven_by (after_wake p k e) [] only refl (sym (append-nil p.records)) tt did.1 (share_cache k (begun (before.caches k) e) c same (share_list k (epoch_look e) share)) (λ x o other theirs. beside_cache k c other (beside_list k (epoch_look e) other theirs)) (e, refl)
 woven_one f owner limit asked MarksClose acts p before after fit hand only share did = absurd hand
+woven_one f owner limit asked (Lowers keeper) acts p before after fit hand only share did =
+    let steps = did.0 in
+    let said = did.1 in
+    let here : IsLowered f keeper (part keeper p.list) (p.books keeper) steps said =
+    subst (λ (gs : List Guard). IsLowered f keeper (part keeper p.list) gs steps said) (share.books keeper refl) (subst (λ (v : View). IsLowered f keeper v (before.books keeper) steps said) (share.parts keeper refl) did.2) in
+    let each = swept_each true keeper (p.books keeper) [] said steps here.sweep.swept in
+    woven_by (after_lowering p keeper steps said) said only refl refl (spoken_piece keeper said each) did.3 (share_records said (share_book keeper [] (share_list keeper steps share)))
+    (λ x o other theirs. beside_records said (elsewhere owner x keeper said each other) (beside_book keeper [] other (beside_list keeper steps other theirs))) (steps, said, here, refl)
 woven_one f owner limit asked (Ends k) acts p before after fit hand only share did = stops_one f owner asked (Ends k) k k p before after did.0 did.1 [] refl refl tt only share did.2 did.3 (λ so. (did.0, did.1, so, refl))
 
 -- ---- all acts

@@ -1,15 +1,15 @@
 -- What each worker does in a phase, apart from the others, and how the shares of all workers make up the whole phase.
-use Rattle.std.specs.Prelude.{ℕ, ◌+◌, ◌≤◌, ◌≡◌, ◌==◌, true, false, if◌then◌else◌, List, [], ◌∷◌, ◌++◌, Option, Some, IsSomeAnd}
+use Rattle.std.specs.Prelude.{ℕ, ◌+◌, ◌-◌, nat_le, MatchOption, ◌≤◌, ◌≡◌, ◌==◌, true, false, if◌then◌else◌, List, [], ◌∷◌, ◌++◌, Option, Some, IsSomeAnd}
 use Rattle.std.specs.List.{AllByRecursion}
 use Rattle.pas_profile.specs.declared.profile.Profile.{Profile}
 use Rattle.pas_profile.specs.declared.name.Block.{Block}
 use Rattle.pas_steps.specs.Lists.{part}
-use Rattle.pas_trace.specs.Asked.{request_in}
+use Rattle.pas_trace.specs.Asked.{request_in, keeper_in}
 use Rattle.pas_trace.specs.EveryPlan.{AreSound}
 use Rattle.pas_trace.specs.declared.plan.What.{What}
 use Rattle.pas_trace.specs.declared.plan.Op.{Op}
 use Rattle.pas_report.specs.declared.record.Record.{Record}
-use Rattle.pas_trace.specs.Acts.{Act, StopsIdle, MarksPhase, MarksClose, operation_in, stepper_of, is_active, idle_threads, acts_of_ops, own_acts, scavenger_acts}
+use Rattle.pas_trace.specs.Acts.{Act, Guards, StopsIdle, MarksPhase, MarksClose, operation_in, stepper_of, is_active, idle_threads, acts_of_ops, own_acts, scavenger_acts}
 pub use Rattle.pas_trace.specs.Acts.{asked_after_act, asked_after_acts}
 use Rattle.pas_answers.specs.Answers.{Named, standing_for, Progress}
 use Rattle.pas_answers.specs.Calls.{AreKnown, OnlyAsked}
@@ -19,7 +19,7 @@ use Rattle.pas_answers.specs.Ways.{OnThreads, AreSpoken, records_by, by_actors, 
 
 -- ---- workers
 -- Each actor is in the hands of one worker throughout a phase: a thread that has an operation in it is its own worker, and the scavenger has
--- itself and each thread that is idle. `owner` says whose hands these are.
+-- itself and each thread that is idle; a keeper is in the hands of its thread's worker. `owner` says whose hands these are.
 abbrev pub Owners : Type 0
 Owners = ℕ → ℕ
 
@@ -31,6 +31,7 @@ actor_of_act act = stepper_of act
 
 -- the worker that makes the act has all that it changes in its hands
 abbrev pub IsInHand : Owners → Act → Type 0
+IsInHand owner (Guards keeper op) = owner keeper ≡ owner op.actor
 IsInHand owner (StopsIdle k n) = owner k ≡ owner 0
 IsInHand owner (MarksPhase n) = ⊥
 IsInHand owner MarksClose = ⊥
@@ -62,11 +63,12 @@ NoneAsks n [] = Unit {0}
 NoneAsks n (act ∷ acts) = (Asks n act → ⊥) × NoneAsks n acts
 
 -- ---- shares
--- A worker's own progress is its share of how far the replay has come: of each actor in its hands it has the same part, cache and records, and what
+-- A worker's own progress is its share of how far the replay has come: of each actor in its hands it has the same part, cache, guards and records, and what
 -- it knows of names is so. The epoch that was read for an idle operation is in the scavenger's hands.
 pub record IsShareOf (owner : Owners) (w : ℕ) (own p : Progress) : Type 0 where
   pub parts : (k : ℕ) → owner k ≡ w → part k own.list ≡ part k p.list
   pub caches : (k : ℕ) → owner k ≡ w → own.caches k ≡ p.caches k
+  pub books : (k : ℕ) → owner k ≡ w → own.books k ≡ p.books k
   pub records : (k : ℕ) → owner k ≡ w → records_by k own.records ≡ records_by k p.records
   pub epoch : owner 0 ≡ w → own.epoch ≡ p.epoch
   pub names : AreAmong own.names p.names
@@ -100,18 +102,26 @@ abbrev pub AreKnownAfter : Type 0
 AreKnownAfter = (f : Profile) (acts : List Act) (asked : List ℕ) (p p' : Progress) → Reaches f acts p p' → AreKnown asked p.names → AreKnown (asked_after_acts acts asked) p'.names
 
 -- ---- the acts of a phase
+-- the thread of an actor, of which there are so many: a thread's own, and of a keeper the one whose guards it keeps
+abbrev pub thread_in : ℕ → ℕ → ℕ
+thread_in threads k = if nat_le k threads then k else k - threads
+
 -- whose hands an actor is in, in a phase of these operations
-abbrev pub owner_in : List Op → Owners
-owner_in ops k = if is_active ops k then k else 0
+abbrev pub owner_in : ℕ → List Op → Owners
+owner_in threads ops k = if is_active ops (thread_in threads k) then thread_in threads k else 0
+
+-- the keeper of a guarded request of these operations has its thread's place behind so many threads
+abbrev pub AreKeptBehind : ℕ → List Op → Type 0
+AreKeptBehind threads = AllByRecursion (λ op. MatchOption (keeper_in op.what) (Unit {0}) (λ keeper. keeper ≡ threads + op.actor))
 
 -- In a phase of a plan of so many threads all acts are in the hands of their workers. A thread with an operation in it makes the acts of its own
 -- operations, and no other, and the scavenger those of its own.
 abbrev pub ActsAreShared : Type 0
-ActsAreShared = (f : Profile) (threads : ℕ) (asked : List ℕ) (ops : List Op) → AreSound f asked ops
-    → AreInHand (owner_in ops) (acts_of_ops (idle_threads threads ops) ops)
-    × ((k : ℕ) → 1 ≤ k → is_active ops k ≡ true → acts_by (owner_in ops) k (acts_of_ops (idle_threads threads ops) ops) ≡ own_acts k ops)
-    × ((k : ℕ) → 1 ≤ k → is_active ops k ≡ false → acts_by (owner_in ops) k (acts_of_ops (idle_threads threads ops) ops) ≡ [])
-    × (acts_by (owner_in ops) 0 (acts_of_ops (idle_threads threads ops) ops) ≡ scavenger_acts (idle_threads threads ops) ops)
+ActsAreShared = (f : Profile) (threads : ℕ) (asked : List ℕ) (ops : List Op) → AreSound f asked ops → AreKeptBehind threads ops → ((k : ℕ) → is_active ops k ≡ true → k ≤ threads)
+    → AreInHand (owner_in threads ops) (acts_of_ops (idle_threads threads ops) ops)
+    × ((k : ℕ) → 1 ≤ k → k ≤ threads → is_active ops k ≡ true → acts_by (owner_in threads ops) k (acts_of_ops (idle_threads threads ops) ops) ≡ own_acts k ops)
+    × ((k : ℕ) → 1 ≤ k → k ≤ threads → is_active ops k ≡ false → acts_by (owner_in threads ops) k (acts_of_ops (idle_threads threads ops) ops) ≡ [])
+    × (acts_by (owner_in threads ops) 0 (acts_of_ops (idle_threads threads ops) ops) ≡ scavenger_acts (idle_threads threads ops) ops)
 
 -- ---- the records
 -- Records without a mark, those of a phase, are written actor by actor, from the scavenger to the last thread; then comes the mark, and what follows.

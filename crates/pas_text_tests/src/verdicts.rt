@@ -31,7 +31,14 @@ const TWENTY_CLASSES: &[u8] =
 const REALLOCATED: &[u8] =
     b"pas 4 pages 2 threads 1 heaps 1 age 2\na 1 1 0 24 16\nm 1 2 1 32 16\nm 1 3 2 33 16\nm 1 4 3 64 16\nm 1 5 4 16 16\nf 1 3\n";
 
-const CASES: [Case; 26] = [
+/// Two guarded requests, of which the second lowers the guard of the first.
+const GUARDED: &[u8] =
+    b"pas 4 pages 8 threads 1 heaps 1 age 2\nguard 2\na 1 1 0 4096 16\na 1 2 0 4096 16\nf 1 2\nflush 1\na 1 3 0 4096 16\na 1 4 0 8192 16\n";
+
+/// A guarded request in a region that has no room for a guard.
+const GUARDED_ALONE: &[u8] = b"pas 4 pages 2 threads 1 heaps 1 age 2\nguard 1\na 1 1 0 4096 16\n";
+
+const CASES: [Case; 35] = [
     (
         FREED,
         b"1 deed page 1 heap 0 class 32\n1 back page 1\n1 give 0x00001000 turn 0 room 32 heap 0\nclose\n1 freed 0x00001000 turn 0 epoch 0\nreport\npage 1 heap 0 class 32 live 0 free 256 stamp 0 marks backed+offered+hinted\ntotal deeds 1 backed 1 live 0 given 1 ended 1\n",
@@ -174,6 +181,58 @@ const CASES: [Case; 26] = [
         REALLOCATED,
         b"1 deed page 1 heap 0 class 32\n1 back page 1\n1 give 0x00001000 turn 0 room 32 heap 0\n1 kept 0x00001000 turn 0 name 2\n1 deed page 2 heap 0 class 48\n1 back page 2\n1 give 0x00002000 turn 0 room 48 heap 0\n1 no-space name 4\n1 skipped name 5\nclose\n1 freed 0x00002000 turn 0 epoch 0\n",
         Verdict::No(11),
+    ),
+    (
+        GUARDED,
+        b"1 deed page 1 heap 0 large\n1 back page 1\n1 give 0x00001000 turn 0 room 4096 heap 0\n2 deed page 2 heap 0 large\n2 deed page 3 heap 0 large\n2 deed page 4 heap 0 large\n2 back page 3\n2 give 0x00003000 turn 0 room 4096 heap 0\n2 guarded 2 4 name 2\n1 freed 0x00003000 turn 0 epoch 0\n1 give 0x00003000 turn 1 room 4096 heap 0\n2 lowered 2 4\n2 deed page 5 heap 0 large\n2 deed page 6 heap 0 large\n2 deed page 7 heap 0 large\n2 back page 5\n2 back page 6\n2 give 0x00005000 turn 0 room 8192 heap 0\n2 guarded 4 7 name 4\nclose\n2 lowered 4 7\nreport\npage 1 heap 0 large live 1 free 0 stamp 0 marks backed+parked\npage 2 heap 0 large live 0 free 256 stamp 0 marks offered\npage 3 heap 0 large live 1 free 0 stamp 0 marks backed+parked+hinted\npage 4 heap 0 large live 0 free 256 stamp 0 marks offered\npage 5 heap 0 large live 1 free 0 stamp 0 marks backed+parked\npage 6 heap 0 large live 0 free 0 stamp 0 marks backed+parked\npage 7 heap 0 large live 0 free 256 stamp 0 marks offered\ntotal deeds 7 backed 4 live 3 given 4 ended 1\n",
+        Verdict::Yes,
+    ),
+    // The first guard's block has ended, so it is lowered first.
+    (
+        GUARDED,
+        b"1 deed page 1 heap 0 large\n1 back page 1\n1 give 0x00001000 turn 0 room 4096 heap 0\n2 deed page 2 heap 0 large\n2 deed page 3 heap 0 large\n2 deed page 4 heap 0 large\n2 back page 3\n2 give 0x00003000 turn 0 room 4096 heap 0\n2 guarded 2 4 name 2\n1 freed 0x00003000 turn 0 epoch 0\n1 give 0x00003000 turn 1 room 4096 heap 0\n2 deed page 5 heap 0 large\n",
+        Verdict::No(12),
+    ),
+    // The guard's pages stand beside the block.
+    (
+        GUARDED,
+        b"1 deed page 1 heap 0 large\n1 back page 1\n1 give 0x00001000 turn 0 room 4096 heap 0\n2 deed page 2 heap 0 large\n2 deed page 3 heap 0 large\n2 deed page 4 heap 0 large\n2 back page 3\n2 give 0x00003000 turn 0 room 4096 heap 0\n2 guarded 2 5 name 2\n",
+        Verdict::No(9),
+    ),
+    // A keeper that has backed a page gives the block.
+    (
+        GUARDED,
+        b"1 deed page 1 heap 0 large\n1 back page 1\n1 give 0x00001000 turn 0 room 4096 heap 0\n2 deed page 2 heap 0 large\n2 deed page 3 heap 0 large\n2 deed page 4 heap 0 large\n2 back page 3\n1 deed page 5 heap 0 large\n",
+        Verdict::No(8),
+    ),
+    // One that has made deeds alone may leave it to its thread.
+    (
+        GUARDED,
+        b"1 deed page 1 heap 0 large\n1 back page 1\n1 give 0x00001000 turn 0 room 4096 heap 0\n2 deed page 2 heap 0 large\n2 deed page 3 heap 0 large\n2 deed page 4 heap 0 large\n1 deed page 5 heap 0 large\n1 back page 5\n1 give 0x00005000 turn 0 room 4096 heap 0\n1 freed 0x00005000 turn 0 epoch 0\n",
+        Verdict::No(11),
+    ),
+    // No guard is up yet.
+    (
+        GUARDED,
+        b"1 deed page 1 heap 0 large\n1 back page 1\n1 give 0x00001000 turn 0 room 4096 heap 0\n2 lowered 2 4\n",
+        Verdict::No(4),
+    ),
+    // The close lowers all guards.
+    (
+        GUARDED,
+        b"1 deed page 1 heap 0 large\n1 back page 1\n1 give 0x00001000 turn 0 room 4096 heap 0\n2 deed page 2 heap 0 large\n2 deed page 3 heap 0 large\n2 deed page 4 heap 0 large\n2 back page 3\n2 give 0x00003000 turn 0 room 4096 heap 0\n2 guarded 2 4 name 2\n1 freed 0x00003000 turn 0 epoch 0\n1 give 0x00003000 turn 1 room 4096 heap 0\n2 lowered 2 4\n2 deed page 5 heap 0 large\n2 deed page 6 heap 0 large\n2 deed page 7 heap 0 large\n2 back page 5\n2 back page 6\n2 give 0x00005000 turn 0 room 8192 heap 0\n2 guarded 4 7 name 4\nclose\nreport\n",
+        Verdict::No(21),
+    ),
+    (
+        GUARDED_ALONE,
+        b"1 deed page 1 heap 0 large\n1 back page 1\n1 give 0x00001000 turn 0 room 4096 heap 0\nclose\nreport\npage 1 heap 0 large live 1 free 0 stamp 0 marks backed+parked\ntotal deeds 1 backed 1 live 1 given 1 ended 0\n",
+        Verdict::Yes,
+    ),
+    // There is no page below the block.
+    (
+        GUARDED_ALONE,
+        b"2 deed page 1 heap 0 large\n2 back page 1\n2 give 0x00001000 turn 0 room 4096 heap 0\n2 guarded 0 2 name 1\n",
+        Verdict::No(4),
     ),
 ];
 

@@ -184,6 +184,104 @@ fn a_reallocation_stays_in_its_heap(rt: HostRuntime) {
     assert!(rt; is_moved(rt.alloc()));
 }
 
+/// The first line of a region of 8 threads.
+const OF_EIGHT: &[u8] = b"pas 4 pages 4 threads 8 heaps 1 age 2\n";
+
+/// Lines behind it, the last of which has a `guard` line's fault or none.
+const GUARD_LINES: [(&[u8], Fault); 12] = [
+    (b"guard 1\n", None),
+    (b"guard 1000000\nshared 0\n", None),
+    (b"shared 0\nguard 2\na 1 1 0 4096 16\n", None),
+    (b"guard 0\n", Some((2, Reason::BadNumber))),
+    (b"guard 1000001\n", Some((2, Reason::BadNumber))),
+    (b"guard x\n", Some((2, Reason::BadNumber))),
+    (b"guard\n", Some((2, Reason::BadWord))),
+    (b"guard 1 1\n", Some((2, Reason::BadWord))),
+    (b"guard 1\nguard 1\n", Some((3, Reason::BadWord))),
+    (b"guard 1\nguard 0\n", Some((3, Reason::BadWord))),
+    (b"flush 1\nguard x\n", Some((3, Reason::BadWord))),
+    (b"phase\nguard 1\n", Some((3, Reason::BadWord))),
+];
+
+#[test]
+fn guards_have_faults(rt: HostRuntime) {
+    for (line, fault) in &GUARD_LINES {
+        assert!(rt; has_fault_after(rt.alloc(), OF_EIGHT, line, *fault));
+    }
+    let of_nine = b"pas 4 pages 4 threads 9 heaps 1 age 2\n";
+    assert!(rt;
+        has_fault_after(
+            rt.alloc(),
+            of_nine,
+            b"guard 1\n",
+            Some((2, Reason::BadThread))
+        )
+    );
+    assert!(rt;
+        has_fault_after(
+            rt.alloc(),
+            of_nine,
+            b"guard 0\n",
+            Some((2, Reason::BadNumber))
+        )
+    );
+    let of_three = b"pas 3 pages 4 threads 1 heaps 1 age 2\n";
+    assert!(rt;
+        has_fault_after(
+            rt.alloc(),
+            of_three,
+            b"guard 1\n",
+            Some((2, Reason::BadWord))
+        )
+    );
+}
+
+/// Of two threads every second request for whole pages is guarded: thread 1's second and thread 2's second, of two pages.
+const SAMPLED: &[u8] =
+    b"pas 4 pages 9 threads 2 heaps 1 age 2\nguard 2\na 1 1 0 4096 16\na 2 2 0 24 16\na 1 3 0 4096 16\na 2 4 0 8192 16\na 2 5 0 5000 64\n";
+
+/// What thread 2 asks for then, whose keeper is actor 4.
+const KEPT: What = What::Guarded {
+    keeper: 4,
+    name: 5,
+    heap: 0,
+    size: 5000,
+    align: 64,
+};
+
+/// Whether the last of the operations is that one, and only it and the third are guarded. The bounds go up to the keepers': a deed for each page, and one and one for
+/// each page of a guarded block; a request for whole pages counts two more for its thread.
+fn is_sampled(plan: &Plan) -> bool {
+    plan.guard == 2
+        && plan.bounds.as_slice() == [0, 17, 21, 11, 12].as_slice()
+        && plan.total == 56
+        && match plan.phases.as_slice() {
+            [phase] => match phase.as_slice() {
+                [first, _, third, fourth, last] => {
+                    matches!(first.what, What::Alloc { .. })
+                        && matches!(third.what, What::Guarded { keeper: 3, .. })
+                        && matches!(fourth.what, What::Alloc { .. })
+                        && last.what == KEPT
+                }
+                _ => false,
+            },
+            _ => false,
+        }
+}
+
+/// Whether it is read as such.
+fn samples(alloc: Global) -> bool {
+    match read_trace(alloc, SAMPLED) {
+        Ok(plan) => is_sampled(&plan),
+        Err(_) => false,
+    }
+}
+
+#[test]
+fn a_guarded_request_has_a_keeper(rt: HostRuntime) {
+    assert!(rt; samples(rt.alloc()));
+}
+
 /// Lines of later versions in a text of version 1: a word that begins no line of the version is a bad one, whatever follows.
 const LATER_LINES: [&[u8]; 3] = [
     b"fs 1 1 24 16\n",

@@ -1,41 +1,46 @@
 -- How a replay on threads goes from phase to phase, and to its end: what stays so at another progress, the marks between phases, and the close.
-use Rattle.std.proofs.Common.{◌≡◌, ℕ, ◌+◌, List, [], ◌∷◌, ◌++◌, length, refl, ap, sym, subst, arith, length-append, zero, suc, ◌∙◌, append_assoc, ◌<◌, ◌≤◌, get_or, map, drop, slice_index_or, drop_of_length-le}
+use Rattle.std.proofs.Common.{◌≡◌, ◌≢◌, ℕ, ◌+◌, inl, inr, List, [], ◌∷◌, ◌++◌, length, Option, refl, ap, sym, subst, arith, length-append, zero, suc, ◌∙◌, append_assoc, ◌<◌, ◌≤◌, get_or, map, drop, slice_index_or, drop_of_length-le}
+use Rattle.std.proofs.lemmas.List.{append-nil, append_cancel_left, drop_more}
 use Rattle.pas_profile.specs.declared.profile.Profile.{Profile}
 use Rattle.pas_steps.specs.Clear.{HasNothing}
 use Rattle.pas_steps.specs.Lists.{part}
 use Rattle.pas_steps.specs.Views.{View}
+use Rattle.pas_trace.specs.Acts.{Ends, Lowers, numbers_from, Act, phase_acts, acts_of}
+use Rattle.pas_trace.specs.EveryPlan.{all_ops, own_records}
+use Rattle.pas_trace.specs.Plans.{ops_of}
 use Rattle.pas_trace.specs.declared.plan.Op.{Op}
+use Rattle.pas_trace.specs.declared.plan.Phase.{Phase}
 use Rattle.pas_report.specs.Rooms.{records_in, room_of, Records}
 use Rattle.pas_report.specs.declared.record.Record.{Record}
-use Rattle.pas_shared.specs.declared.region.SharedRegion.{SharedRegion}
-use Rattle.pas_answers.specs.Answers.{Named, Progress, with_records}
-use Rattle.pas_answers.specs.Calls.{Tells, AreKnown, OnlyAsked, owed_events}
-use Rattle.pas_acts.specs.Works.{Sits}
-use Rattle.pas_threads.specs.Hands.{standing_of_pass}
-use Rattle.pas_acts.specs.NameBooks.{NamesAt, requests_in, room_for, Requests}
-use Rattle.pas_threads.specs.Sessions.{Session, ScavengerRests, TeamAt, HasRoom, AreMarked, AreWritten, AreResting, CloseDone, owed_by, PhaseAt, PhaseDone, HasReplayed}
-use Rattle.pas_threads.proofs.PhaseTeams.{owed_less, own_all, all_paid, said_in_order, by_first}
-use Rattle.pas_acts.specs.declared.names.NameBook.{NameBook}
-use Rattle.pas_threads.specs.declared.scavenger.Scavenger.{Scavenger}
-use Rattle.pas_threads.specs.declared.phases.Team.{Team}
-use Rattle.pas_threads.proofs.TakingTurns.{same_rests, rests_clear}
-use Rattle.pas_answers.specs.Ways.{OnThreads, AreSpoken, by_actors, arranged, records_by}
-use Rattle.pas_shares.proofs.Arranging.{are_arranged}
-use Rattle.std.proofs.lemmas.List.{with_items_is, drop_more}
-use Rattle.std.specs.Vec.{with_items}
-use Rattle.pas_trace.specs.EveryPlan.{all_ops, own_records}
 use Rattle.pas_cache.specs.Caches.{Cached, cached}
 use Rattle.pas_cache.specs.declared.cache.ThreadCache.{ThreadCache}
-use Rattle.pas_trace.specs.Acts.{Ends, numbers_from, Act, phase_acts, acts_of}
+use Rattle.pas_shared.specs.declared.region.SharedRegion.{SharedRegion}
+use Rattle.pas_answers.specs.Answers.{Books, Caches, Named, Progress, with_records}
+use Rattle.pas_answers.specs.Calls.{Tells, AreKnown, OnlyAsked, owed_events}
 use Rattle.pas_answers.specs.Reaching.{Reaches}
-use Rattle.pas_threads.specs.Turns.{StoppedAll, said_by_all, IsGathered}
-use Rattle.pas_threads.specs.declared.workers.Worker.{Worker}
-use Rattle.pas_threads.proofs.Dealt.{some_worker}
-use Rattle.pas_trace.specs.Plans.{ops_of}
-use Rattle.pas_trace.specs.declared.plan.Phase.{Phase}
 use Rattle.pas_answers.specs.Replays.{at_start}
+use Rattle.pas_answers.specs.Ways.{OnThreads, AreSpoken, by_actors, arranged, records_by}
+use Rattle.pas_answers.proofs.OwnRecords.{records_both as said_both, spoken_both}
 use Rattle.pas_answers.proofs.Reached.{reach_both}
 use Rattle.pas_plans.proofs.ActsLeft.{acts_left, close_left, first_phase, other_phase}
+use Rattle.pas_shares.proofs.Arranging.{are_arranged}
+use Rattle.pas_acts.specs.NameBooks.{NamesAt, requests_in, room_for, Requests}
+use Rattle.pas_acts.specs.Works.{Sits}
+use Rattle.pas_acts.specs.declared.names.NameBook.{NameBook}
+use Rattle.pas_acts.proofs.Alone.{rests_still}
+use Rattle.pas_threads.specs.Hands.{standing_of_pass}
+use Rattle.pas_threads.specs.Pairs.{no_more, KeeperRests, said_by_keeper, owed_kept, keeper_at, owed_by_keepers, AreGuarded, IsLow, MayLower, LoweredAll}
+use Rattle.pas_threads.specs.Sessions.{planned, Session, evenly, WorkerHas, ScavengerRests, TeamAt, HasPlaces, HasRoom, AreMarked, AreWritten, AreResting, CloseDone, owed_by, PhaseAt, PhaseDone, HasReplayed}
+use Rattle.pas_threads.specs.Turns.{StoppedAll, said_own, said_by_all, said_kept, said_by_keepers, HasSaid, IsGathered, IsKeptGathered}
+use Rattle.pas_threads.specs.declared.keeper.Keeper.{Keeper}
+use Rattle.pas_threads.specs.declared.phases.Team.{Team}
+use Rattle.pas_threads.specs.declared.scavenger.Scavenger.{Scavenger}
+use Rattle.pas_threads.specs.declared.workers.Worker.{Worker}
+use Rattle.pas_threads.proofs.Dealt.{some_worker}
+use Rattle.pas_threads.proofs.Keepers.{keeper_is, owed_still, waits_gathered, of_gathered, silent_gathered, low_gathered}
+use Rattle.pas_threads.proofs.KeptPhases.{alike_same, alike_pushed, alike_said, alike_both, guarded_alike, kept_still, said_then}
+use Rattle.pas_threads.proofs.PhaseSums.{owed_less, kept_less, own_all, all_paid, said_in_order, kept_in_order, kept_few, by_all}
+use Rattle.pas_threads.proofs.TakingTurns.{same_owed, same_rests, rests_clear}
 
 -- ---- another progress
 -- the scavenger rests at each progress of which it has the same part
@@ -55,6 +60,7 @@ pub names_at : {f : Profile} {ops : List Op} {book : NameBook} {p q : Progress} 
 names_at {f} {ops} {book} {p} {q} same at = record {
   asked = at.asked;
   sound = at.sound;
+  above = at.above;
   below = at.below;
   tells = subst (λ (names : List Named). Tells book.names names) (sym same) at.tells;
   stand = at.stand;
@@ -71,7 +77,10 @@ team_at_records more at = record {
   few_threads = at.few_threads;
   few = at.few;
   within = at.within;
+  behind = at.behind;
   workers = λ i d lt. same_rests refl refl (at.workers i d lt);
+  guarded = at.guarded;
+  kept = λ i d lt. kept_still refl refl refl (at.kept i d lt);
   scavenger = scavenger_rests refl at.scavenger;
   nobody = at.nobody;
   names = names_at refl at.names;
@@ -80,17 +89,19 @@ team_at_records more at = record {
 }
 
 -- a mark took the room for one
-pub room_after_mark : (s : Session) (phases : List (List Op)) (marks : ℕ) (out out' : Records) (p : Progress) (mark : Record) → records_in out' ≡ records_in out ++ mark ∷ [] → room_of out' ≡ room_of out
-    → HasRoom s phases (marks + 1) out p → HasRoom s phases marks out' (with_records p (mark ∷ []))
-room_after_mark s phases marks out out' p mark pushed size room =
+pub room_after_mark : (s : Session) (phases : List (List Op)) (marks : ℕ) (workers : List Worker) (out out' : Records) (p : Progress) (mark : Record) → records_in out' ≡ records_in out ++ mark ∷ [] → room_of out' ≡ room_of out
+    → HasRoom s phases (marks + 1) workers out p → HasRoom s phases marks workers out' (with_records p (mark ∷ []))
+room_after_mark s phases marks workers out out' p mark pushed size room =
     let grown = ap (λ (rs : List Record). length rs) pushed in
     let one = length-append (records_in out) (mark ∷ []) in
     let same = owed_less s.profile p (with_records p (mark ∷ [])) s.threads (λ i lt. omega arith) in
-    omega (arith, grown, one, same, size, room)
+    let kept = kept_less s.profile s.threads workers workers p (with_records p (mark ∷ [])) s.threads
+    (λ i lt. let still = owed_still s.profile (s.threads + suc i) (keeper_at workers i) p (with_records p (mark ∷ [])) refl in omega (arith, still)) in
+    omega (arith, grown, one, same, kept, size, room)
 
 -- .. and no mark took none
-pub room_without_mark : (s : Session) (phases : List (List Op)) (marks : ℕ) (out : Records) (p : Progress) → HasRoom s phases (marks + 1) out p → HasRoom s phases marks out p
-room_without_mark s phases marks out p room = omega (arith, room)
+pub room_without_mark : (s : Session) (phases : List (List Op)) (marks : ℕ) (workers : List Worker) (out : Records) (p : Progress) → HasRoom s phases (marks + 1) workers out p → HasRoom s phases marks workers out p
+room_without_mark s phases marks workers out p room = omega (arith, room)
 
 -- ---- no records
 none_by_actors : (k n : ℕ) → by_actors k n [] ≡ []
@@ -149,111 +160,259 @@ written_whole {s} so =
     ∙ sym (so.marked so.said)
     ∙ ap (λ (rs : List Record). arranged OnThreads threads rs) (sym so.records_are)
 
+-- ---- what is so of the workers at the end
+record AreClosed (region : SharedRegion) (s : Session) (all : List Worker) (q : Progress) : Type 0 where
+  workers : AreResting region s.profile all (λ k. own_records (planned s) k (all_ops [])) q
+  guarded : AreGuarded s.keepers all
+  kept : (i : ℕ) (d : Worker) → i < length all → KeeperRests region s.profile (s.threads + suc i) [] (get_or all i d).keeper q
+  empty : (i : ℕ) (d : Worker) → i < length all → (cached (get_or all i d).cache).locals ≡ []
+  low : (i : ℕ) (d : Worker) → i < length all → IsLow (get_or all i d).keeper
+
 -- ---- the close
-module _ {region : SharedRegion} {s : Session} {team : Team} {p : Progress} (written : List Record) (stopped gathered : List Worker) (at : TeamAt region s [] team p)
-    (did : StoppedAll region s.profile team.threads.items stopped (λ k. own_records s.profile k (all_ops [])) p) (many : length stopped ≡ length team.threads.items) where
+-- Each thread was stopped, then each keeper lowered its guards; then what was said for the threads is gathered, and what was said for the keepers.
+module _ {region : SharedRegion} {s : Session} {team : Team} {p : Progress} (stopped : List Worker) (at : TeamAt region s [] team p)
+    (did : StoppedAll region s.profile team.threads.items stopped (λ k. own_records (planned s) k (all_ops [])) p) (many : length stopped ≡ length team.threads.items) where
   abbrev f : Profile
   f = s.profile
 
-  abbrev all : List Record
-  all = did.turns.came.said
+  abbrev between : Progress
+  between = did.turns.came.reached
 
-  abbrev reached : Progress
-  reached = did.turns.came.reached
-
-  said_by_one : (i : ℕ) (d : Worker) → i < length team.threads.items → records_in (get_or stopped i d).out ≡ records_by (suc i) all
-  said_by_one i d lt = (did.turns.told i d lt).out.added ∙ ap (λ (rs : List Record). rs ++ records_by (suc i) all) (at.workers i d lt).said
-
-  said_are : said_by_all stopped ≡ by_actors 1 s.threads all
-  said_are =
-      said_in_order 1 stopped all (λ i d lt. said_by_one i d (omega (arith, lt, many)) ∙ ap (λ (j : ℕ). records_by j all) (let e : suc i ≡ 1 + i = omega arith in e))
-      ∙ ap (λ (n : ℕ). by_actors 1 n all) (many ∙ at.many)
-
-  -- nobody past them said anything
-  silent : (k : ℕ) → s.threads < k → records_by k all ≡ []
-  silent k far = did.turns.leaves.silent k (λ is. omega (arith, is, far)) (λ i lt same. let n = at.many in omega (arith, far, n, lt, same))
-
-  -- what they owed pays for what they said
-  said_few : length (by_actors 1 s.threads all) ≤ owed_by f p s.threads
-  said_few =
+  -- no keeper did anything so far
+  kept_between : (i : ℕ) (d : Worker) → i < length team.threads.items → KeeperRests region f (s.threads + suc i) [] (get_or stopped i d).keeper between
+  kept_between i d lt =
+      let keeper = s.threads + suc i in
       let threads = at.many in
-      let paid = all_paid f [] all p reached s.threads (λ i lt.
-      let less : i < length team.threads.items = omega (arith, lt, threads) in
-      let d = some_worker team.threads.items i less in
-      let due = (did.turns.stand i d less).paid in
-      let size = ap (λ (rs : List Record). length rs) (said_by_one i d less) in
-      omega (arith, due, size)) in
-      let none = own_all f [] s.threads in
-      omega (arith, paid, none)
+      kept_still (did.turns.told i d lt).keeper (did.turns.leaves.parts keeper (λ j less same. omega (arith, less, same, threads))) (ap (λ (books : Books). books keeper) did.turns.leaves.books) (at.kept i d lt)
 
-  -- there is room for what they said
-  pub room_at_close : {room : ℕ} → length written + (owed_by f p s.threads + 0 + 0) ≤ room → length written + length (said_by_all stopped) ≤ room
-  room_at_close {room} fits =
-      let few = said_few in
-      let size = ap (λ (rs : List Record). length rs) said_are in
-      omega (arith, fits, few, size)
-
-  written_so : {written' : List Record} → AreMarked s p.records written → written' ≡ written ++ said_by_all stopped → AreWritten s reached.records written'
-  written_so {written'} marked added = record {
-    before = p.records;
-    before_written = written;
-    said = all;
-    marked = marked;
-    spoken = did.spoken;
-    records_are = did.turns.came.records_are;
-    written_are = added ∙ ap (λ (rs : List Record). written ++ rs) (said_are ∙ sym (by_first s.threads f.threads all at.fits silent ∙ ap (λ (rs : List Record). rs ++ by_actors 1 s.threads all) did.none));
+  pub may_lower : MayLower region f s.threads s.keepers stopped between
+  may_lower = record {
+    guarded = guarded_alike team.threads.items stopped many (λ i d lt. alike_same (get_or team.threads.items i d).keeper (get_or stopped i d).keeper (did.turns.told i d lt).keeper) at.guarded;
+    each = λ i d lt. let rests = kept_between i d (omega (arith, lt, many)) in (rests.of, rests.waits);
   }
 
-  module _ (same : length gathered ≡ length stopped) (each : (i : ℕ) (d : Worker) → i < length stopped → IsGathered (get_or stopped i d) (get_or gathered i d)) where
-    workers_rest : AreResting region f gathered (λ k. own_records f k (all_ops [])) reached
-    workers_rest i d lt =
-        let within : i < length team.threads.items = omega (arith, lt, same, many) in
-        let was = at.workers i d within in
-        let requests = (did.turns.told i d within).requests in
-        let g = each i d (omega (arith, lt, same)) in
-        let due = (did.turns.stand i d within).here in
-        let spare = due.rests.spare in
-        let owed = ap (λ (c : Cached). owed_events f c (part (suc i) reached.list)) due.rests.cache in
-        let room = g.room in
-        let fits = was.requests in
-        let noted = ap (λ (r : Requests). room_for r) (g.requests ∙ requests) in
-        rests_clear due g.pass g.cache g.none (omega arith) (omega (arith, spare, owed, room)) (ap (λ (r : Requests). requests_in r) (g.requests ∙ requests) ∙ was.asked) (omega (arith, fits, noted))
+  module _ (written : List Record) (lowered : List Worker) (low : LoweredAll region f s.threads s.keepers stopped lowered between) (same : length lowered ≡ length stopped) where
+    abbrev all : List Record
+    all = did.turns.came.said ++ low.said
 
-    caches_empty : (i : ℕ) (d : Worker) → i < length gathered → (cached (get_or gathered i d).cache).locals ≡ []
-    caches_empty i d lt = ap (λ (c : ThreadCache). (cached c).locals) (each i d (omega (arith, lt, same))).cache ∙ did.empty i d (omega (arith, lt, same, many))
+    abbrev reached : Progress
+    reached = low.reached
 
-    -- the team, with the threads that were stopped and gathered
-    abbrev pub closed : Team
-    closed = record team { threads = with_items (with_items team.threads stopped) gathered }
+    threads_is : length lowered ≡ s.threads
+    threads_is = same ∙ many ∙ at.many
 
-    pub has_closed : {written' : List Record} → length gathered ≡ (with_items team.threads stopped).len → AreMarked s p.records written → written' ≡ written ++ said_by_all stopped → CloseDone region s closed written' p
-    has_closed {written'} size marked added =
-        let threads : closed.threads.items ≡ gathered = with_items_is (with_items team.threads stopped) gathered size in
-        record {
-          reached = reached;
-          reaches = subst (λ (n : ℕ). Reaches f (map Ends (numbers_from 1 n)) p reached) at.many did.turns.came.reaches;
-          team_at = record {
-            many = ap (λ (ws : List Worker). length ws) threads ∙ same ∙ many ∙ at.many;
-            fits = at.fits;
-            few_threads = at.few_threads;
-            few = at.few;
-            within = at.within;
-            workers = subst (λ (ws : List Worker). AreResting region f ws (λ k. own_records f k (all_ops [])) reached) (sym threads) workers_rest;
-            scavenger = scavenger_rests (did.turns.leaves.parts 0 (λ i lt is. omega (arith, is))) at.scavenger;
-            nobody = λ k far. did.turns.leaves.parts k (λ i lt same. let n = at.many in omega (arith, far, n, lt, same)) ∙ at.nobody k far;
-            names = names_at did.turns.leaves.names at.names;
-            frees = tt;
-            places = record { workers = at.places.workers; hands = at.places.hands; lent = at.places.lent; free = at.places.free };
-          };
-          written_so = written_so marked added;
-          empty = λ i d lt.
-              let all = ap (λ (ws : List Worker). length ws) threads in
-              ap (λ (ws : List Worker). (cached (get_or ws i d).cache).locals) threads ∙ caches_empty i d (omega (arith, lt, all));
-        }
+    -- an actor that is no keeper
+    apart : (k : ℕ) → k ≤ s.threads → (j : ℕ) → j < length stopped → s.threads + suc j ≢ k
+    apart k le j lt is = omega (arith, le, is)
+
+    of_both : (k : ℕ) → records_by k all ≡ records_by k did.turns.came.said ++ records_by k low.said
+    of_both k = said_both k did.turns.came.said low.said
+
+    -- what the worker said for its thread
+    said_by_one : (i : ℕ) (d : Worker) → i < length team.threads.items → records_in (get_or lowered i d).out ≡ records_by (suc i) all
+    said_by_one i d lt =
+        let within : i < length stopped = omega (arith, lt, many) in
+        let threads = at.many in
+        ap (λ (o : Records). records_in o) (low.each i d within).but.out ∙ (did.turns.told i d lt).out.added ∙ ap (λ (rs : List Record). rs ++ records_by (suc i) did.turns.came.said) (at.workers i d lt).said
+        ∙ sym (of_both (suc i) ∙ ap (λ (rs : List Record). records_by (suc i) did.turns.came.said ++ rs) (low.silent (suc i) (apart (suc i) (omega (arith, lt, threads)))) ∙ append-nil (records_by (suc i) did.turns.came.said))
+
+    said_are : said_by_all lowered ≡ by_actors 1 s.threads all
+    said_are =
+        said_in_order said_own 1 lowered all (λ i d lt. said_by_one i d (omega (arith, lt, same, many)) ∙ ap (λ (j : ℕ). records_by j all) (let e : suc i ≡ 1 + i = omega arith in e))
+        ∙ ap (λ (n : ℕ). by_actors 1 n all) threads_is
+
+    -- .. and for its keeper
+    kept_by_one : (i : ℕ) (d : Worker) → i < length team.threads.items → said_kept (get_or lowered i d) ≡ records_by (s.threads + suc i) all
+    kept_by_one i d lt =
+        let within : i < length stopped = omega (arith, lt, many) in
+        let keeper = s.threads + suc i in
+        let threads = at.many in
+        said_then keeper low.said (get_or stopped i d).keeper (get_or lowered i d).keeper (low.each i d within).told (kept_between i d lt).silent
+        ∙ sym (of_both keeper ∙ ap (λ (rs : List Record). rs ++ records_by keeper low.said) (did.turns.leaves.silent keeper (λ is. omega (arith, is)) (λ j less is. omega (arith, less, is, threads))))
+
+    -- where there are no keepers nothing was done
+    nothing_done : s.keepers ≡ 0 → (reached ≡ between) × (low.said ≡ [])
+    nothing_done none =
+        let acts : map Lowers (numbers_from (s.threads + 1) s.keepers) ≡ [] = ap (λ (n : ℕ). map Lowers (numbers_from (s.threads + 1) n)) none in
+        let is : reached ≡ between = subst (λ (xs : List Act). Reaches f xs between reached) acts low.reaches in
+        (is, append_cancel_left between.records low.said [] (sym low.records_are ∙ ap (λ (q : Progress). q.records) is ∙ sym (append-nil between.records)))
+
+    -- nobody past the keepers did anything
+    past : (k : ℕ) → s.threads + s.keepers < k → AreGuarded s.keepers team.threads.items → (part k reached.list ≡ part k between.list) × (records_by k low.said ≡ [])
+    past k far (inl keepers) =
+        let count = keepers.0 in
+        let other : (j : ℕ) → j < length stopped → s.threads + suc j ≢ k = λ j lt is. omega (arith, far, count, lt, is, many) in
+        (low.parts k other, low.silent k other)
+    past k far (inr none) =
+        let nothing = nothing_done none.0 in
+        (ap (λ (q : Progress). part k q.list) nothing.0, ap (λ (rs : List Record). records_by k rs) nothing.1)
+
+    stops_past : (k : ℕ) → s.threads < k → (i : ℕ) → i < length team.threads.items → suc i ≢ k
+    stops_past k far i lt is = let n = at.many in omega (arith, far, n, lt, is)
+
+    silent : (k : ℕ) → s.threads + s.keepers < k → records_by k all ≡ []
+    silent k far =
+        of_both k ∙ ap (λ (rs : List Record). rs ++ records_by k low.said) (did.turns.leaves.silent k (λ is. omega (arith, is, far)) (stops_past k (omega (arith, far)))) ∙ (past k far at.guarded).1
+
+    none_of_scavenger : records_by 0 all ≡ []
+    none_of_scavenger = of_both 0 ∙ ap (λ (rs : List Record). rs ++ records_by 0 low.said) did.none ∙ low.silent 0 (apart 0 (omega arith))
+
+    -- what they owed pays for what they said
+    said_few : length (by_actors 1 s.threads all) + length (by_actors (s.threads + 1) s.threads all) ≤ owed_by f p s.threads + owed_by_keepers f s.threads team.threads.items p s.threads
+    said_few =
+        let threads = at.many in
+        let paid = all_paid f (planned s) s.threads [] all team.threads.items [] p reached s.threads (λ i lt.
+        let less : i < length team.threads.items = omega (arith, lt, threads) in
+        let within : i < length stopped = omega (arith, less, many) in
+        let d = some_worker team.threads.items i less in
+        let keeper = s.threads + suc i in
+        let due = (did.turns.stand i d less).paid in
+        let out = ap (λ (o : Records). length (records_in o)) (low.each i d within).but.out in
+        let size = ap (λ (rs : List Record). length rs) (said_by_one i d less) in
+        let owes = same_owed f between reached (suc i) (low.parts (suc i) (apart (suc i) (omega (arith, lt)))) (ap (λ (cs : Caches). cs (suc i)) low.caches) in
+        let kept = (low.each i d within).paid in
+        let by_keeper = ap (λ (rs : List Record). length rs)
+        (of_both keeper ∙ ap (λ (rs : List Record). rs ++ records_by keeper low.said) (did.turns.leaves.silent keeper (λ is. omega (arith, is)) (λ j before is. omega (arith, before, is, threads)))) in
+        let had = ap (λ (o : Option Keeper). owed_kept f keeper o between) ((did.turns.told i d less).keeper ∙ sym (keeper_is team.threads.items i d less))
+        ∙ owed_still f keeper (keeper_at team.threads.items i) p between (did.turns.leaves.parts keeper (λ j before is. omega (arith, before, is, threads))) in
+        omega (arith, due, out, size, owes, kept, by_keeper, had)) in
+        let none = own_all (planned s) [] s.threads in
+        omega (arith, paid, none)
+
+    -- there is room for what they said
+    pub room_at_close : {room : ℕ} → length written + (owed_by f p s.threads + owed_by_keepers f s.threads team.threads.items p s.threads + 0 + 0) ≤ room → length written + length (said_by_all lowered) ≤ room
+    room_at_close {room} fits =
+        let few = said_few in
+        let size = ap (λ (rs : List Record). length rs) said_are in
+        omega (arith, fits, few, size)
+
+    module _ (gathered : List Worker) (g : (i : ℕ) (d : Worker) → i < length lowered → IsGathered (get_or lowered i d) (get_or gathered i d)) (same1 : length gathered ≡ length lowered) where
+      guarded_then : AreGuarded s.keepers gathered
+      guarded_then = guarded_alike team.threads.items gathered (same1 ∙ same ∙ many) (λ i d lt.
+          let within : i < length stopped = omega (arith, lt, many) in
+          let here : i < length lowered = omega (arith, within, same) in
+          alike_both (get_or team.threads.items i d).keeper (get_or stopped i d).keeper (get_or gathered i d).keeper (alike_same (get_or team.threads.items i d).keeper (get_or stopped i d).keeper (did.turns.told i d lt).keeper)
+          (alike_both (get_or stopped i d).keeper (get_or lowered i d).keeper (get_or gathered i d).keeper (alike_pushed (s.threads + suc i) low.said (get_or stopped i d).keeper (get_or lowered i d).keeper (low.each i d within).told)
+          (alike_same (get_or lowered i d).keeper (get_or gathered i d).keeper (g i d here).keeper))) at.guarded
+
+      kept_are : said_by_keepers gathered ≡ by_actors (s.threads + 1) s.keepers all
+      kept_are = kept_in_order s.threads gathered all guarded_then (λ i d lt. ap said_by_keeper (g i d (omega (arith, lt, same1))).keeper ∙ kept_by_one i d (omega (arith, lt, same1, same, many)))
+
+      pub room_for_keepers : {room : ℕ} (out : List Record) → out ≡ written ++ said_by_all lowered → length written + (owed_by f p s.threads + owed_by_keepers f s.threads team.threads.items p s.threads + 0 + 0) ≤ room → length out + length (said_by_keepers gathered) ≤ room
+      room_for_keepers {room} out added fits =
+          let few = said_few in
+          let own = ap (λ (rs : List Record). length rs) said_are in
+          let all_kept = ap (λ (rs : List Record). length rs) kept_are in
+          let most = kept_few s.threads gathered all guarded_then in
+          let count = ap (λ (n : ℕ). length (by_actors (s.threads + 1) n all)) (same1 ∙ threads_is) in
+          let long = ap (λ (rs : List Record). length rs) added in
+          let sum = length-append written (said_by_all lowered) in
+          omega (arith, fits, few, own, all_kept, most, count, long, sum)
+
+      written_so : {written' : List Record} → AreMarked s p.records written → written' ≡ (written ++ said_by_all lowered) ++ said_by_keepers gathered → AreWritten s reached.records written'
+      written_so {written'} marked added = record {
+        before = p.records;
+        before_written = written;
+        said = all;
+        marked = marked;
+        spoken = spoken_both did.turns.came.said low.said did.spoken low.spoken;
+        records_are = low.records_are ∙ ap (λ (rs : List Record). rs ++ low.said) did.turns.came.records_are ∙ append_assoc p.records did.turns.came.said low.said;
+        written_are = added ∙ append_assoc written (said_by_all lowered) (said_by_keepers gathered)
+            ∙ ap (λ (rs : List Record). written ++ (rs ++ said_by_keepers gathered)) said_are ∙ ap (λ (rs : List Record). written ++ (by_actors 1 s.threads all ++ rs)) kept_are
+            ∙ ap (λ (rs : List Record). written ++ rs)
+            (sym (by_all s.threads s.keepers f.threads all at.fits silent ∙ ap (λ (rs : List Record). rs ++ (by_actors 1 s.threads all ++ by_actors (s.threads + 1) s.keepers all)) none_of_scavenger));
+      }
+
+      module _ (kept : List Worker) (h : (i : ℕ) (d : Worker) → i < length gathered → IsKeptGathered (get_or gathered i d) (get_or kept i d)) (same2 : length kept ≡ length gathered) where
+        sized : length kept ≡ length team.threads.items
+        sized = same2 ∙ same1 ∙ same ∙ many
+
+        workers_rest : AreResting region f kept (λ k. own_records (planned s) k (all_ops [])) reached
+        workers_rest i d lt =
+            let count = sized in
+            let threads = at.many in
+            let within : i < length team.threads.items = omega (arith, lt, count) in
+            let here : i < length stopped = omega (arith, within, many) in
+            let was = at.workers i d within in
+            let but = (low.each i d here).but in
+            let g1 = g i d (omega (arith, here, same)) in
+            let h1 = (h i d (omega (arith, lt, same2))).but in
+            let requests = (did.turns.told i d within).requests in
+            let due = (did.turns.stand i d within).here in
+            let has : WorkerHas region f (suc i) (get_or stopped i d) (evenly (own_records (planned s) (suc i) [])) reached =
+            record { has = due.has; rests = rests_still (low.parts (suc i) (apart (suc i) (omega (arith, within, threads)))) (ap (λ (cs : Caches). cs (suc i)) low.caches) due.rests } in
+            let spare = has.rests.spare in
+            let owed = ap (λ (c : Cached). owed_events f c (part (suc i) reached.list)) has.rests.cache in
+            let room : room_of (get_or kept i d).out ≡ room_of (get_or stopped i d).out = ap room_of h1.out ∙ g1.room ∙ ap room_of but.out in
+            let fits = was.requests in
+            let same_requests : (get_or kept i d).requests ≡ (get_or team.threads.items i d).requests = h1.requests ∙ g1.requests ∙ but.requests ∙ requests in
+            let noted = ap (λ (r : Requests). room_for r) same_requests in
+            rests_clear has (h1.pass ∙ g1.pass ∙ but.pass) (h1.cache ∙ g1.cache ∙ but.cache) (ap (λ (o : Records). records_in o) h1.out ∙ g1.none) (omega arith) (omega (arith, spare, owed, room))
+            (ap (λ (r : Requests). requests_in r) same_requests ∙ was.asked) (omega (arith, fits, noted))
+
+        -- what the keeper's last state was gathered from
+        last : (i : ℕ) (d : Worker) → i < length kept → HasSaid (get_or lowered i d).keeper (get_or kept i d).keeper
+        last i d lt = subst (λ (o : Option Keeper). HasSaid o (get_or kept i d).keeper) (g i d (omega (arith, lt, same1, same2))).keeper (h i d (omega (arith, lt, same2))).keeper
+
+        keepers_rest : (i : ℕ) (d : Worker) → i < length kept → KeeperRests region f (s.threads + suc i) [] (get_or kept i d).keeper reached
+        keepers_rest i d lt =
+            let count = sized in
+            let one = low.each i d (omega (arith, lt, count, many)) in
+            let said = last i d lt in
+            let old = (get_or lowered i d).keeper in
+            let new = (get_or kept i d).keeper in
+            record { of = of_gathered region old new said one.of; waits = waits_gathered f (s.threads + suc i) [] no_more reached old new said one.waits; silent = silent_gathered old new said }
+
+        keepers_low : (i : ℕ) (d : Worker) → i < length kept → IsLow (get_or kept i d).keeper
+        keepers_low i d lt =
+            let count = sized in
+            let here : i < length stopped = omega (arith, lt, count, many) in
+            low_gathered (get_or lowered i d).keeper (get_or kept i d).keeper (last i d lt) (low.low i d here here)
+
+        caches_empty : (i : ℕ) (d : Worker) → i < length kept → (cached (get_or kept i d).cache).locals ≡ []
+        caches_empty i d lt =
+            let count = sized in
+            let within : i < length team.threads.items = omega (arith, lt, count) in
+            let cache = (h i d (omega (arith, lt, same2))).but.cache ∙ (g i d (omega (arith, lt, same1, same2))).cache ∙ (low.each i d (omega (arith, within, many))).but.cache in
+            ap (λ (c : ThreadCache). (cached c).locals) cache ∙ did.empty i d within
+
+        guarded_last : AreGuarded s.keepers kept
+        guarded_last = guarded_alike gathered kept same2 (λ i d lt. alike_said (get_or gathered i d).keeper (get_or kept i d).keeper (h i d lt).keeper) guarded_then
+
+        pub has_closed : (after : Team) → after.threads.items ≡ kept → after.scavenger ≡ team.scavenger → after.book ≡ team.book → HasPlaces s.threads after → {written' : List Record} → AreMarked s p.records written
+            → written' ≡ (written ++ said_by_all lowered) ++ said_by_keepers gathered → CloseDone region s after written' p
+        has_closed after threads scavenger book places {written'} marked added =
+            let has_all : AreClosed region s kept reached = record { workers = workers_rest; guarded = guarded_last; kept = keepers_rest; empty = caches_empty; low = keepers_low } in
+            let then : AreClosed region s after.threads.items reached = subst (λ (ws : List Worker). AreClosed region s ws reached) (sym threads) has_all in
+            record {
+              reached = reached;
+              reaches = reach_both f (map Ends (numbers_from 1 s.threads)) (map Lowers (numbers_from (s.threads + 1) s.keepers)) p between reached
+                  (subst (λ (n : ℕ). Reaches f (map Ends (numbers_from 1 n)) p between) at.many did.turns.came.reaches) low.reaches;
+              team_at = record {
+                many = ap (λ (ws : List Worker). length ws) threads ∙ sized ∙ at.many;
+                fits = at.fits;
+                few_threads = at.few_threads;
+                few = at.few;
+                within = at.within;
+                behind = at.behind;
+                workers = then.workers;
+                guarded = then.guarded;
+                kept = then.kept;
+                scavenger = subst (λ (x : Scavenger). ScavengerRests region f x (own_records (planned s) 0 (all_ops [])) reached) (sym scavenger)
+                    (scavenger_rests (low.parts 0 (apart 0 (omega arith)) ∙ did.turns.leaves.parts 0 (λ i lt is. omega (arith, is))) at.scavenger);
+                nobody = λ k far. (past k far at.guarded).0 ∙ did.turns.leaves.parts k (stops_past k (omega (arith, far))) ∙ at.nobody k far;
+                names = subst (λ (b : NameBook). NamesAt f (all_ops []) b reached) (sym book) (names_at (low.names ∙ did.turns.leaves.names) at.names);
+                frees = tt;
+                places = places;
+              };
+              written_so = written_so marked added;
+              empty = then.empty;
+              low = then.low;
+            }
 
 -- what follows these acts from p on is a replay of all
 abbrev pub Leads : Session → List (List Op) → List Act → Progress → Type 0
-Leads s all acts p = (q : Progress) → Reaches s.profile acts p q → Reaches s.profile (acts_of s.threads all) at_start q
+Leads s all acts p = (q : Progress) → Reaches s.profile acts p q → Reaches s.profile (acts_of s.threads s.keepers all) at_start q
 
 -- After n phases of all: these are left. There is room for a mark before each of them, and for that of the close. Before the first phase there is no
 -- record.
@@ -261,17 +420,17 @@ pub record AfterPhases (region : SharedRegion) (s : Session) (all : List (List O
   pub p : Progress
   pub team_at : TeamAt region s left team p
   pub written : AreWritten s p.records (records_in out)
-  pub room : HasRoom s left (length left + 1) out p
+  pub room : HasRoom s left (length left + 1) team.threads.items out p
   pub none : n ≡ 0 → (p.records ≡ []) × (records_in out ≡ [])
-  pub leads : Leads s all (acts_left s.threads n left) p
+  pub leads : Leads s all (acts_left s.threads s.keepers n left) p
 
-pub no_phase : {region : SharedRegion} {s : Session} {all : List (List Op)} {team : Team} {out : Records} {marks : ℕ} → records_in out ≡ [] → marks ≡ length all + 1 → TeamAt region s all team at_start → HasRoom s all marks out at_start
+pub no_phase : {region : SharedRegion} {s : Session} {all : List (List Op)} {team : Team} {out : Records} {marks : ℕ} → records_in out ≡ [] → marks ≡ length all + 1 → TeamAt region s all team at_start → HasRoom s all marks team.threads.items out at_start
     → AfterPhases region s all 0 all team out
 no_phase {region} {s} {all} {team} {out} {marks} empty is at room = record {
   p = at_start;
   team_at = at;
   written = none_written s refl empty;
-  room = subst (λ (m : ℕ). HasRoom s all m out at_start) is room;
+  room = subst (λ (m : ℕ). HasRoom s all m team.threads.items out at_start) is room;
   none = λ zero. (refl, empty);
   leads = λ q reaches. reaches;
 }
@@ -291,11 +450,11 @@ as_last {region} {s} {all} {team} {out} phases i le so = subst (λ (left : List 
 pub record BeforePhase (region : SharedRegion) (s : Session) (all : List (List Op)) (n : ℕ) (ops : List Op) (rest : List (List Op)) (team : Team) (out : Records) : Type 0 where
   pub p : Progress
   pub at : PhaseAt region s ops rest (length rest + 1) team out p
-  pub leads : Leads s all (phase_acts s.threads ops ++ acts_left s.threads (n + 1) rest) p
+  pub leads : Leads s all (phase_acts s.threads ops ++ acts_left s.threads s.keepers (n + 1) rest) p
 
 module _ {region : SharedRegion} {s : Session} {all : List (List Op)} {n : ℕ} {ops : List Op} {rest : List (List Op)} {team : Team} {out : Records} (so : AfterPhases region s all n (ops ∷ rest) team out) where
-  one_more : (out' : Records) (q : Progress) → HasRoom s (ops ∷ rest) (length (ops ∷ rest) + 1) out' q → HasRoom s (ops ∷ rest) (length rest + 1 + 1) out' q
-  one_more out' q room = subst (λ (m : ℕ). HasRoom s (ops ∷ rest) m out' q) (let e : length (ops ∷ rest) + 1 ≡ length rest + 1 + 1 = omega arith in e) room
+  one_more : (out' : Records) (q : Progress) → HasRoom s (ops ∷ rest) (length (ops ∷ rest) + 1) team.threads.items out' q → HasRoom s (ops ∷ rest) (length rest + 1 + 1) team.threads.items out' q
+  one_more out' q room = subst (λ (m : ℕ). HasRoom s (ops ∷ rest) m team.threads.items out' q) (let e : length (ops ∷ rest) + 1 ≡ length rest + 1 + 1 = omega arith in e) room
 
   -- there is room for a mark
   pub spare_for_mark : length (records_in out) < room_of out
@@ -304,8 +463,8 @@ module _ {region : SharedRegion} {s : Session} {all : List (List Op)} {n : ℕ} 
   pub first_begins : n ≡ 0 → BeforePhase region s all n ops rest team out
   first_begins is = record {
     p = so.p;
-    at = record { team_at = so.team_at; marked = are_none s (so.none is).0 (so.none is).1; room = room_without_mark s (ops ∷ rest) (length rest + 1) out so.p (one_more out so.p so.room) };
-    leads = subst (λ (acts : List Act). Leads s all acts so.p) (first_phase s.threads n ops rest is) so.leads;
+    at = record { team_at = so.team_at; marked = are_none s (so.none is).0 (so.none is).1; room = room_without_mark s (ops ∷ rest) (length rest + 1) team.threads.items out so.p (one_more out so.p so.room) };
+    leads = subst (λ (acts : List Act). Leads s all acts so.p) (first_phase s.threads s.keepers n ops rest is) so.leads;
   }
 
   pub other_begins : {out' : Records} → 1 ≤ n → records_in out' ≡ records_in out ++ Record.Phase (n + 1) ∷ [] → room_of out' ≡ room_of out → BeforePhase region s all n ops rest team out'
@@ -315,9 +474,9 @@ module _ {region : SharedRegion} {s : Session} {all : List (List Op)} {n : ℕ} 
         at = record {
           team_at = team_at_records (Record.Phase (n + 1) ∷ []) so.team_at;
           marked = as_marked s (so.p.records ++ Record.Phase (n + 1) ∷ []) pushed (phase_marked (n + 1) so.written);
-          room = room_after_mark s (ops ∷ rest) (length rest + 1) out out' so.p (Record.Phase (n + 1)) pushed size (one_more out so.p so.room);
+          room = room_after_mark s (ops ∷ rest) (length rest + 1) team.threads.items out out' so.p (Record.Phase (n + 1)) pushed size (one_more out so.p so.room);
         };
-        leads = λ q reaches. (subst (λ (acts : List Act). Leads s all acts so.p) (other_phase s.threads n ops rest some) so.leads) q (with_records so.p (Record.Phase (n + 1) ∷ []), refl, reaches);
+        leads = λ q reaches. (subst (λ (acts : List Act). Leads s all acts so.p) (other_phase s.threads s.keepers n ops rest some) so.leads) q (with_records so.p (Record.Phase (n + 1) ∷ []), refl, reaches);
       }
 
 pub phase_ends : {region : SharedRegion} {s : Session} {all : List (List Op)} {n : ℕ} {ops : List Op} {rest : List (List Op)} {team team' : Team} {out out' : Records} (so : BeforePhase region s all n ops rest team out)
@@ -328,7 +487,7 @@ phase_ends {region} {s} {all} {n} {ops} {rest} {team} {team'} {out} {out'} so di
   written = did.written;
   room = did.room;
   none = λ zero. absurd (omega (arith, zero));
-  leads = λ q reaches. so.leads q (reach_both s.profile (phase_acts s.threads ops) (acts_left s.threads (n + 1) rest) so.p did.reached q did.reaches reaches);
+  leads = λ q reaches. so.leads q (reach_both s.profile (phase_acts s.threads ops) (acts_left s.threads s.keepers (n + 1) rest) so.p did.reached q did.reaches reaches);
 }
 
 -- ---- the close
@@ -337,8 +496,8 @@ pub record BeforeClose (region : SharedRegion) (s : Session) (all : List (List O
   pub p : Progress
   pub team_at : TeamAt region s [] team p
   pub marked : AreMarked s p.records (records_in out)
-  pub room : HasRoom s [] 0 out p
-  pub leads : Leads s all (map Ends (numbers_from 1 s.threads)) p
+  pub room : HasRoom s [] 0 team.threads.items out p
+  pub leads : Leads s all (map Ends (numbers_from 1 s.threads) ++ map Lowers (numbers_from (s.threads + 1) s.keepers)) p
 
 module _ {region : SharedRegion} {s : Session} {all : List (List Op)} {n : ℕ} {team : Team} {out : Records} (so : AfterPhases region s all n [] team out) where
   pub spare_for_close : length (records_in out) < room_of out
@@ -349,8 +508,8 @@ module _ {region : SharedRegion} {s : Session} {all : List (List Op)} {n : ℕ} 
     p = with_records so.p (Record.Close ∷ []);
     team_at = team_at_records (Record.Close ∷ []) so.team_at;
     marked = as_marked s (so.p.records ++ Record.Close ∷ []) pushed (close_marked so.written);
-    room = room_after_mark s [] 0 out out' so.p Record.Close pushed size so.room;
-    leads = λ q reaches. (subst (λ (acts : List Act). Leads s all acts so.p) (close_left s.threads n) so.leads) q (with_records so.p (Record.Close ∷ []), refl, reaches);
+    room = room_after_mark s [] 0 team.threads.items out out' so.p Record.Close pushed size so.room;
+    leads = λ q reaches. (subst (λ (acts : List Act). Leads s all acts so.p) (close_left s.threads s.keepers n) so.leads) q (with_records so.p (Record.Close ∷ []), refl, reaches);
   }
 
 pub close_ends : {region : SharedRegion} {s : Session} {all : List (List Op)} {team team' : Team} {out : Records} {written : List Record} (so : BeforeClose region s all team out) → CloseDone region s team' written so.p → HasReplayed region s all team' written
@@ -360,4 +519,5 @@ close_ends {region} {s} {all} {team} {team'} {out} {written} so did = record {
   stands = did.team_at;
   written_are = written_whole did.written_so;
   empty = did.empty;
+  low = did.low;
 }

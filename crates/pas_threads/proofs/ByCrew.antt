@@ -115,7 +115,7 @@ module _ {region : SharedRegion} {s : Shift} {act : Act} {next : List Act} {σ �
   leaves_alone k some = record { part_is = ap (λ (l : Whole). part k l) did.moves.list_is ∙ part_of_others k 0 did.moves.steps p.list some; silent = none_by k 0 did.says.said did.says.each some }
 
   pub did_alone : {places' : ℕ} → places' ≡ places → CrewDid region s (act ∷ []) next (crew σ lent places out) (crew σ' lent places' out') p
-  did_alone same = record { came = came; stands = record { stands = record { stands = did.stands; has_places = same ∙ at.stands.has_places }; lent = still_lent }; told = own_told; lent = lent_told; others = λ k some other. leaves_alone k some }
+  did_alone same = record { came = came; stands = record { stands = record { stands = did.stands; has_places = same ∙ at.stands.has_places }; lent = still_lent }; told = own_told; lent = lent_told; books = did.books; others = λ k some other. leaves_alone k some }
 
 -- ---- an idle operation
 pub costs_stops : (f : Profile) (n : ℕ) (idle : List ℕ) (next : List Act) → costs_of f (idle_stops n idle ++ next) ≡ length idle + costs_of f next
@@ -147,6 +147,7 @@ did_idle {region} {s} {next} {σ} {σ'} {places} {out} {out'} {old} {new} {p} n 
       };
       told = pushed_both (own_told at read) stops.told;
       lent = λ i d lt. told_both (lent_told at read i d lt) (stops.turns.told i d lt);
+      books = stops.turns.leaves.books ∙ read.books;
       others = λ k some other. no_part_both (leaves_alone at read k some) (record { part_is = stops.turns.leaves.parts k (λ i lt. other i (omega (arith, lt, many))); silent = stops.turns.leaves.silent k some (λ i lt. other i (omega (arith, lt, many))) });
     }
 
@@ -194,7 +195,7 @@ abbrev pub CrewSoFar : SharedRegion → Shift → List Op → ℕ → Crew → C
 CrewSoFar region s ops i h0 h p = SoFar (scavenger_acts s.idle ops) (scavenger_acts s.idle (drop i ops)) (λ acts. CrewDid region s acts (scavenger_acts s.idle (drop i ops)) h0 h p)
 
 pub crew_begins : {region : SharedRegion} {s : Shift} (ops : List Op) {has : Crew} {p : Progress} → CrewAt region s (scavenger_acts s.idle ops) has p → CrewSoFar region s ops 0 has has p
-crew_begins {s = s} ops {has} {p} at = at_first (record { came = came_none s.profile p; stands = at; told = pushed_none refl; lent = λ i d lt. told_none refl; others = λ k some other. record { part_is = refl; silent = refl } })
+crew_begins {s = s} ops {has} {p} at = at_first (record { came = came_none s.profile p; stands = at; told = pushed_none refl; lent = λ i d lt. told_none refl; books = refl; others = λ k some other. record { part_is = refl; silent = refl } })
 
 -- the next one is this chore
 module _ {region : SharedRegion} {s : Shift} (ops : List Op) (i : ℕ) {h0 h : Crew} {p : Progress} (chore : Chore)
@@ -212,6 +213,7 @@ module _ {region : SharedRegion} {s : Shift} (ops : List Op) (i : ℕ) {h0 h : C
         stands = did.stands;
         told = pushed_both one.told did.told;
         lent = λ j e less. told_both (one.lent j e less) (did.lent j e (omega (arith, less, many, many1)));
+        books = did.books ∙ one.books;
         others = λ k some other. no_part_both (one.others k some other) (did.others k some other);
       })
 

@@ -15,7 +15,7 @@ use Rattle.pas_threads.specs.declared.workers.Worker.{Worker}
 use Rattle.pas_threads.specs.declared.hands.Hand.{Hand}
 use Rattle.pas_threads.specs.declared.hands.Hand.TheVariants.{Thread, Scavenger}
 use Rattle.pas_shared.specs.declared.region.SharedRegion.{SharedRegion}
-use Rattle.pas_threads.specs.Hands.{MayDoPhase, DidPhase}
+use Rattle.pas_threads.specs.Pairs.{MayDoPhase, DidPhase}
 use Rattle.pas_threads.specs.Scavengers.{MayScavenge, DidScavenge}
 use Rattle.pas_threads.specs.Acting.{MayAct, DidAct, DidEach}
 use Rattle.pas_acts.specs.declared.names.NameBook.{NameBook}

@@ -4,6 +4,12 @@ mod Dealt
 mod TakingTurns
 mod NamesOfPhases
 mod PhaseTeams
-mod StartAndEnd
+mod Start
+mod MakingKeepers
 mod Performed
 mod BetweenPhases
+mod Keepers
+mod PhaseSums
+mod KeptPhases
+mod PassesOut
+mod End

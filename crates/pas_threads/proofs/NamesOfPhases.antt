@@ -1,5 +1,6 @@
 -- What the book says of the names after a phase, and how it takes the requests of all workers over, one after the other.
 use Rattle.std.proofs.Common.{◌≡◌, ℕ, ◌+◌, ◌<◌, ◌==◌, ◌||◌, ◌⊎◌, inl, inr, Bool, true, false, if◌then◌else◌, List, [], ◌∷◌, set, length, get_or, Option, Some, None, refl, ap, sym, ◌∙◌, subst, arith, ◌≤◌, ◌++◌}
+use Rattle.std.specs.Prelude.{IsSomeAnd}
 use Rattle.std.proofs.lemmas.List.{get_or_default}
 use Rattle.std.proofs.lemmas.Bool.{cases_eq, false≢true, eq-eqb, or_right, or_cases}
 use Rattle.pas_profile.specs.declared.name.Block.{Block}
@@ -13,21 +14,23 @@ use Rattle.pas_threads.specs.Taken.{HasRequest, IsEmptied, HasTaken, HandsOver}
 use Rattle.pas_threads.proofs.TakingTurns.{set_each}
 use Rattle.pas_profile.specs.declared.profile.Profile.{Profile}
 use Rattle.pas_steps.specs.Desks.{Standing}
-use Rattle.pas_trace.specs.Asked.{work_of, of_task, request_of, request_in}
+use Rattle.pas_trace.specs.Asked.{work_of, of_task, request_of, request_in, keeper_of}
 use Rattle.pas_trace.specs.declared.plan.What.{What}
-use Rattle.pas_trace.specs.declared.plan.What.TheVariants.{Alloc, Remake}
+use Rattle.pas_trace.specs.declared.plan.What.TheVariants.{Alloc, Guarded, Remake}
 use Rattle.pas_trace.specs.declared.item.Request.{Request}
 use Rattle.pas_trace.specs.declared.plan.Chore.{Chore}
 use Rattle.pas_trace.specs.declared.plan.Work.{Work}
 use Rattle.pas_trace.specs.declared.plan.Op.{Op}
-use Rattle.pas_trace.specs.Acts.{Act, operation_in, asked_after_operation, is_active, idle_threads, idle_stops, acts_of_chore, acts_of_work, acts_of_op, acts_of_ops, own_acts}
+use Rattle.pas_trace.specs.Acts.{Act, act_kept, operation_in, asked_after_operation, is_active, idle_threads, idle_stops, acts_of_chore, acts_of_work, acts_of_op, acts_of_ops, own_acts}
 use Rattle.pas_answers.specs.Calls.{block_behind, MayStand, AreKnown, OnlyAsked}
-use Rattle.pas_answers.specs.Fit.{IsBelow, AreBelow}
+use Rattle.pas_answers.specs.Fit.{IsBelow, AreBelow, KeepsAbove}
 use Rattle.pas_answers.specs.declared.names.Names.{Names}
 use Rattle.pas_trace.proofs.OperationsOfItems.{kept_with}
-use Rattle.pas_plans.proofs.ActsOfPlan.{back_below}
+use Rattle.pas_plans.proofs.ActsOfPlan.{all_back, back_below}
 use Rattle.pas_shares.specs.Shares.{owner_in, IsWoven, AreAmong, IsRequestOf, NoneAsks, asked_after_act, asked_after_acts}
-use Rattle.pas_acts.specs.Works.{Later, Works}
+use Rattle.pas_acts.specs.Works.{Later}
+use Rattle.pas_acts.specs.Keepers.{Keeping, LaterKept}
+use Rattle.pas_acts.specs.Pairs.{PairWorks}
 use Rattle.pas_threads.specs.Hands.{kept_by}
 use Rattle.pas_shares.proofs.KnownAfter.{are_known}
 use Rattle.pas_acts.proofs.Noting.{asks, asks_more}
@@ -75,7 +78,7 @@ taken_more before now after workers i n w lt is takes so = elim (has_or_not (req
 
 -- the worker with these requests
 abbrev pub with_requests : Worker → Requests → Worker
-with_requests w rs = record { pass = w.pass; cache = w.cache; requests = rs; out = w.out }
+with_requests w rs = record { pass = w.pass; cache = w.cache; requests = rs; out = w.out; keeper = w.keeper }
 
 pub emptied_more : (old now : List Worker) (i : ℕ) (e : Worker) (rs : Requests) → i < length now → get_or now i e ≡ get_or old i e → i < length old → requests_in rs ≡ [] → room_for rs ≡ room_for (get_or now i e).requests
     → ((j : ℕ) (d : Worker) → j < i → IsEmptied (get_or old j d) (get_or now j d)) → (j : ℕ) (d : Worker) → j < i + 1 → IsEmptied (get_or old j d) (get_or (set now i (with_requests (get_or now i e) rs)) j d)
@@ -86,6 +89,7 @@ emptied_more old now i e rs lt left lt' none room so j d low =
       pass = ap (λ (w : Worker). w.pass) was;
       cache = ap (λ (w : Worker). w.cache) was;
       out = ap (λ (w : Worker). w.out) was;
+      keeper = ap (λ (w : Worker). w.keeper) was;
       empty = none;
       room = room ∙ ap (λ (w : Worker). room_for w.requests) was;
     })
@@ -135,8 +139,13 @@ after_chore idle (Chore.Tick epoch) asked = refl
 after_chore idle Chore.Pass asked = refl
 after_chore idle (Chore.Idle m) asked = after_stops m idle asked
 
+-- an operation that is tried first is asked for as any other
+operation_kept : (o : Option ℕ) (op : Op) → operation_in (act_kept o op) ≡ Some op
+operation_kept None op = refl
+operation_kept (Some keeper) op = refl
+
 after_work : (idle : List ℕ) (op : Op) (work : Work) (asked : List ℕ) → work_of op.what ≡ work → asked_after_acts (acts_of_work idle op work) asked ≡ asked_with (of_task request_of work) asked
-after_work idle op (Work.Own task) asked is = ap (λ (w : Work). asked_with (of_task request_of w) asked) is
+after_work idle op (Work.Own task) asked is = ap (λ (o : Option Op). asked_after_operation o asked) (operation_kept (keeper_of task) op) ∙ ap (λ (w : Work). asked_with (of_task request_of w) asked) is
 after_work idle op (Work.Chore chore) asked is = after_chore idle chore asked
 
 after_ops : (idle : List ℕ) (ops : List Op) (asked : List ℕ) → asked_after_acts (acts_of_ops idle ops) asked ≡ asked_by asked ops
@@ -159,12 +168,16 @@ none_chore n idle Chore.Pass = (λ bad. bad, tt)
 none_chore n idle (Chore.Idle m) = (λ bad. bad, none_stops n m idle)
 
 none_work : (n : ℕ) (idle : List ℕ) (op : Op) (work : Work) → (IsRequestOf n op.what → ⊥) → NoneAsks n (acts_of_work idle op work)
-none_work n idle op (Work.Own task) none = (none, (λ bad. bad, tt))
+none_work n idle op (Work.Own task) none = (
+  λ is. none (subst (λ (o : Option Op). IsSomeAnd o (λ asked. IsRequestOf n asked.what)) (operation_kept (keeper_of task) op) is),
+  (λ bad. bad, tt),
+)
 none_work n idle op (Work.Chore chore) none = none_chore n idle chore
 
 -- who asks for a name is a thread, and has it among its own
 asks_own : (f : Profile) (n k : ℕ) (what : What) → IsActorOf f what k → IsRequestOf n what → (1 ≤ k) × (is_asked (name_asked what) n ≡ true)
 asks_own f n k (Alloc name heap size align) actor is = (actor.0, ap (λ (t : Bool). t || false) (eq-eqb name n is))
+asks_own f n k (Guarded keeper name heap size align) actor is = (actor.0, ap (λ (t : Bool). t || false) (eq-eqb name n is))
 asks_own f n k (Remake name old heap size align) actor is = (actor.0, ap (λ (t : Bool). t || false) (eq-eqb name n is))
 asks_own f n k what actor is = absurd is
 
@@ -201,11 +214,12 @@ active_asks k [] n is = absurd (false≢true is)
 active_asks k (op ∷ ops) n is = active_if (op.actor == k) (is_active ops k) (name_asked op.what) (asks k ops) n (active_asks k ops n) (ap (λ (ns : List ℕ). is_asked ns n) (sym (asks_more k op ops)) ∙ is)
 
 -- ---- what a worker hands over
-pub hands_over : {f : Profile} {phase : List Op} {book : NameBook} {k : ℕ} {σ σ' : Standing} {later : Later} {p : Progress} (old new : Worker) (names : List Named) → (did : Works f k (own_acts k phase) [] σ σ' (kept_by book old) (kept_by book new) later p)
+pub hands_over : {f : Profile} {phase : List Op} {book : NameBook} {k keeper : ℕ} {σ σ' : Standing} {kept kept' : Keeping} {later : Later} {more : LaterKept} {p : Progress} (old new : Worker) (names : List Named)
+    → (did : PairWorks f k keeper (own_acts k phase) [] σ σ' (kept_by book old) (kept_by book new) kept kept' later more p)
     → requests_in old.requests ≡ [] → AreAmong did.reached.names names → HandsOver f phase book k new names
 hands_over {f} {phase} {book} {k} {p = p} old new names did none among =
     let noted = did.noted ∙ ap (λ (rs : List Named). names_of rs ++ names_asked (own_acts k phase)) none in
-    let knows = did.stands.names in
+    let knows = did.stands.thread.names in
     record {
       noted = noted;
       says = λ n has.
@@ -225,6 +239,7 @@ hands_nothing {f} {phase} {book} {k} worker names none idle = record {
 -- the names of its requests are below the limit
 within_if : (t : Bool) (limit : ℕ) (what : What) (ns : List ℕ) → IsBelow limit what → AreWithin limit ns → AreWithin limit ((if t then name_asked what else []) ++ ns)
 within_if true limit (Alloc name heap size align) ns below within = (below, within)
+within_if true limit (Guarded keeper name heap size align) ns below within = (below, within)
 within_if true limit (Remake name old heap size align) ns below within = (below, within)
 within_if true limit what ns below within = within
 within_if false limit what ns below within = within
@@ -237,7 +252,7 @@ names_within limit k (op ∷ ops) below = subst (AreWithin limit) (sym (asks_mor
 
 -- Each worker handed over, and each thread with an operation in the phase has one.
 module _ {f : Profile} {book : NameBook} {p q : Progress} {own : ℕ → Progress} (threads : ℕ) (phase rest : List Op) (book1 book2 : NameBook) (numbers : List ℕ) (workers : List Worker) (at : NamesAt f (phase ++ rest) book p) (are : q.names ≡ p.names)
-    (woven : IsWoven f (owner_in phase) (acts_of_ops (idle_threads threads phase) phase) at.asked q own) (noted : book1.names ≡ book.names)
+    (woven : IsWoven f (owner_in threads phase) (acts_of_ops (idle_threads threads phase) phase) at.asked q own) (noted : book1.names ≡ book.names)
     (each : (i : ℕ) (d : Worker) → i < length workers → HandsOver f phase book1 (get_or numbers i 0) (get_or workers i d) woven.reached.names)
     (all : (k : ℕ) → 1 ≤ k → is_active phase k ≡ true → (i : ℕ) × (i < length workers) × (get_or numbers i 0 ≡ k)) (taken : HasTaken book1 book2 workers) where
   abbrev after : List Named
@@ -281,6 +296,7 @@ module _ {f : Profile} {book : NameBook} {p q : Progress} {own : ℕ → Progres
   names_after held = record {
     asked = asked_by at.asked phase;
     sound = sound_back f at.asked phase rest at.sound;
+    above = all_back (KeepsAbove f) phase rest at.above;
     below = subst (λ (limit : ℕ). AreBelow limit rest) (sym (held ∙ ap names_held noted)) (back_below (names_held book.names) phase rest at.below);
     tells = book_tells;
     stand = book_stands;

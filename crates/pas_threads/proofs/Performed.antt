@@ -1,8 +1,8 @@
 -- What each hand did for the threads in its hands, and that all hands together did the operations of a phase.
-use Rattle.std.proofs.Common.{◌≡◌, ℕ, zero, suc, ◌+◌, ◌<◌, ◌≤◌, ◌==◌, Bool, true, false, if◌then◌else◌, inl, inr, All, List, [], ◌∷◌, ◌++◌, length, get_or, refl, ap, sym, ◌∙◌, subst, arith}
+use Rattle.std.proofs.Common.{◌≡◌, ◌≢◌, ℕ, zero, suc, ◌+◌, ◌-◌, ◌<◌, ◌≤◌, ◌==◌, Bool, true, false, if◌then◌else◌, inl, inr, All, List, [], ◌∷◌, ◌++◌, length, get_or, Option, refl, ap, sym, ◌∙◌, subst, arith}
 use Rattle.std.specs.Prelude.{vec_capacity}
 use Rattle.std.proofs.lemmas.List.{append-nil, get_or_default}
-use Rattle.std.proofs.lemmas.Bool.{true≢false, or_parts, cases_Bool, not-true, not_from_false}
+use Rattle.std.proofs.lemmas.Bool.{true≢false, or_parts, cases_Bool, cases_lt, le-leb, ne_eqb, not-true, not_from_false}
 use Rattle.pas_bits.specs.Masks.{is_set}
 use Rattle.pas_bits.specs.declared.mask.Mask4.{Mask4}
 use Rattle.pas_profile.specs.declared.profile.Profile.{Profile}
@@ -11,27 +11,34 @@ use Rattle.pas_report.specs.Rooms.{records_in, Records}
 use Rattle.pas_report.specs.declared.record.Record.{Record}
 use Rattle.pas_utility.specs.Outcomes.{places_of, Outcomes}
 use Rattle.pas_shared.specs.declared.region.SharedRegion.{SharedRegion}
-use Rattle.pas_trace.specs.Acts.{Act, is_active, numbers_from, acts_of_op, own_acts, scavenger_acts}
+use Rattle.pas_trace.specs.Acts.{Act, is_active, numbers_from, acts_of_op, acts_of_ops, own_acts, scavenger_acts}
 use Rattle.pas_answers.specs.Answers.{Progress}
-use Rattle.pas_answers.proofs.OwnRecords.{all_by}
 use Rattle.pas_answers.specs.Reaching.{Reaches}
-use Rattle.pas_shares.specs.Shares.{owner_in}
+use Rattle.pas_shares.specs.Shares.{owner_in, thread_in, actor_of_act, acts_by, AreInHand}
 use Rattle.pas_acts.specs.NameBooks.{requests_in, room_for, names_of, names_asked, Requests}
 use Rattle.pas_acts.specs.Works.{Later}
 use Rattle.pas_threads.specs.Dealing.{picked, count_of, is_in, is_out}
-use Rattle.pas_threads.specs.Hands.{standing_of_pass, ScavengerAt, WorkerAt, Did, MayDoPhase, DidPhase}
+use Rattle.pas_threads.specs.Hands.{standing_of_pass, ScavengerAt, WorkerAt, Did}
 use Rattle.pas_threads.specs.Sessions.{WorkerHas}
-use Rattle.pas_threads.specs.Turns.{Came, Told}
+use Rattle.pas_threads.specs.Turns.{Came, Told, TookNoPart}
 use Rattle.pas_threads.specs.Lent.{Shift, number_in, IsLent, AreLent}
 use Rattle.pas_threads.specs.Crews.{Crew, CrewDid}
 use Rattle.pas_threads.specs.Scavengers.{crew_of, ScavengerStands, DidScavenge}
-use Rattle.pas_threads.specs.Performing.{Round, idle_in, IsReady, ThreadDone, ScavengerDone, Piece}
+use Rattle.pas_threads.specs.Performing.{Round, idle_in, IsReady, PaysFor, ThreadDone, ScavengerDone, Piece}
 use Rattle.pas_acts.specs.declared.names.NameBook.{NameBook}
 use Rattle.pas_threads.specs.declared.workers.Worker.{Worker}
 use Rattle.pas_threads.specs.declared.scavenger.Scavenger.{Scavenger}
 use Rattle.pas_threads.specs.declared.phases.Team.{Team}
 use Rattle.pas_acts.proofs.AtDesk.{sits_for}
 use Rattle.pas_shares.proofs.PhaseActs.{none_own, acts_are_shared}
+use Rattle.pas_cache.specs.Caches.{Cached}
+use Rattle.pas_steps.specs.Lists.{part}
+use Rattle.pas_answers.specs.Answers.{Books}
+use Rattle.pas_answers.specs.Calls.{owed_events}
+use Rattle.pas_acts.specs.Pairs.{KeeperWaits, KeptPushed}
+use Rattle.pas_threads.specs.Pairs.{kept_by_worker, IsKeeperOf, owed_kept, PairStands, PairDid, MayDoPhase, DidPhase}
+use Rattle.pas_threads.specs.declared.keeper.Keeper.{Keeper}
+use Rattle.pas_threads.proofs.Keepers.{two_counted, owed_same, owed_still, kept_none, still_same, waits_still}
 use Rattle.pas_threads.proofs.NamesOfPhases.{hands_over, hands_nothing}
 use Rattle.pas_threads.proofs.Dealt.{picked_many, picked_at, picked_pairs, number_at, numbers_many, idle_picked, idle_distinct, idle_within, some_worker}
 use Rattle.pas_threads.proofs.TakingTurns.{came_none, pushed_none}
@@ -41,15 +48,36 @@ has_left : {region : SharedRegion} {book : NameBook} {f : Profile} {k : ℕ} {wo
 has_left at = let spare = at.stands.spare in record { has = at.has; rests = record { sits = sits_for at.stands.sits (omega arith); cache = at.stands.cache; spare = omega (arith, spare) } }
 
 -- ---- a thread with an operation
-active_done : {region : SharedRegion} {r : Round} (k : ℕ) (old new : Worker) → WorkerAt region r.book r.profile k (own_acts k r.ops) old (r.later k) r.start → DidPhase region r.book r.ops old new
+-- what the two said, with what they owe then, is paid for by what they owed and the acts
+pair_paid : {region : SharedRegion} (r : Round) (k : ℕ) (old new : Worker) (at : PairStands region r.book r.profile r.threads k (own_acts k r.ops) old (r.later k) (r.more k) r.start) → 1 ≤ r.threads
+    → (did : PairDid region r.book r.profile r.threads k (own_acts k r.ops) old new (r.later k) (r.more k) r.start) → PaysFor r k old new did.did.does.said did.did.does.reached
+pair_paid r k old new at some did =
+    let w = did.did.does in
+    let keeper = r.threads + k in
+    let f = r.profile in
+    let both = two_counted k keeper w.said w.stands.apart w.each in
+    let own_before = ap (λ (c : Cached). owed_events f c (part k r.start.list)) at.thread.stands.cache in
+    let own_then = ap (λ (c : Cached). owed_events f c (part k w.reached.list)) w.stands.thread.cache in
+    let kept_before = owed_same f keeper old.keeper r.start in
+    let kept_then = owed_same f keeper new.keeper w.reached in
+    let paid = w.paid in
+    inl (omega (arith, both, own_before, own_then, kept_before, kept_then, paid))
+
+active_done : {region : SharedRegion} {r : Round} (k : ℕ) (old new : Worker) → PairStands region r.book r.profile r.threads k (own_acts k r.ops) old (r.later k) (r.more k) r.start → 1 ≤ r.threads → DidPhase region r.book r.ops old new
     → (own : Came r.profile (own_acts k r.ops) r.start) × ThreadDone region r k old new own.said own.reached
-active_done {r = r} k old new at phase =
-    let did = phase.did r.profile k (r.later k) r.start at in
+active_done {r = r} k old new at some phase =
+    let both = phase.did r.profile r.threads k (r.later k) (r.more k) r.start some at in
+    let did = both.did in
     let w = did.does in (
       record { reached = w.reached; reaches = w.reaches; said = w.said; records_are = w.records_are },
       record {
-        stands = has_left (record { has = did.after; stands = w.stands });
-        told = record { added = w.pushed ∙ ap (λ (rs : List Record). records_in old.out ++ rs) (sym (all_by k w.said w.each)); room = w.room };
+        stands = has_left (record { has = did.after; stands = w.stands.thread });
+        of = both.of;
+        waits = w.stands.waits;
+        told = record { added = w.pushed; room = w.room };
+        kept_told = w.kept_pushed;
+        still = w.still;
+        paid = pair_paid r k old new at some both;
         noted = w.noted;
         room_noted = w.room_noted;
         hands_over = λ none names among. hands_over old new names w none among;
@@ -64,12 +92,18 @@ idle_noted k ops old new off same =
     ∙ sym (ap (λ (acts : List Act). names_of (requests_in old.requests) ++ names_asked acts) (none_own k ops off) ∙ append-nil (names_of (requests_in old.requests)))
 
 -- while the scavenger does nothing, nothing comes of it
-idle_stayed : {region : SharedRegion} {r : Round} (k : ℕ) (old new : Worker) → is_active r.ops k ≡ false → WorkerAt region r.book r.profile k (own_acts k r.ops) old (r.later k) r.start → new ≡ old → ThreadDone region r k old new [] r.start
+idle_stayed : {region : SharedRegion} {r : Round} (k : ℕ) (old new : Worker) → is_active r.ops k ≡ false → PairStands region r.book r.profile r.threads k (own_acts k r.ops) old (r.later k) (r.more k) r.start → new ≡ old → ThreadDone region r k old new [] r.start
 idle_stayed {region} {r} k old new off at same =
     let none = none_own k r.ops off in
+    let kept = kept_by_worker old.keeper in
     subst (λ (w : Worker). ThreadDone region r k old w [] r.start) (sym same) record {
-      stands = has_left (subst (λ (acts : List Act). WorkerAt region r.book r.profile k acts old (r.later k) r.start) none at);
+      stands = has_left (subst (λ (acts : List Act). WorkerAt region r.book r.profile k acts old (r.later k) r.start) none at.thread);
+      of = at.of;
+      waits = subst (λ (acts : List Act). KeeperWaits r.profile (r.threads + k) acts kept (r.more k) r.start) none at.waits;
       told = pushed_none refl;
+      kept_told = kept_none (r.threads + k) [] kept refl;
+      still = still_same (r.threads + k) kept r.start r.start refl;
+      paid = inr (refl, refl);
       noted = idle_noted k r.ops old old off refl;
       room_noted = refl;
       hands_over = λ empty names among. hands_nothing old names empty none;
@@ -85,20 +119,32 @@ shift_of r = record {
   lends = λ i. r.later (get_or (idle_in r) i 0);
 }
 
--- .. and it is lent to the scavenger, with which it stands at this rank
-lent_done : {region : SharedRegion} {r : Round} {acts : List Act} {has has' : Crew} (k n : ℕ) (old new : Worker) → is_active r.ops k ≡ false → (did : CrewDid region (shift_of r) acts [] has has' r.start)
+-- .. and it is lent to the scavenger, with which it stands at this rank. Its keeper does nothing
+lent_done : {region : SharedRegion} {r : Round} {acts : List Act} {has has' : Crew} (k n : ℕ) (old new : Worker) → 1 ≤ k → is_active r.ops k ≡ false → PairStands region r.book r.profile r.threads k (own_acts k r.ops) old (r.later k) (r.more k) r.start
+    → (did : CrewDid region (shift_of r) acts [] has has' r.start)
     → n < length has.lent → n < length has'.lent → get_or (idle_in r) n 0 ≡ k → ((d : Worker) → get_or has.lent n d ≡ old) → ((d : Worker) → get_or has'.lent n d ≡ new) → ThreadDone region r k old new did.came.said did.came.reached
-lent_done {region} {r} {acts} {has} {has'} k n old new off did lt lt' number was is =
+lent_done {region} {r} {acts} {has} {has'} k n old new some off stood did lt lt' number was is =
     let q = did.came.reached in
     let said = did.came.said in
+    let keeper = r.threads + k in
+    let kept = kept_by_worker old.keeper in
     let at : IsLent region (shift_of r) n (get_or has'.lent n new) q = did.stands.lent.each n new lt' in
     let told : Told k said old new = subst (λ (j : ℕ). Told j said old new) number (subst (λ (w : Worker). Told (number_in (shift_of r) n) said w new) (was old) (subst (λ (w : Worker). Told (number_in (shift_of r) n) said (get_or has.lent n old) w) (is old) (did.lent n old lt))) in
+    let apart : TookNoPart keeper said r.start q = did.others keeper (λ same. omega (arith, same, some)) (λ i within same. (let most = idle_within r.threads r.ops i within in omega (arith, most, same, some))) in
+    let acts_none = none_own k r.ops off in
+    let waits : KeeperWaits r.profile keeper [] kept (r.more k) q = waits_still r.profile keeper [] kept (r.more k) r.start q apart.part_is (ap (λ (books : Books). books keeper) did.books) (subst (λ (xs : List Act). KeeperWaits r.profile keeper xs kept (r.more k) r.start) acts_none stood.waits) in
+    let same = sym told.keeper in
     record {
       stands = subst (λ (j : ℕ). WorkerHas region r.profile j new (r.later j) q) number (subst (λ (w : Worker). IsLent region (shift_of r) n w q) (is new) at);
+      of = subst (λ (o : Option Keeper). IsKeeperOf region o) same stood.of;
+      waits = subst (λ (o : Option Keeper). KeeperWaits r.profile keeper [] (kept_by_worker o) (r.more k) q) same waits;
       told = told.out;
+      kept_told = subst (λ (o : Option Keeper). KeptPushed keeper said kept (kept_by_worker o)) same (kept_none keeper said kept apart.silent);
+      still = still_same keeper kept r.start q apart.part_is;
+      paid = inr (apart.silent, ap (λ (o : Option Keeper). owed_kept r.profile keeper o q) (sym same) ∙ owed_still r.profile keeper old.keeper r.start q apart.part_is);
       noted = idle_noted k r.ops old new off told.requests;
       room_noted = ap room_for told.requests;
-      hands_over = λ empty names among. hands_nothing new names (ap requests_in told.requests ∙ empty) (none_own k r.ops off);
+      hands_over = λ empty names among. hands_nothing new names (ap requests_in told.requests ∙ empty) acts_none;
     }
 
 -- ---- the scavenger
@@ -118,14 +164,34 @@ none_scavenged idle (op ∷ ops) off =
     ap (λ (t : Bool). if t then acts_of_op idle op ++ scavenger_acts idle ops else scavenger_acts idle ops) both.0 ∙ none_scavenged idle ops both.1
 
 -- ---- all hands together
--- an actor in the hands of a thread is that thread, and has an operation
-owned_by : (ops : List Op) (k : ℕ) (t : Bool) → is_active ops k ≡ t → 1 ≤ k → (owner_in ops k ≡ 0 → is_active ops k ≡ false) × ((w : ℕ) → owner_in ops k ≡ w → 1 ≤ w → (k ≡ w) × (is_active ops k ≡ true))
-owned_by ops k true is some =
-    let own : owner_in ops k ≡ k = ap (λ (t : Bool). if t then k else 0) is in
+-- a thread in the hands of a thread is that thread, and has an operation
+own_hands : (threads : ℕ) (ops : List Op) (k : ℕ) → k ≤ threads → owner_in threads ops k ≡ (if is_active ops k then k else 0)
+own_hands threads ops k most = ap (λ (t : Bool). if is_active ops (if t then k else k - threads) then (if t then k else k - threads) else 0) (le-leb k threads most)
+
+owned_by : (threads : ℕ) (ops : List Op) (k : ℕ) (t : Bool) → is_active ops k ≡ t → 1 ≤ k → k ≤ threads → (owner_in threads ops k ≡ 0 → is_active ops k ≡ false) × ((w : ℕ) → owner_in threads ops k ≡ w → 1 ≤ w → (k ≡ w) × (is_active ops k ≡ true))
+owned_by threads ops k true is some most =
+    let own : owner_in threads ops k ≡ k = own_hands threads ops k most ∙ ap (λ (t : Bool). if t then k else 0) is in
     (λ none. absurd (omega (arith, own, none, some)), λ w whose one. (sym own ∙ whose, is))
-owned_by ops k false is some =
-    let own : owner_in ops k ≡ 0 = ap (λ (t : Bool). if t then k else 0) is in
+owned_by threads ops k false is some most =
+    let own : owner_in threads ops k ≡ 0 = own_hands threads ops k most ∙ ap (λ (t : Bool). if t then k else 0) is in
     (λ none. is, λ w whose one. absurd (omega (arith, own, whose, one)))
+
+-- nobody past the threads has anything in hand
+owner_few : (threads : ℕ) (ops : List Op) (k w : ℕ) → ((j : ℕ) → is_active ops j ≡ true → j ≤ threads) → threads < w → owner_in threads ops k ≢ w
+owner_few threads ops k w within past is =
+    let thread = thread_in threads k in
+    elim (cases_Bool (is_active ops thread)) [
+      | inl on ↦
+          let own : owner_in threads ops k ≡ thread = ap (λ (t : Bool). if t then thread else 0) on in
+          let le = within thread on in
+          omega (arith, own, le, past, is)
+      | inr off ↦ let own : owner_in threads ops k ≡ 0 = ap (λ (t : Bool). if t then thread else 0) off in omega (arith, own, past, is)
+    ]
+
+none_in_hand : (owner : ℕ → ℕ) (w : ℕ) (acts : List Act) → ((k : ℕ) → owner k ≢ w) → acts_by owner w acts ≡ []
+none_in_hand owner w [] none = refl
+none_in_hand owner w (act ∷ acts) none =
+    ap (λ (t : Bool). if t then act ∷ acts_by owner w acts else acts_by owner w acts) (ne_eqb (owner (actor_of_act act)) w (none (actor_of_act act))) ∙ none_in_hand owner w acts none
 
 -- by these acts, which are those told otherwise
 abbrev came_as : {f : Profile} {acts acts' : List Act} {p : Progress} → acts' ≡ acts → Came f acts p → Came f acts' p
@@ -144,10 +210,24 @@ module _ {region : SharedRegion} {r : Round} {team : Team} (ready : IsReady regi
   idle_are : idle_in r ≡ picked (is_out awake) 1 (numbers_from 1 r.threads)
   idle_are = idle_picked awake r.ops r.threads same
 
+  -- a worker is of one of the threads
+  within_threads : (i : ℕ) → i < length team.threads.items → suc i ≤ r.threads
+  within_threads i lt = let many = ready.many in omega (arith, many, lt)
+
+  some_thread : (i : ℕ) → i < length team.threads.items → 1 ≤ r.threads
+  some_thread i lt = let le = within_threads i lt in omega (arith, le)
+
+  -- whose acts are whose
+  shared : AreInHand (owner_in r.threads r.ops) (acts_of_ops (idle_in r) r.ops)
+      × ((k : ℕ) → 1 ≤ k → k ≤ r.threads → is_active r.ops k ≡ true → acts_by (owner_in r.threads r.ops) k (acts_of_ops (idle_in r) r.ops) ≡ own_acts k r.ops)
+      × ((k : ℕ) → 1 ≤ k → k ≤ r.threads → is_active r.ops k ≡ false → acts_by (owner_in r.threads r.ops) k (acts_of_ops (idle_in r) r.ops) ≡ [])
+      × (acts_by (owner_in r.threads r.ops) 0 (acts_of_ops (idle_in r) r.ops) ≡ scavenger_acts (idle_in r) r.ops)
+  shared = acts_are_shared r.profile r.threads ready.asked r.ops ready.sound ready.behind ready.within
+
   -- ---- before
   pub own_may : All (MayDoPhase region r.book r.ops) inside
   own_may j d lt = picked_pairs (λ (v w : Worker). MayDoPhase region r.book r.ops w) (is_in awake) d 1 team.threads.items team.threads.items refl
-      (λ i e less on. record { profile = r.profile; thread = suc i; later = r.later (suc i); progress = r.start; stands = ready.workers i e less }) j d lt
+      (λ i e less on. record { profile = r.profile; threads = r.threads; thread = suc i; later = r.later (suc i); more = r.more (suc i); progress = r.start; some = some_thread i less; stands = ready.workers i e less }) j d lt
 
   pub lent_many : length outside ≡ length (idle_in r)
   lent_many = picked_many (is_out awake) 1 team.threads.items ∙ ap (λ (n : ℕ). count_of (is_out awake) 1 n) (ready.many ∙ sym (numbers_many 1 r.threads))
@@ -163,7 +243,7 @@ module _ {region : SharedRegion} {r : Round} {team : Team} (ready : IsReady regi
       let number : suc i ≡ get_or (numbers_from 1 r.threads) i 0 = (let one : suc i ≡ 1 + i = omega arith in one) ∙ sym (number_at 1 r.threads i (omega (arith, less, many))) in
       let none = none_own (suc i) r.ops (sym (its_bit i) ∙ not-true (is_set awake (1 + i)) off) in
       subst (λ (k : ℕ). WorkerHas region r.profile k (get_or team.threads.items i e) (r.later k) r.start) number
-      (has_left (subst (λ (acts : List Act). WorkerAt region r.book r.profile (suc i) acts (get_or team.threads.items i e) (r.later (suc i)) r.start) none (ready.workers i e less)))) j d lt)
+      (has_left (subst (λ (acts : List Act). WorkerAt region r.book r.profile (suc i) acts (get_or team.threads.items i e) (r.later (suc i)) r.start) none (ready.workers i e less).thread))) j d lt)
 
   pub may_scavenge : (scavenger : Scavenger) → scavenger.pass ≡ team.scavenger.pass → scavenger.outcomes ≡ team.scavenger.outcomes → scavenger.out ≡ team.scavenger.out → scavenger.lent.items ≡ outside
       → ScavengerStands region (shift_of r) (scavenger_acts (idle_in r) r.ops) scavenger r.start
@@ -204,14 +284,21 @@ module _ {region : SharedRegion} {r : Round} {team : Team} (ready : IsReady regi
       PieceOf w = Piece region r team.threads.items new scav0 scav1 w
 
       -- nobody's
-      nobody_piece : (i : ℕ) → is_active r.ops (suc i) ≡ false → PieceOf (suc i)
-      nobody_piece i off = record {
-        own = came_as ((acts_are_shared r.profile r.threads ready.asked r.ops ready.sound).2 (suc i) (omega arith) off) (came_none r.profile r.start);
+      nobody_piece : (i : ℕ) → is_active r.ops (suc i) ≡ false → acts_by (owner_in r.threads r.ops) (suc i) (acts_of_ops (idle_in r) r.ops) ≡ [] → PieceOf (suc i)
+      nobody_piece i off none = record {
+        own = came_as none (came_none r.profile r.start);
         threads = λ j d lt whose.
-            let mine = (owned_by r.ops (suc j) (is_active r.ops (suc j)) refl (omega arith)).1 (suc i) whose (omega arith) in
+            let mine = (owned_by r.threads r.ops (suc j) (is_active r.ops (suc j)) refl (omega arith) (within_threads j lt)).1 (suc i) whose (omega arith) in
             absurd (true≢false (sym mine.1 ∙ ap (λ (k : ℕ). is_active r.ops k) mine.0 ∙ off));
         scavenger = λ bad. absurd (omega (arith, bad));
       }
+
+      -- (nobody past the threads has anything in hand)
+      nobody_acts : (i : ℕ) → is_active r.ops (suc i) ≡ false → acts_by (owner_in r.threads r.ops) (suc i) (acts_of_ops (idle_in r) r.ops) ≡ []
+      nobody_acts i off = elim (cases_lt r.threads (suc i)) [
+        | inl past ↦ none_in_hand (owner_in r.threads r.ops) (suc i) (acts_of_ops (idle_in r) r.ops) (λ k. owner_few r.threads r.ops k (suc i) ready.within past)
+        | inr within ↦ shared.2 (suc i) (omega arith) (omega (arith, within)) off
+      ]
 
       -- a thread's
       thread_piece : (i : ℕ) → i < length team.threads.items → is_active r.ops (suc i) ≡ true → PieceOf (suc i)
@@ -223,11 +310,11 @@ module _ {region : SharedRegion} {r : Round} {team : Team} (ready : IsReady regi
           let phase = subst (λ (w : Worker). DidPhase region r.book r.ops (get_or team.threads.items i d) w) (ap (λ (ws : List Worker). get_or ws n d) own_is ∙ after.1)
           (subst (λ (w : Worker). DidPhase region r.book r.ops w (get_or own1 n d)) before.1 (each n d before.0))
           in
-          let done = active_done {r = r} (suc i) (get_or team.threads.items i d) (get_or new i d) (ready.workers i d lt) phase in
+          let done = active_done {r = r} (suc i) (get_or team.threads.items i d) (get_or new i d) (ready.workers i d lt) (some_thread i lt) phase in
           record {
-            own = came_as ((acts_are_shared r.profile r.threads ready.asked r.ops ready.sound).1 (suc i) (omega arith) on) done.0;
+            own = came_as (shared.1 (suc i) (omega arith) (within_threads i lt) on) done.0;
             threads = λ j e lt' whose.
-                let mine = (owned_by r.ops (suc j) (is_active r.ops (suc j)) refl (omega arith)).1 (suc i) whose (omega arith) in
+                let mine = (owned_by r.threads r.ops (suc j) (is_active r.ops (suc j)) refl (omega arith) (within_threads j lt')).1 (suc i) whose (omega arith) in
                 let at : i ≡ j = (let k = mine.0 in omega (arith, k)) in
                 subst (λ (k : ℕ). ThreadDone region r (suc k) (get_or team.threads.items k e) (get_or new k e) done.0.said done.0.reached) at
                 (subst (λ (w : Worker). ThreadDone region r (suc i) w (get_or new i e) done.0.said done.0.reached) (get_or_default team.threads.items i d e lt)
@@ -258,12 +345,12 @@ module _ {region : SharedRegion} {r : Round} {team : Team} (ready : IsReady regi
       scavenger_piece on =
           let crew = (did on).did (shift_of r) ready.asked r.start ready.sound stands in
           record {
-            own = came_as (acts_are_shared r.profile r.threads ready.asked r.ops ready.sound).3 crew.does.came;
+            own = came_as shared.3 crew.does.came;
             threads = λ j d lt whose.
-                let off = (owned_by r.ops (suc j) (is_active r.ops (suc j)) refl (omega arith)).0 whose in
+                let off = (owned_by r.threads r.ops (suc j) (is_active r.ops (suc j)) refl (omega arith) (within_threads j lt)).0 whose in
                 let was = lent_at team.threads.items scav0.lent.items lent_is j d lt off in
                 let is = lent_at new scav1.lent.items back j d (omega (arith, size, lt)) off in
-                lent_done (suc j) (rank j) (get_or team.threads.items j d) (get_or new j d) off crew.does was.0 is.0 (at_rank j lt off) was.1 is.1;
+                lent_done (suc j) (rank j) (get_or team.threads.items j d) (get_or new j d) (omega arith) off (ready.workers j d lt) crew.does was.0 is.0 (at_rank j lt off) was.1 is.1;
             scavenger = λ is. scavenger_done r scav0 scav1 crew;
           }
 
@@ -272,9 +359,9 @@ module _ {region : SharedRegion} {r : Round} {team : Team} (ready : IsReady regi
       idle_piece off =
           let none = none_scavenged (idle_in r) r.ops off in
           record {
-            own = came_as ((acts_are_shared r.profile r.threads ready.asked r.ops ready.sound).3 ∙ none) (came_none r.profile r.start);
+            own = came_as (shared.3 ∙ none) (came_none r.profile r.start);
             threads = λ j d lt whose.
-                let away = (owned_by r.ops (suc j) (is_active r.ops (suc j)) refl (omega arith)).0 whose in
+                let away = (owned_by r.threads r.ops (suc j) (is_active r.ops (suc j)) refl (omega arith) (within_threads j lt)).0 whose in
                 let was = lent_at team.threads.items scav0.lent.items lent_is j d lt away in
                 let is = lent_at new scav1.lent.items back j d (omega (arith, size, lt)) away in
                 idle_stayed (suc j) (get_or team.threads.items j d) (get_or new j d) away (ready.workers j d lt) (sym (is.1 d) ∙ ap (λ (s : Scavenger). get_or s.lent.items (rank j) d) (stayed off) ∙ was.1 d);
@@ -293,5 +380,5 @@ module _ {region : SharedRegion} {r : Round} {team : Team} (ready : IsReady regi
       ]
       piece (suc i) = elim (cases_Bool (is_active r.ops (suc i))) [
         | inl on ↦ thread_piece i (let within = ready.within (suc i) on in let many = ready.many in omega (arith, within, many)) on
-        | inr off ↦ nobody_piece i off
+        | inr off ↦ nobody_piece i off (nobody_acts i off)
       ]

@@ -15,7 +15,7 @@ use Rattle.pas_acts.specs.Works.{Later, Sits}
 use Rattle.pas_acts.proofs.AtDesk.{leaves_rest, sits_for}
 use Rattle.pas_shared.specs.declared.region.SharedRegion.{SharedRegion}
 use Rattle.pas_answers.proofs.Reached.{reach_both}
-use Rattle.pas_threads.specs.Turns.{AreDistinct, Came, Pushed, Told, TookNoPart, Turn, TookTurns, owed_at, IsDue, Woke, WokeAll, Stopped, StoppedAll, said_by_all, IsGathered}
+use Rattle.pas_threads.specs.Turns.{AreDistinct, Came, Pushed, Told, TookNoPart, Turn, TookTurns, owed_at, IsDue, Woke, WokeAll, Stopped, StoppedAll, said_by}
 use Rattle.pas_threads.specs.declared.workers.Worker.{Worker}
 use Rattle.std.specs.List.{filter}
 use Rattle.pas_bits.specs.Masks.{is_set}
@@ -54,10 +54,10 @@ pushed_both {k} {xs} {ys} {a} {b} {c} one two = record {
 }
 
 pub told_none : {k : ℕ} {said : List Record} {w : Worker} → records_by k said ≡ [] → Told k said w w
-told_none none = record { out = pushed_none none; requests = refl }
+told_none none = record { out = pushed_none none; requests = refl; keeper = refl }
 
 pub told_both : {k : ℕ} {xs ys : List Record} {a b c : Worker} → Told k xs a b → Told k ys b c → Told k (xs ++ ys) a c
-told_both one two = record { out = pushed_both one.out two.out; requests = two.requests ∙ one.requests }
+told_both one two = record { out = pushed_both one.out two.out; requests = two.requests ∙ one.requests; keeper = two.keeper ∙ one.keeper }
 
 pub no_part_both : {k : ℕ} {xs ys : List Record} {p q r : Progress} → TookNoPart k xs p q → TookNoPart k ys q r → TookNoPart k (xs ++ ys) p r
 no_part_both {k} {xs} {ys} one two = record { part_is = two.part_is ∙ one.part_is; silent = records_both k xs ys ∙ ap (λ (rs : List Record). rs ++ records_by k ys) one.silent ∙ two.silent }
@@ -98,7 +98,7 @@ abbrev pub Stays : (ℕ → ℕ) → (ℕ → Worker → Progress → Type 0) �
 Stays number Stands = (i : ℕ) (w : Worker) (q r : Progress) → part (number i) r.list ≡ part (number i) q.list → r.caches (number i) ≡ q.caches (number i) → r.names ≡ q.names → Stands i w q → Stands i w r
 
 abbrev pub no_turn : {f : Profile} {number : ℕ → ℕ} {Stands : ℕ → Worker → Progress → Type 0} {old : List Worker} {p : Progress} → ((i : ℕ) (d : Worker) → i < length old → Stands i (get_or old i d) p) → TookTurns f number Stands [] old old p
-no_turn {f} {number} {Stands} {old} {p} at = record { came = came_none f p; stand = at; told = λ i d lt. told_none refl; leaves = record { parts = λ k other. refl; silent = λ k some other. refl; names = refl; epoch = refl } }
+no_turn {f} {number} {Stands} {old} {p} at = record { came = came_none f p; stand = at; told = λ i d lt. told_none refl; leaves = record { parts = λ k other. refl; silent = λ k some other. refl; names = refl; books = refl; epoch = refl } }
 
 -- those of thread k and then of the scavenger, by actor
 pub by_own : (k : ℕ) (mine told : List Record) → EachOf k mine → EachOf 0 told → 0 ≢ k → records_by k (mine ++ told) ≡ mine
@@ -126,6 +126,7 @@ takes_turn {number = number} {Stands} {told = told} {old} {now} stays apart thei
     let mine : Told k (x.own ++ told) (get_or now i d) w = record {
       out = record { added = x.pushed ∙ ap (λ (rs : List Record). records_in (get_or now i d).out ++ rs) (sym (by_own k x.own told x.each theirs (apart.threads i lt))); room = x.room };
       requests = t.requests;
+      keeper = t.keeper;
     } in
     record {
       came = came_both so.came one;
@@ -138,6 +139,7 @@ takes_turn {number = number} {Stands} {told = told} {old} {now} stays apart thei
         parts = λ j other. leaves.parts j (λ (same : j ≡ k). other i lt (sym same)) ∙ so.leaves.parts j other;
         silent = λ j some other. records_both j so.came.said (x.own ++ told) ∙ ap (λ (rs : List Record). rs ++ records_by j (x.own ++ told)) (so.leaves.silent j some other) ∙ others j some (other i lt);
         names = leaves.names ∙ so.leaves.names;
+        books = x.books ∙ so.leaves.books;
         epoch = leaves.epoch ∙ so.leaves.epoch;
       };
     }
@@ -168,7 +170,7 @@ rests_clear {region} {f} {k} {n} {later} {w} {new} {p} at pass cache none events
       requests = requests;
     }
 
-same_owed : (f : Profile) (p q : Progress) (k : ℕ) → part k q.list ≡ part k p.list → q.caches k ≡ p.caches k → owed_at f k q ≡ owed_at f k p
+pub same_owed : (f : Profile) (p q : Progress) (k : ℕ) → part k q.list ≡ part k p.list → q.caches k ≡ p.caches k → owed_at f k q ≡ owed_at f k p
 same_owed f p q k parts caches = ap (λ (v : View). owed_events f (q.caches k) v) parts ∙ ap (λ (c : Cached). owed_events f c (part k p.list)) caches
 
 due_stays : {region : SharedRegion} {f : Profile} {later : ℕ → ℕ} {p : Progress} → Stays suc (IsDue region f later p)
@@ -280,30 +282,43 @@ ends_end {region} {f} {old} {now} {later} {p} i le ge so =
     subst (λ (m : ℕ). Stopped region f (map Ends (numbers_from 1 n)) m old now later p) at
     (subst (λ (acts : List Act). Stopped region f acts i old now later p) all (at_last (ap (λ (ks : List ℕ). map Ends ks) (number_last (i + 1) (n - i) (omega (arith, le)))) so))
 
+-- ---- what is gathered
 -- Of these workers those before place i are gathered, and the others are as they were. What they say still comes after what was gathered.
-pub record AreGathered (i : ℕ) (old now : List Worker) (before said : List Record) : Type 0 where
-  pub said_are : said ++ said_by_all (drop i old) ≡ before ++ said_by_all old
-  pub done : (j : ℕ) (d : Worker) → j < i → j < length old → IsGathered (get_or old j d) (get_or now j d)
+pub record AreGathered (says : Worker → List Record) (Is : Worker → Worker → Type 0) (i : ℕ) (old now : List Worker) (before said : List Record) : Type 0 where
+  pub said_are : said ++ said_by says (drop i old) ≡ before ++ said_by says old
+  pub done : (j : ℕ) (d : Worker) → j < i → j < length old → Is (get_or old j d) (get_or now j d)
   pub left : (j : ℕ) (d : Worker) → i ≤ j → get_or now j d ≡ get_or old j d
 
-pub gather_begins : (old : List Worker) (before : List Record) → AreGathered 0 old old before before
-gather_begins old before = record { said_are = refl; done = λ j d less within. absurd (omega (arith, less)); left = λ j d from. refl }
+module _ (says : Worker → List Record) (Is : Worker → Worker → Type 0) where
+  pub gather_begins : (old : List Worker) (before : List Record) → AreGathered says Is 0 old old before before
+  gather_begins old before = record { said_are = refl; done = λ j d less within. absurd (omega (arith, less)); left = λ j d from. refl }
 
--- what the worker at this place says comes first of what is left
-pub next_said : (i : ℕ) (old now : List Worker) (before said : List Record) (d : Worker) → i < length old → AreGathered i old now before said → said ++ (records_in (get_or now i d).out ++ said_by_all (drop (i + 1) old)) ≡ before ++ said_by_all old
-next_said i old now before said d lt so =
-    ap (λ (w : Worker). said ++ (records_in w.out ++ said_by_all (drop (i + 1) old))) (so.left i d (omega arith))
-    ∙ ap (λ (ws : List Worker). said ++ said_by_all ws) (sym (drop_more old i d lt)) ∙ so.said_are
+  -- what the worker at this place says comes first of what is left
+  pub next_said : (i : ℕ) (old now : List Worker) (before said : List Record) (d : Worker) → i < length old → AreGathered says Is i old now before said → said ++ (says (get_or now i d) ++ said_by says (drop (i + 1) old)) ≡ before ++ said_by says old
+  next_said i old now before said d lt so =
+      ap (λ (w : Worker). said ++ (says w ++ said_by says (drop (i + 1) old))) (so.left i d (omega arith))
+      ∙ ap (λ (ws : List Worker). said ++ said_by says ws) (sym (drop_more old i d lt)) ∙ so.said_are
 
-pub gather_goes_on : {i : ℕ} {old now : List Worker} {before said said' : List Record} (d w : Worker) → i < length old → length now ≡ length old → AreGathered i old now before said
-    → said' ≡ said ++ records_in (get_or now i d).out → IsGathered (get_or now i d) w → AreGathered (i + 1) old (set now i w) before said'
-gather_goes_on {i} {old} {now} {before} {said} {said'} d w lt many so added one = record {
-  said_are = ap (λ (rs : List Record). rs ++ said_by_all (drop (i + 1) old)) added ∙ append_assoc said (records_in (get_or now i d).out) (said_by_all (drop (i + 1) old)) ∙ next_said i old now before said d lt so;
-  done = λ j e less within. set_each (λ (m : ℕ) (x : Worker). IsGathered (get_or old m e) x) now i w e j (omega (arith, lt, many))
-      (subst (λ (x : Worker). IsGathered x w) (so.left i d (omega arith) ∙ get_or_default old i d e lt) one) (λ ne. so.done j e (omega (arith, less, ne)) within);
-  left = λ j e from. let ne : j ≢ i = λ (is : j ≡ i). omega (arith, is, from) in get_or-set_other now i j w e ne ∙ so.left j e (omega (arith, from));
-}
+  pub gather_goes_on : {i : ℕ} {old now : List Worker} {before said said' : List Record} (d w : Worker) → i < length old → length now ≡ length old → AreGathered says Is i old now before said
+      → said' ≡ said ++ says (get_or now i d) → Is (get_or now i d) w → AreGathered says Is (i + 1) old (set now i w) before said'
+  gather_goes_on {i} {old} {now} {before} {said} {said'} d w lt many so added one = record {
+    said_are = ap (λ (rs : List Record). rs ++ said_by says (drop (i + 1) old)) added ∙ append_assoc said (says (get_or now i d)) (said_by says (drop (i + 1) old)) ∙ next_said i old now before said d lt so;
+    done = λ j e less within. set_each (λ (m : ℕ) (x : Worker). Is (get_or old m e) x) now i w e j (omega (arith, lt, many))
+        (subst (λ (x : Worker). Is x w) (so.left i d (omega arith) ∙ get_or_default old i d e lt) one) (λ ne. so.done j e (omega (arith, less, ne)) within);
+    left = λ j e from. let ne : j ≢ i = λ (is : j ≡ i). omega (arith, is, from) in get_or-set_other now i j w e ne ∙ so.left j e (omega (arith, from));
+  }
 
-pub gather_ends : {i : ℕ} {old now : List Worker} {before said : List Record} → length old ≤ i → AreGathered i old now before said → said ≡ before ++ said_by_all old
-gather_ends {i} {old} {now} {before} {said} le so =
-    sym (append-nil said) ∙ ap (λ (ws : List Worker). said ++ said_by_all ws) (sym (drop_of_length-le old le)) ∙ so.said_are
+  -- there is room for what the next one says, where there is for all
+  pub next_fits : (i : ℕ) (old now : List Worker) (before said : List Record) (d : Worker) {room : ℕ} → i < length old → AreGathered says Is i old now before said → length before + length (said_by says old) ≤ room → length said + length (says (get_or now i d)) ≤ room
+  next_fits i old now before said d lt so fits =
+      let mine = says (get_or now i d) in
+      let rest = said_by says (drop (i + 1) old) in
+      let all = ap (λ (rs : List Record). length rs) (next_said i old now before said d lt so) in
+      let one = length-append said (mine ++ rest) in
+      let two = length-append mine rest in
+      let three = length-append before (said_by says old) in
+      omega (arith, all, one, two, three, fits)
+
+  pub gather_ends : {i : ℕ} {old now : List Worker} {before said : List Record} → length old ≤ i → AreGathered says Is i old now before said → said ≡ before ++ said_by says old
+  gather_ends {i} {old} {now} {before} {said} le so =
+      sym (append-nil said) ∙ ap (λ (ws : List Worker). said ++ said_by says ws) (sym (drop_of_length-le old le)) ∙ so.said_are

@@ -2,7 +2,7 @@
 use Rattle.std.specs.Prelude.{ℕ, ◌<◌, ◌≡◌, List, length, map, get_or}
 use Rattle.pas_trace.specs.declared.plan.Op.{Op}
 use Rattle.pas_shared.specs.declared.region.SharedRegion.{SharedRegion}
-use Rattle.pas_threads.specs.Hands.{MayDoPhase, DidPhase}
+use Rattle.pas_threads.specs.Pairs.{MayDoPhase, DidPhase}
 use Rattle.pas_threads.specs.Scavengers.{MayScavenge, DidScavenge}
 use Rattle.pas_threads.specs.declared.workers.Worker.{Worker}
 use Rattle.pas_acts.specs.declared.names.NameBook.{NameBook}

@@ -1,5 +1,5 @@
 -- The scavenger's worker, at its desk with the threads that are lent to it.
-use Rattle.std.specs.Prelude.{ℕ, ◌<◌, ◌≢◌, List, length, get_or}
+use Rattle.std.specs.Prelude.{ℕ, ◌<◌, ◌≡◌, ◌≢◌, List, length, get_or}
 use Rattle.pas_steps.specs.Desks.{Standing}
 use Rattle.pas_report.specs.Rooms.{Records}
 use Rattle.pas_shared.specs.declared.region.SharedRegion.{SharedRegion}
@@ -31,4 +31,5 @@ pub record CrewDid (region : SharedRegion) (s : Shift) (acts next : List Act) (h
   pub stands : CrewAt region s next has' came.reached
   pub told : Pushed 0 came.said has.out has'.out
   pub lent : (i : ℕ) (d : Worker) → i < length has.lent → Told (number_in s i) came.said (get_or has.lent i d) (get_or has'.lent i d)
+  pub books : came.reached.books ≡ p.books
   pub others : (k : ℕ) → 0 ≢ k → ((i : ℕ) → i < length s.idle → number_in s i ≢ k) → TookNoPart k came.said p came.reached

@@ -2,18 +2,17 @@
 use Rattle.std.specs.Prelude.{ℕ, ◌+◌, ◌≡◌, List, [], Option, Some}
 use Rattle.pas_profile.specs.declared.profile.Profile.{Profile}
 use Rattle.pas_steps.specs.Desks.{Standing}
-use Rattle.pas_trace.specs.declared.plan.Op.{Op}
 use Rattle.pas_cache.specs.Caches.{cached}
 use Rattle.pas_shared.specs.Passes.{seat_of, view_of, IsPassOf}
 use Rattle.pas_shared.specs.declared.region.SharedRegion.{SharedRegion}
 use Rattle.pas_shared.specs.declared.pass.SharedPass.{SharedPass}
-use Rattle.pas_trace.specs.Acts.{Act, own_acts}
+use Rattle.pas_trace.specs.Acts.{Act}
 use Rattle.pas_answers.specs.Answers.{Progress}
 use Rattle.pas_answers.specs.Fit.{costs_of}
 use Rattle.pas_report.specs.Rooms.{Records}
 use Rattle.pas_acts.specs.AtDesks.{HasRoomAt}
 use Rattle.pas_acts.specs.NameBooks.{table}
-use Rattle.pas_acts.specs.Works.{Keeps, keeps, Later, ThreadAt, Works}
+use Rattle.pas_acts.specs.Works.{Keeps, keeps, Later, ThreadAt}
 use Rattle.pas_acts.specs.declared.names.NameBook.{NameBook}
 use Rattle.pas_threads.specs.declared.workers.Worker.{Worker}
 
@@ -51,16 +50,3 @@ pub record Did (region : SharedRegion) (old new : Option SharedPass) (Does : Sta
   pub before : HasPass region old
   pub after : HasPass region new
   pub does : Does (standing_of_pass before.pass) (standing_of_pass after.pass)
-
--- the worker's acts of its operations in a phase were done, wherever the replay stood
-pub record DidPhase (region : SharedRegion) (book : NameBook) (ops : List Op) (old new : Worker) : Type 0 where
-  pub did : (f : Profile) (k : ℕ) (later : Later) (p : Progress) → WorkerAt region book f k (own_acts k ops) old later p
-      → Did region old.pass new.pass (λ σ σ'. Works f k (own_acts k ops) [] σ σ' (kept_by book old) (kept_by book new) later p)
-
--- the operations of this worker's thread in the phase can be done
-pub record MayDoPhase (region : SharedRegion) (book : NameBook) (ops : List Op) (worker : Worker) : Type 0 where
-  pub profile : Profile
-  pub thread : ℕ
-  pub later : Later
-  pub progress : Progress
-  pub stands : WorkerAt region book profile thread (own_acts thread ops) worker later progress

@@ -1,5 +1,5 @@
 -- A kit that nobody used, made for a plan, and the passes of a team.
-use Rattle.std.specs.Prelude.{ℕ, ◌+◌, ◌<◌, ◌≤◌, ◌≡◌, List, [], ◌∷◌, Option, Some, None, All, map, length, slice_index, vec_capacity}
+use Rattle.std.specs.Prelude.{ℕ, suc, ◌+◌, ◌*◌, ◌<◌, ◌≤◌, ◌≡◌, List, [], ◌∷◌, ◌++◌, Option, Some, None, All, map, length, slice_index, slice_index_or, get_or, vec_capacity}
 use Rattle.pas_profile.specs.declared.profile.Profile.{Profile}
 use Rattle.pas_trace.specs.Plans.{bounds_of}
 use Rattle.pas_trace.specs.declared.plan.Plan.{Plan}
@@ -11,10 +11,16 @@ use Rattle.pas_shared.specs.declared.region.SharedRegion.{SharedRegion}
 use Rattle.pas_shared.specs.declared.pass.SharedPass.{SharedPass}
 use Rattle.pas_answers.specs.Fit.{AllBelow}
 use Rattle.pas_answers.specs.Names.{block_named, names_held}
-use Rattle.pas_answers.specs.Replays.{phases_of, region_of, threads_of, empty_cache}
+use Rattle.pas_answers.specs.Replays.{phases_of, region_of, threads_of, keepers_of, empty_cache}
+use Rattle.pas_guard.specs.Books.{guards_in, size_of_book}
+use Rattle.pas_guard.specs.declared.book.GuardBook.{GuardBook}
+use Rattle.pas_plans.specs.Keepers.{guarded_of}
+use Rattle.pas_trace.specs.EveryPlan.{operations_of}
 use Rattle.pas_acts.specs.NameBooks.{requests_in, room_for}
+use Rattle.pas_threads.specs.Pairs.{AreGuarded}
 use Rattle.pas_threads.specs.Sessions.{HasPlaces}
 use Rattle.pas_acts.specs.declared.names.NameBook.{NameBook}
+use Rattle.pas_threads.specs.declared.keeper.Keeper.{Keeper}
 use Rattle.pas_threads.specs.declared.workers.Worker.{Worker}
 use Rattle.pas_threads.specs.declared.scavenger.Scavenger.{Scavenger}
 use Rattle.pas_threads.specs.declared.phases.Team.{Team}
@@ -63,10 +69,52 @@ pub record IsBookOf (plan : Plan) (book : NameBook) : Type 0 where
   pub no_name : (name : ℕ) → block_named book.names name ≡ None
   pub names : AllBelow (names_held book.names) (phases_of plan)
 
--- a team that did nothing yet, whose actors have these passes
-pub record IsTeamOf (plan : Plan) (first : SharedPass) (others : List SharedPass) (team : Team) : Type 0 where
+-- the keeper of thread k has this pass, a book without a guard, with a place for each guarded request of its thread, and room for what it may say
+pub record IsKeeperFor (plan : Plan) (k : ℕ) (pass : SharedPass) (keeper : Option Keeper) : Type 0 where
+  pub there : Keeper
+  pub present : keeper ≡ Some there
+  pub pass_is : there.pass ≡ pass
+  pub empty : guards_in there.book ≡ []
+  pub places : size_of_book there.book ≡ guarded_of k (operations_of plan)
+  pub said : records_in there.out ≡ []
+  pub records : slice_index (bounds_of plan.bounds) (threads_of plan + k) + 2 * guarded_of k (operations_of plan) ≤ room_of there.out
+
+-- the keeper has this pass and this book, and room for so many records, of which there are none
+pub record IsKeeperWith (pass : SharedPass) (book : GuardBook) (bound : ℕ) (keeper : Keeper) : Type 0 where
+  pub pass_is : keeper.pass ≡ pass
+  pub book_is : keeper.book ≡ book
+  pub said : records_in keeper.out ≡ []
+  pub records : bound ≤ room_of keeper.out
+
+-- .. each of these, in order, the first of which has its bound at this place
+abbrev pub AreKeepers : List ℕ → ℕ → List SharedPass → List GuardBook → List Keeper → Type 0
+AreKeepers bounds i [] [] [] = Unit {0}
+AreKeepers bounds i (pass ∷ passes) (book ∷ books) (keeper ∷ keepers) = IsKeeperWith pass book (slice_index bounds i) keeper × AreKeepers bounds (i + 1) passes books keepers
+AreKeepers bounds i passes books keepers = ⊥
+
+-- the worker with this keeper
+abbrev pub with_keeper : Worker → Option Keeper → Worker
+with_keeper w keeper = record { pass = w.pass; cache = w.cache; requests = w.requests; out = w.out; keeper = keeper }
+
+-- a worker without one
+abbrev pub IsAlone : Worker → Type 0
+IsAlone worker = worker.keeper ≡ None
+
+-- how many records each keeper may make in the end: for its events, and two for each guarded request of its thread
+abbrev pub HasRoomForKeeper : Plan → List ℕ → ℕ → Type 0
+HasRoomForKeeper plan room i = slice_index (bounds_of plan.bounds) (threads_of plan + suc i) + 2 * guarded_of (suc i) (operations_of plan) ≤ slice_index room i
+
+-- each worker has a keeper, by these passes in order; or none has one, and there is no pass
+abbrev pub HaveKeepers : Plan → List SharedPass → List Worker → Type 0
+HaveKeepers plan passes workers =
+    (length passes ≡ keepers_of plan) × AreGuarded (keepers_of plan) workers
+    × ((i : ℕ) (d : SharedPass) (e : Worker) → i < keepers_of plan → IsKeeperFor plan (suc i) (slice_index_or passes i d) (get_or workers i e).keeper)
+
+-- a team that did nothing yet, whose actors have these passes: the threads, and behind them the keepers
+pub record IsTeamOf (plan : Plan) (first : SharedPass) (others kept : List SharedPass) (team : Team) : Type 0 where
   pub scavenger : IsSupplied (region_of plan) first (slice_index (bounds_of plan.bounds) 0) team.scavenger
   pub workers : AreEquipped (bounds_of plan.bounds) 1 others team.threads.items
+  pub keepers : HaveKeepers plan kept team.threads.items
   pub book : IsBookOf plan team.book
   pub places : HasPlaces (threads_of plan) team
 
@@ -75,16 +123,26 @@ pub record IsKitOf (plan : Plan) (kit : SharedKit) : Type 0 where
   pub profile : profile_of kit.region ≡ region_of plan
   pub first : SharedPass
   pub others : List SharedPass
+  pub kept : List SharedPass
   pub many : length others ≡ threads_of plan
-  pub unused : AreNew kit.region (bounds_of plan.bounds) 0 (first ∷ others)
-  pub team : IsTeamOf plan first others kit.team
+  pub unused : AreNew kit.region (bounds_of plan.bounds) 0 (first ∷ (others ++ kept))
+  pub team : IsTeamOf plan first others kept kit.team
   pub none : kit.passes.items ≡ []
-  pub place : threads_of plan < vec_capacity kit.passes
+  pub place : (region_of plan).threads < vec_capacity kit.passes
 
 -- ---- at the end
--- the places of the actors' passes, from the scavenger on
+-- the pass of a worker's keeper, if it has one
+abbrev pub kept_pass : Option Keeper → List (Option SharedPass)
+kept_pass None = []
+kept_pass (Some keeper) = Some keeper.pass ∷ []
+
+abbrev pub kept_passes : List Worker → List (Option SharedPass)
+kept_passes [] = []
+kept_passes (w ∷ ws) = kept_pass w.keeper ++ kept_passes ws
+
+-- the places of the actors' passes, from the scavenger on, those of the keepers last
 abbrev pub slots_of : Team → List (Option SharedPass)
-slots_of team = team.scavenger.pass ∷ map (λ worker. worker.pass) team.threads.items
+slots_of team = team.scavenger.pass ∷ (map (λ worker. worker.pass) team.threads.items ++ kept_passes team.threads.items)
 
 -- there is a pass at each
 abbrev pub AreAllBack : Team → Type 0

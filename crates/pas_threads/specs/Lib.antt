@@ -9,3 +9,4 @@ pub mod Sessions
 pub mod Turns
 pub mod Performing
 pub mod Kits
+pub mod Pairs

@@ -1,5 +1,5 @@
 -- The operations of one phase, by all hands at once.
-use Rattle.std.specs.Prelude.{ℕ, suc, ◌<◌, ◌≤◌, ◌≡◌, true, List, [], ◌++◌, length, get_or}
+use Rattle.std.specs.Prelude.{ℕ, suc, ◌+◌, ◌<◌, ◌≤◌, ◌≡◌, ◌⊎◌, true, List, [], ◌++◌, length, get_or}
 use Rattle.pas_profile.specs.declared.profile.Profile.{Profile}
 use Rattle.pas_trace.specs.EveryPlan.{AreSound}
 use Rattle.pas_trace.specs.declared.plan.Op.{Op}
@@ -8,13 +8,18 @@ use Rattle.pas_utility.specs.Outcomes.{places_of}
 use Rattle.pas_shared.specs.declared.region.SharedRegion.{SharedRegion}
 use Rattle.pas_trace.specs.Acts.{is_active, acts_of_ops, idle_threads, own_acts, scavenger_acts}
 use Rattle.pas_answers.specs.Answers.{Named, Progress}
-use Rattle.pas_shares.specs.Shares.{AreAmong, owner_in, acts_by}
+use Rattle.pas_shares.specs.Shares.{AreAmong, AreKeptBehind, owner_in, acts_by}
 use Rattle.pas_acts.specs.NameBooks.{requests_in, room_for, names_of, names_asked}
 use Rattle.pas_threads.specs.Taken.{HandsOver}
 use Rattle.pas_acts.specs.Works.{Later}
-use Rattle.pas_threads.specs.Hands.{standing_of_pass, HasPass, ScavengerAt, WorkerAt}
+use Rattle.pas_acts.specs.Keepers.{LaterKept}
+use Rattle.pas_acts.specs.Pairs.{KeeperWaits, KeptPushed, KeptStill}
+use Rattle.pas_answers.specs.Fit.{own_costs_of}
+use Rattle.pas_answers.specs.Ways.{records_by}
+use Rattle.pas_threads.specs.Hands.{standing_of_pass, HasPass, ScavengerAt}
 use Rattle.pas_threads.specs.Sessions.{Session, WorkerHas, HasPlaces}
-use Rattle.pas_threads.specs.Turns.{Came, Pushed, TookNoPart}
+use Rattle.pas_threads.specs.Pairs.{kept_by_worker, IsKeeperOf, PairStands, owed_kept}
+use Rattle.pas_threads.specs.Turns.{Came, Pushed, TookNoPart, owed_at}
 use Rattle.pas_acts.specs.declared.names.NameBook.{NameBook}
 use Rattle.pas_threads.specs.declared.workers.Worker.{Worker}
 use Rattle.pas_threads.specs.declared.scavenger.Scavenger.{Scavenger}
@@ -28,10 +33,11 @@ pub record Round : Type 0 where
   pub book : NameBook
   pub ops : List Op
   pub later : ℕ → Later
+  pub more : ℕ → LaterKept
   pub start : Progress
 
-abbrev pub round : Session → NameBook → List Op → (ℕ → Later) → Progress → Round
-round s book ops later p = record { profile = s.profile; threads = s.threads; book = book; ops = ops; later = later; start = p }
+abbrev pub round : Session → NameBook → List Op → (ℕ → Later) → (ℕ → LaterKept) → Progress → Round
+round s book ops later more p = record { profile = s.profile; threads = s.threads; book = book; ops = ops; later = later; more = more; start = p }
 
 -- the threads that are idle in it
 abbrev pub idle_in : Round → List ℕ
@@ -49,18 +55,32 @@ pub record IsReady (region : SharedRegion) (r : Round) (team : Team) : Type 0 wh
   pub asked : List ℕ
   pub sound : AreSound r.profile asked r.ops
   pub within : (k : ℕ) → is_active r.ops k ≡ true → k ≤ r.threads
+  pub behind : AreKeptBehind r.threads r.ops
   pub many : length team.threads.items ≡ r.threads
   pub few : r.threads < 32
-  pub workers : (i : ℕ) (d : Worker) → i < length team.threads.items → WorkerAt region r.book r.profile (suc i) (own_acts (suc i) r.ops) (get_or team.threads.items i d) (r.later (suc i)) r.start
+  pub workers : (i : ℕ) (d : Worker) → i < length team.threads.items → PairStands region r.book r.profile r.threads (suc i) (own_acts (suc i) r.ops) (get_or team.threads.items i d) (r.later (suc i)) (r.more (suc i)) r.start
   pub scavenger : ScavengerHas region r team.scavenger
   pub places : HasPlaces r.threads team
 
 -- ---- after
+-- What the two actors of the worker said of this, with what they owe then, is paid for: by what they owed and the acts; or the keeper took no part, and
+-- there is room for what the thread owes.
+abbrev pub PaysFor : Round → ℕ → Worker → Worker → List Record → Progress → Type 0
+PaysFor r k old new said q =
+    (length (records_by k said) + length (records_by (r.threads + k) said) + (owed_at r.profile k q + owed_kept r.profile (r.threads + k) new.keeper q)
+    ≤ own_costs_of k (own_acts k r.ops) + (owed_at r.profile k r.start + owed_kept r.profile (r.threads + k) old.keeper r.start))
+    ⊎ ((records_by (r.threads + k) said ≡ []) × (owed_kept r.profile (r.threads + k) new.keeper q ≡ owed_kept r.profile (r.threads + k) old.keeper r.start))
+
 -- The acts of thread k's worker were done, or of the scavenger's, to which it was lent: the replay came as far as q by them, and this was said. What the
--- thread said of it came to the end of its records, and its requests are told of.
+-- thread and its keeper said of it came to the end of the records of each, and its requests are told of.
 pub record ThreadDone (region : SharedRegion) (r : Round) (k : ℕ) (old new : Worker) (said : List Record) (q : Progress) : Type 0 where
   pub stands : WorkerHas region r.profile k new (r.later k) q
+  pub of : IsKeeperOf region new.keeper
+  pub waits : KeeperWaits r.profile (r.threads + k) [] (kept_by_worker new.keeper) (r.more k) q
   pub told : Pushed k said old.out new.out
+  pub kept_told : KeptPushed (r.threads + k) said (kept_by_worker old.keeper) (kept_by_worker new.keeper)
+  pub still : KeptStill (r.threads + k) (kept_by_worker old.keeper) r.start q
+  pub paid : PaysFor r k old new said q
   pub noted : names_of (requests_in new.requests) ≡ names_of (requests_in old.requests) ++ names_asked (own_acts k r.ops)
   pub room_noted : room_for new.requests ≡ room_for old.requests
   pub hands_over : requests_in old.requests ≡ [] → (names : List Named) → AreAmong q.names names → HandsOver r.profile r.ops r.book k new names
@@ -73,8 +93,8 @@ ScavengerDone region r old new said q =
 
 -- what worker w did, for all actors in its hands
 pub record Piece (region : SharedRegion) (r : Round) (old new : List Worker) (before after : Scavenger) (w : ℕ) : Type 0 where
-  pub own : Came r.profile (acts_by (owner_in r.ops) w (acts_of_ops (idle_in r) r.ops)) r.start
-  pub threads : (i : ℕ) (d : Worker) → i < length old → owner_in r.ops (suc i) ≡ w → ThreadDone region r (suc i) (get_or old i d) (get_or new i d) own.said own.reached
+  pub own : Came r.profile (acts_by (owner_in r.threads r.ops) w (acts_of_ops (idle_in r) r.ops)) r.start
+  pub threads : (i : ℕ) (d : Worker) → i < length old → owner_in r.threads r.ops (suc i) ≡ w → ThreadDone region r (suc i) (get_or old i d) (get_or new i d) own.said own.reached
   pub scavenger : w ≡ 0 → ScavengerDone region r before after own.said own.reached
 
 -- all hands did their operations, each for itself

@@ -10,24 +10,31 @@ use Rattle.pas_report.specs.declared.record.Record.{Record}
 use Rattle.pas_utility.specs.Outcomes.{places_of}
 use Rattle.pas_cache.specs.Caches.{cached}
 use Rattle.pas_shared.specs.declared.region.SharedRegion.{SharedRegion}
-use Rattle.pas_trace.specs.Acts.{Ends, is_active, numbers_from, acts_of, phase_acts}
+use Rattle.pas_trace.specs.Acts.{Ends, Lowers, is_active, numbers_from, own_acts, acts_of, phase_acts}
 use Rattle.pas_answers.specs.Replays.{at_start}
 use Rattle.pas_answers.specs.Answers.{Progress}
 use Rattle.pas_answers.specs.Calls.{owed_events}
 use Rattle.pas_answers.specs.Ways.{OnThreads, arranged, by_actors, AreSpoken}
 use Rattle.pas_answers.specs.Reaching.{Reaches}
+use Rattle.pas_shares.specs.Shares.{AreKeptBehind}
 use Rattle.pas_acts.specs.Works.{Later}
 use Rattle.pas_acts.specs.Turns.{RestsAt}
 use Rattle.pas_threads.specs.Hands.{standing_of_pass, HasPass, ScavengerAt}
+use Rattle.pas_threads.specs.Pairs.{KeeperRests, AreGuarded, owed_by_keepers, IsLow}
 use Rattle.pas_acts.specs.NameBooks.{NamesAt, requests_in, room_for}
 use Rattle.pas_threads.specs.declared.workers.Worker.{Worker}
 use Rattle.pas_threads.specs.declared.scavenger.Scavenger.{Scavenger}
 use Rattle.pas_threads.specs.declared.phases.Team.{Team}
 
--- what a replay on threads goes by: the profile of its region, and how many threads make the operations, which may be fewer than the region has
+-- what a replay on threads goes by: the profile of its region, how many threads make the operations, and how many keepers stand behind them
 pub record Session : Type 0 where
   pub profile : Profile
   pub threads : ℕ
+  pub keepers : ℕ
+
+-- .. with just its threads, by which the operations of a plan are counted
+abbrev pub planned : Session → Profile
+planned s = record s.profile { threads = s.threads }
 
 -- ---- the workers
 -- room for so many events and as many records
@@ -68,13 +75,16 @@ pub record HasPlaces (threads : ℕ) (team : Team) : Type 0 where
 -- The team stands where the replay came as far as p, and the phases are left. Their operations are of its threads.
 pub record TeamAt (region : SharedRegion) (s : Session) (phases : List (List Op)) (team : Team) (p : Progress) : Type 0 where
   pub many : length team.threads.items ≡ s.threads
-  pub fits : s.threads ≤ s.profile.threads
+  pub fits : s.threads + s.keepers ≤ s.profile.threads
   pub few_threads : s.threads ≤ 16
   pub few : length (all_ops phases) < 2 ^ 32
   pub within : (k : ℕ) → is_active (all_ops phases) k ≡ true → k ≤ s.threads
-  pub workers : AreResting region s.profile team.threads.items (λ k. own_records s.profile k (all_ops phases)) p
-  pub scavenger : ScavengerRests region s.profile team.scavenger (own_records s.profile 0 (all_ops phases)) p
-  pub nobody : (k : ℕ) → s.threads < k → part k p.list ≡ []
+  pub behind : AreKeptBehind s.threads (all_ops phases)
+  pub workers : AreResting region s.profile team.threads.items (λ k. own_records (planned s) k (all_ops phases)) p
+  pub guarded : AreGuarded s.keepers team.threads.items
+  pub kept : (i : ℕ) (d : Worker) → i < length team.threads.items → KeeperRests region s.profile (s.threads + suc i) (own_acts (suc i) (all_ops phases)) (get_or team.threads.items i d).keeper p
+  pub scavenger : ScavengerRests region s.profile team.scavenger (own_records (planned s) 0 (all_ops phases)) p
+  pub nobody : (k : ℕ) → s.threads + s.keepers < k → part k p.list ≡ []
   pub names : NamesAt s.profile (all_ops phases) team.book p
   pub frees : FreeTheirOwn names.asked phases
   pub places : HasPlaces s.threads team
@@ -99,16 +109,18 @@ abbrev pub owed_by : Profile → Progress → ℕ → ℕ
 owed_by f p zero = 0
 owed_by f p (suc n) = owed_events f (p.caches (suc n)) (part (suc n) p.list) + owed_by f p n
 
--- There is room for the records that the operations of the phases that are left may make, for those of `marks` marks, and for what the threads owe.
-abbrev pub HasRoom : Session → List (List Op) → ℕ → Records → Progress → Type 0
-HasRoom s phases marks out p = length (records_in out) + (owed_by s.profile p s.threads + records_of_ops s.profile (all_ops phases) + marks) ≤ room_of out
+-- There is room for the records that the operations of the phases that are left may make, for those of `marks` marks, and for what the threads and their
+-- keepers owe.
+abbrev pub HasRoom : Session → List (List Op) → ℕ → List Worker → Records → Progress → Type 0
+HasRoom s phases marks workers out p =
+    length (records_in out) + (owed_by s.profile p s.threads + owed_by_keepers s.profile s.threads workers p s.threads + records_of_ops (planned s) (all_ops phases) + marks) ≤ room_of out
 
 -- ---- one phase
 -- The operations of a phase come next, and then those of the phases after it. The records so far end with a mark and are written.
 pub record PhaseAt (region : SharedRegion) (s : Session) (ops : List Op) (rest : List (List Op)) (marks : ℕ) (team : Team) (out : Records) (p : Progress) : Type 0 where
   pub team_at : TeamAt region s (ops ∷ rest) team p
   pub marked : AreMarked s p.records (records_in out)
-  pub room : HasRoom s (ops ∷ rest) marks out p
+  pub room : HasRoom s (ops ∷ rest) marks team.threads.items out p
 
 -- its acts were answered, and its records are written
 pub record PhaseDone (region : SharedRegion) (s : Session) (ops : List Op) (rest : List (List Op)) (marks : ℕ) (team : Team) (out out' : Records) (p : Progress) : Type 0 where
@@ -116,24 +128,27 @@ pub record PhaseDone (region : SharedRegion) (s : Session) (ops : List Op) (rest
   pub reaches : Reaches s.profile (phase_acts s.threads ops) p reached
   pub team_at : TeamAt region s rest team reached
   pub written : AreWritten s reached.records (records_in out')
-  pub room : HasRoom s rest marks out' reached
+  pub room : HasRoom s rest marks team.threads.items out' reached
   pub size : room_of out' ≡ room_of out
 
 -- ---- the close
--- The threads were stopped, after the mark of the close, what they said is written, and no cache has a local allocator.
+-- The threads were stopped and the keepers lowered their guards, after the mark of the close, what they said is written, no cache has a local allocator, and
+-- no guard is up.
 pub record CloseDone (region : SharedRegion) (s : Session) (team : Team) (written : List Record) (p : Progress) : Type 0 where
   pub reached : Progress
-  pub reaches : Reaches s.profile (map Ends (numbers_from 1 s.threads)) p reached
+  pub reaches : Reaches s.profile (map Ends (numbers_from 1 s.threads) ++ map Lowers (numbers_from (s.threads + 1) s.keepers)) p reached
   pub team_at : TeamAt region s [] team reached
   pub written_so : AreWritten s reached.records written
   pub empty : (i : ℕ) (d : Worker) → i < length team.threads.items → (cached (get_or team.threads.items i d).cache).locals ≡ []
+  pub low : (i : ℕ) (d : Worker) → i < length team.threads.items → IsLow (get_or team.threads.items i d).keeper
 
 -- ---- the whole replay
 -- All phases and the close were replayed: their acts are answered, the records are written phase by phase and actor by actor, the team stands at the end, and
 -- no cache has a local allocator.
 pub record HasReplayed (region : SharedRegion) (s : Session) (phases : List (List Op)) (team : Team) (written : List Record) : Type 0 where
   pub end : Progress
-  pub answers : Reaches s.profile (acts_of s.threads phases) at_start end
+  pub answers : Reaches s.profile (acts_of s.threads s.keepers phases) at_start end
   pub stands : TeamAt region s [] team end
   pub written_are : written ≡ arranged OnThreads s.profile.threads end.records
   pub empty : (i : ℕ) (d : Worker) → i < length team.threads.items → (cached (get_or team.threads.items i d).cache).locals ≡ []
+  pub low : (i : ℕ) (d : Worker) → i < length team.threads.items → IsLow (get_or team.threads.items i d).keeper

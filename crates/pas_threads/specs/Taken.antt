@@ -32,6 +32,7 @@ pub record IsEmptied (old new : Worker) : Type 0 where
   pub pass : new.pass ≡ old.pass
   pub cache : new.cache ≡ old.cache
   pub out : new.out ≡ old.out
+  pub keeper : new.keeper ≡ old.keeper
   pub empty : requests_in new.requests ≡ []
   pub room : room_for new.requests ≡ room_for old.requests
 

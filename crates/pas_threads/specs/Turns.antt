@@ -1,5 +1,5 @@
 -- How workers take turns, one after the other: threads read the epoch before a phase, and are stopped at the close; and what is gathered of them.
-use Rattle.std.specs.Prelude.{ℕ, suc, ◌+◌, ◌<◌, ◌≤◌, ◌≡◌, ◌≢◌, List, [], ◌∷◌, ◌++◌, length, get_or, map}
+use Rattle.std.specs.Prelude.{ℕ, suc, ◌+◌, ◌<◌, ◌≤◌, ◌≡◌, ◌≢◌, List, [], ◌∷◌, ◌++◌, length, get_or, map, Option, None, Some}
 use Rattle.pas_bits.specs.declared.mask.Mask4.{Mask4}
 use Rattle.pas_profile.specs.declared.profile.Profile.{Profile}
 use Rattle.pas_steps.specs.Lists.{part}
@@ -17,6 +17,8 @@ use Rattle.pas_acts.specs.AtDesks.{here, ThreadActs}
 use Rattle.pas_acts.specs.Works.{Later}
 use Rattle.pas_threads.specs.Hands.{Did}
 use Rattle.pas_threads.specs.Sessions.{evenly, WorkerHas}
+use Rattle.pas_threads.specs.Pairs.{said_by_keeper, IsButKeeper}
+use Rattle.pas_threads.specs.declared.keeper.Keeper.{Keeper}
 use Rattle.pas_threads.specs.declared.workers.Worker.{Worker}
 
 -- ---- what acts come to
@@ -32,10 +34,11 @@ pub record Pushed (k : ℕ) (said : List Record) (out out' : Records) : Type 0 w
   pub added : records_in out' ≡ records_in out ++ records_by k said
   pub room : room_of out' ≡ room_of out
 
--- .. of those of its worker, whose requests are as they were
+-- .. of those of its worker, whose requests and keeper are as they were
 pub record Told (k : ℕ) (said : List Record) (old new : Worker) : Type 0 where
   pub out : Pushed k said old.out new.out
   pub requests : new.requests ≡ old.requests
+  pub keeper : new.keeper ≡ old.keeper
 
 -- actor k took no part in what was done from p to q, when this was said: it made no step, and nothing of it is its own
 pub record TookNoPart (k : ℕ) (said : List Record) (p q : Progress) : Type 0 where
@@ -46,6 +49,7 @@ pub record TookNoPart (k : ℕ) (said : List Record) (p q : Progress) : Type 0 w
 pub record Turn (region : SharedRegion) (f : Profile) (k : ℕ) (act : Act) (told : List Record) (old new : Worker) (later : Later) (p : Progress) : Type 0 where
   pub did : Did region old.pass new.pass (λ σ σ'. ThreadActs f k (act ∷ []) [] told (here σ (cached old.cache) old.out) (here σ' (cached new.cache) new.out) later p)
   pub requests : new.requests ≡ old.requests
+  pub keeper : new.keeper ≡ old.keeper
 
 -- ---- workers in a row, one turn each or none
 -- so many places are of threads, each of another one
@@ -59,6 +63,7 @@ pub record LeavesOthers (number : ℕ → ℕ) (places : ℕ) (said : List Recor
   pub parts : (k : ℕ) → ((i : ℕ) → i < places → number i ≢ k) → part k q.list ≡ part k p.list
   pub silent : (k : ℕ) → 0 ≢ k → ((i : ℕ) → i < places → number i ≢ k) → records_by k said ≡ []
   pub names : q.names ≡ p.names
+  pub books : q.books ≡ p.books
   pub epoch : q.epoch ≡ p.epoch
 
 -- These acts were done by workers of the row, of which that at place i is of actor `number i`. Each stands then, which is what `Stands` says of it.
@@ -99,15 +104,42 @@ abbrev pub StoppedAll : SharedRegion → Profile → List Worker → List Worker
 StoppedAll region f old new later p = Stopped region f (map Ends (numbers_from 1 (length old))) (length old) old new later p
 
 -- ---- what is gathered
--- what these workers said, one worker after the other
-abbrev pub said_by_all : List Worker → List Record
-said_by_all [] = []
-said_by_all (w ∷ ws) = records_in w.out ++ said_by_all ws
+-- what these workers said, one after the other, where each says so
+abbrev pub said_by : (Worker → List Record) → List Worker → List Record
+said_by says [] = []
+said_by says (w ∷ ws) = says w ++ said_by says ws
 
--- what the worker said was gathered, and nothing else of it changed
+-- for their threads
+abbrev pub said_own : Worker → List Record
+said_own w = records_in w.out
+
+abbrev pub said_by_all : List Worker → List Record
+said_by_all workers = said_by said_own workers
+
+-- .. and for their keepers
+abbrev pub said_kept : Worker → List Record
+said_kept w = said_by_keeper w.keeper
+
+abbrev pub said_by_keepers : List Worker → List Record
+said_by_keepers workers = said_by said_kept workers
+
+-- what the worker said for its thread was gathered, and nothing else of it changed
 pub record IsGathered (old new : Worker) : Type 0 where
   pub pass : new.pass ≡ old.pass
   pub cache : new.cache ≡ old.cache
   pub requests : new.requests ≡ old.requests
   pub none : records_in new.out ≡ []
   pub room : room_of new.out ≡ room_of old.out
+  pub keeper : new.keeper ≡ old.keeper
+
+-- what a keeper said was gathered, and nothing else of it changed
+abbrev pub HasSaid : Option Keeper → Option Keeper → Type 0
+HasSaid None None = Unit {0}
+HasSaid None (Some new) = ⊥
+HasSaid (Some old) None = ⊥
+HasSaid (Some old) (Some new) = (new.pass ≡ old.pass) × (new.book ≡ old.book) × (records_in new.out ≡ []) × (room_of new.out ≡ room_of old.out)
+
+-- what the worker said for its keeper was gathered, and nothing else of it changed
+pub record IsKeptGathered (old new : Worker) : Type 0 where
+  pub but : IsButKeeper old new
+  pub keeper : HasSaid old.keeper new.keeper

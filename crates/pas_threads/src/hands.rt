@@ -1,7 +1,7 @@
 //! The hands that act in a phase, all at once: the worker of each thread that has an operation in it, and the scavenger where one is its own.
 ghost use Rattle.std.specs.Prelude.{◌≡◌, ◌<◌, ◌^◌, ◌++◌, ◌∷◌, [], ℕ, true, false, All, List, length, map, get_or, vec_capacity};
 ghost use Rattle.pas_threads.specs.Acting.{MayAct, DidAct, DidEach};
-ghost use Rattle.pas_threads.specs.Hands.{MayDoPhase};
+ghost use Rattle.pas_threads.specs.Pairs.{MayDoPhase};
 ghost use Rattle.pas_threads.specs.Scavengers.{MayScavenge, DidScavenge};
 ghost use Rattle.pas_threads.specs.declared.workers.Worker.{Worker as TheWorker};
 ghost use Rattle.pas_threads.specs.declared.scavenger.Scavenger.{Scavenger as TheScavenger};

@@ -2,13 +2,14 @@
 ghost use Rattle.std.specs.Prelude.{◌≡◌, ℕ, List, IfOk};
 ghost use Rattle.pas_trace.specs.Plans.{IsPlanOf};
 ghost use Rattle.pas_shared.specs.Passes.{profile_of_opening};
+ghost use Rattle.pas_answers.specs.Replays.{region_of};
 ghost use Rattle.pas_threads.specs.Kits.{IsKitOf};
 
 use crate::ahead::{Ahead, Spare};
 use crate::making::{indexes_for, move_rooms, team_for};
 use crate::phases::Team;
 use pas_large_index::LargeIndex;
-use pas_plans::rooms_of;
+use pas_plans::{region_of, rooms_of};
 use pas_profile::{EventRoom, NoMemory};
 use pas_shared::{Opening, SharedPass, SharedRegion};
 use pas_trace::Plan;
@@ -35,11 +36,11 @@ impl SharedKit {
         requires { (text : List ℕ) × IsPlanOf text plan.now }
         ensures { IfOk result (λ kit. IsKitOf plan.now kit) }
     {
-        let opening = Opening::try_new(alloc, plan.profile)?;
+        let opening = Opening::try_new(alloc, region_of(plan))?;
         SharedKit::made_at(alloc, plan, opening, Vec::new(alloc), Spare::none(alloc)?)
     }
 
-    /// The kit of a plan, as `try_new` gives it, of what was made ahead, as far as that serves: at its region where that has the plan's profile, and with its
+    /// The kit of a plan, as `try_new` gives it, of what was made ahead, as far as that serves: at its region where that is the one of a replay of the plan, which has no keeper, and with its
     /// rooms where they are large enough. The rest is let go. NoMemory where memory was wanting. Where all of it serves, it costs one pass over the plan, and one
     /// more over its first phase. A room stands twice while it moves into the memory that was made for it.
     pub fn try_new_of(alloc: Global, plan: &Plan, ahead: Ahead) -> Result<SharedKit, NoMemory>
@@ -51,11 +52,11 @@ impl SharedKit {
             events,
             spare,
         } = ahead;
-        if *opening.profile() == plan.profile {
+        if *opening.profile() == region_of(plan) {
             return SharedKit::made_at(alloc, plan, opening, events, spare);
         }
         drop(opening);
-        let opening = Opening::try_new(alloc, plan.profile)?;
+        let opening = Opening::try_new(alloc, region_of(plan))?;
         SharedKit::made_at(alloc, plan, opening, events, spare)
     }
 
@@ -69,18 +70,18 @@ impl SharedKit {
         before: Spare,
     ) -> Result<SharedKit, NoMemory>
         requires plan { (text : List ℕ) × IsPlanOf text plan.now }
-        requires profile { profile_of_opening opening ≡ plan.now.profile }
+        requires profile { profile_of_opening opening ≡ region_of plan.now }
         ensures { IfOk result (λ kit. IsKitOf plan.now kit) }
     {
-        let count = plan.profile.threads;
+        let profile = region_of(plan);
         let bounds = plan.bounds.as_slice();
-        let mut utility = Utility::try_new(alloc, &plan.profile, bounds)?;
-        let mut rooms = rooms_of(alloc, &mut utility, count)?;
+        let mut utility = Utility::try_new(alloc, &profile, bounds)?;
+        let mut rooms = rooms_of(alloc, &mut utility, profile.threads)?;
         move_rooms(&mut rooms, events);
         let (region, mut others) = SharedRegion::try_new_at(alloc, opening, rooms)?;
         let first = others.remove(0);
         let team = team_for(alloc, plan, &mut utility, first, others, before)?;
-        let Ok(passes) = Vec::with_capacity(alloc, count as usize + 1) else {
+        let Ok(passes) = Vec::with_capacity(alloc, profile.threads as usize + 1) else {
             return Err(NoMemory);
         };
         let indexes = indexes_for(alloc, plan.profile.heaps)?;

@@ -6,6 +6,7 @@ mod crew;
 mod dealing;
 mod estimate;
 mod hands;
+mod keeper;
 pub mod kit;
 mod lending;
 mod making;

@@ -1,5 +1,5 @@
 //! How the parts of a kit are made: in the memory of what was made ahead, where that is large enough, and in new memory otherwise.
-ghost use Rattle.std.specs.Prelude.{◌≡◌, ◌≤◌, ◌<◌, ◌+◌, ◌⊎◌, ℕ, List, Option, IfOk, All, true, Some, None, [], length, vec_capacity, false};
+ghost use Rattle.std.specs.Prelude.{◌≡◌, ◌≤◌, ◌<◌, ◌+◌, ◌⊎◌, ℕ, List, Option, IfOk, All, true, Some, None, [], ◌++◌, length, get_or, vec_capacity, false};
 ghost use Rattle.pas_profile.specs.Rooms.{shown};
 ghost use Rattle.pas_profile.specs.declared.profile.Profile.{Profile as TheProfile};
 ghost use Rattle.pas_trace.specs.Plans.{IsPlanOf};
@@ -9,19 +9,24 @@ ghost use Rattle.pas_cache.specs.Caches.{cached};
 ghost use Rattle.pas_report.specs.Rooms.{records_in, room_of};
 ghost use Rattle.pas_trace.specs.Acts.{is_active};
 ghost use Rattle.pas_answers.specs.Names.{block_named, names_held};
-ghost use Rattle.pas_answers.specs.Replays.{empty_cache, threads_of as threads_in};
+ghost use Rattle.pas_answers.specs.Replays.{empty_cache, threads_of as threads_in, keepers_of as keepers_in};
 ghost use Rattle.pas_plans.specs.Parts.{AreRooms};
 ghost use Rattle.pas_acts.specs.NameBooks.{requests_in, room_for};
-ghost use Rattle.pas_threads.specs.Kits.{AreEquipped, IsSupplied, IsTeamOf};
+ghost use Rattle.pas_shared.specs.declared.pass.SharedPass.{SharedPass as ThePass};
+ghost use Rattle.pas_threads.specs.Kits.{AreEquipped, IsSupplied, IsTeamOf, AreKeepers, with_keeper, IsAlone, HasRoomForKeeper};
+ghost use Rattle.pas_threads.specs.declared.keeper.Keeper.{Keeper as TheKeeper};
+ghost use Rattle.pas_threads.specs.declared.workers.Worker.{Worker as TheWorker};
 
 use crate::ahead::Spare;
+use crate::keeper::Keeper;
 use crate::phases::Team;
 use crate::scavenger::Scavenger;
 use crate::workers::Worker;
 use pas_acts::names::{NameBook, Requests};
 use pas_cache::ThreadCache;
+use pas_guard::GuardBook;
 use pas_large_index::LargeIndex;
-use pas_plans::{active, caches_for, outcomes_from};
+use pas_plans::{active, books_for, caches_for, outcomes_from};
 use pas_profile::{EventRoom, NoMemory};
 use pas_report::{Records, room_for_replay};
 use pas_shared::SharedPass;
@@ -120,6 +125,63 @@ fn requests_for(
     Ok(requests)
 }
 
+/// The keepers of a guarded plan, which have these passes and books in order, and room for so many records each. None for another plan.
+fn keepers_for(
+    alloc: Global,
+    passes: Vec<SharedPass>,
+    mut books: Vec<GuardBook>,
+    room: &[u32],
+) -> Result<Vec<Keeper>, NoMemory>
+    requires books { length books.items ≡ length passes.items }
+    requires room { length room.now ≡ length passes.items }
+    ensures { IfOk result (λ keepers. AreKeepers room.now 0 passes.items books.items keepers.items) }
+{
+    let Ok(mut keepers) = Vec::with_capacity(alloc, passes.len()) else {
+        return Err(NoMemory);
+    };
+    for pass in passes {
+        let book = books.remove(0);
+        let bound = room[keepers.len()];
+        let out = Records::try_new(alloc, bound)?;
+        keepers.push_reserved(Keeper { pass, book, out });
+    }
+    Ok(keepers)
+}
+
+/// How many records each of so many keepers may make: as many as events, by its bound, and two for each guarded request of its thread, which is no more than
+/// that again.
+fn records_of_keepers(alloc: Global, plan: &Plan, keepers: usize) -> Result<Vec<u32>, NoMemory>
+    requires plan { (text : List ℕ) × IsPlanOf text plan.now }
+    requires keepers { keepers ≡ keepers_in plan.now }
+    ensures many { IfOk result (λ room. length room.items ≡ keepers) }
+    ensures room { IfOk result (λ room. (i : ℕ) → i < keepers → HasRoomForKeeper plan.now room.items i) }
+{
+    let bounds = plan.bounds.as_slice();
+    let _total = plan.total;
+    let threads = plan.profile.threads as usize;
+    let Ok(mut room) = Vec::with_capacity(alloc, keepers) else {
+        return Err(NoMemory);
+    };
+    for thread in 1..keepers + 1 {
+        room.push_reserved(bounds[threads + thread].saturating_mul(2));
+    }
+    Ok(room)
+}
+
+/// Gives each of the first workers its keeper, in order.
+fn give_keepers(workers: &mut [Worker], keepers: Vec<Keeper>)
+    requires few { length keepers.items ≤ length workers.old }
+    ensures many { length workers.new ≡ length workers.old }
+    ensures given { (i : ℕ) (d : TheWorker) (e : TheKeeper) → i < length keepers.items → get_or workers.new i d ≡ with_keeper (get_or workers.old i d) (Some (get_or keepers.items i e)) }
+    ensures others { (i : ℕ) (d : TheWorker) → length keepers.items ≤ i → get_or workers.new i d ≡ get_or workers.old i d }
+{
+    let mut place = 0;
+    for keeper in keepers {
+        workers[place].keeper = Some(keeper);
+        place += 1;
+    }
+}
+
 /// The workers of the threads, from thread 1 on, which have these passes and caches in order. The bounds are those of all actors.
 fn workers_for(
     alloc: Global,
@@ -128,10 +190,11 @@ fn workers_for(
     bounds: &[u32],
     mut whole: WholeRoom,
 ) -> Result<Vec<Worker>, NoMemory>
-    requires bounds { length bounds.now ≡ length passes.items + 1 }
+    requires bounds { length passes.items < length bounds.now }
     requires caches { length caches.items ≡ length passes.items }
     requires unused { All (λ cache. cached cache ≡ empty_cache) caches.items }
     ensures workers { IfOk result (λ workers. AreEquipped bounds.now 1 passes.items workers.items) }
+    ensures alone { IfOk result (λ workers. All IsAlone workers.items) }
     ensures places { IfOk result (λ workers. length passes.items ≤ vec_capacity workers) }
 {
     let Ok(mut workers) = Vec::with_capacity(alloc, passes.len()) else {
@@ -151,6 +214,7 @@ fn workers_for(
             cache,
             requests,
             out,
+            keeper: None,
         });
     }
     Ok(workers)
@@ -203,8 +267,8 @@ pub(crate) fn indexes_for(alloc: Global, heaps: u8) -> Result<Vec<Mutex<LargeInd
     Ok(indexes)
 }
 
-/// The team of a plan, whose scavenger has the first pass, and whose threads have the others in order. Its names and the rooms of the thread that speaks first lie
-/// in what was made before, where that is large enough.
+/// The team of a plan, whose scavenger has the first pass, and whose threads and then keepers have the others in order. Its names and the rooms of the thread that
+/// speaks first lie in what was made before, where that is large enough.
 pub(crate) fn team_for(
     alloc: Global,
     plan: &Plan,
@@ -214,11 +278,11 @@ pub(crate) fn team_for(
     before: Spare,
 ) -> Result<Team, NoMemory>
     requires plan { (text : List ℕ) × IsPlanOf text plan.now }
-    requires passes { length others.items ≡ threads_in plan.now }
+    requires passes { length others.items ≡ threads_in plan.now + keepers_in plan.now }
     requires threads { plan.now.profile.threads ≤ threads_of utility.old }
     requires seats { (k : ℕ) → 1 ≤ k → k ≤ threads_in plan.now → has_seat utility.old k ≡ true }
     requires outcomes { outcomes_of utility.old ≡ Some plan.now.profile.pages }
-    ensures { IfOk result (λ team. IsTeamOf plan.now first others.items team) }
+    ensures { IfOk result (λ team. (own : List ThePass) × (kept : List ThePass) × (others.items ≡ own ++ kept) × (length own ≡ threads_in plan.now) × IsTeamOf plan.now first own kept team) }
 {
     let bounds = plan.bounds.as_slice();
     let phases = plan.phases.as_slice();
@@ -236,7 +300,15 @@ pub(crate) fn team_for(
         records: Some(records),
         requests: Some(requests),
     };
-    let threads = workers_for(alloc, others, caches, bounds, whole)?;
+    let mut others = others;
+    let Ok(kept) = others.split_off(count as usize) else {
+        return Err(NoMemory);
+    };
+    let books = books_for(alloc, plan)?;
+    let room = records_of_keepers(alloc, plan, books.len())?;
+    let keepers = keepers_for(alloc, kept, books, room.as_slice())?;
+    let mut threads = workers_for(alloc, others, caches, bounds, whole)?;
+    give_keepers(&mut threads, keepers);
     let outcomes = outcomes_from(utility);
     let scavenger = scavenger_with(alloc, first, outcomes, bounds[0], count)?;
     let book = book_of(alloc, plan.names_limit, book)?;

@@ -8,13 +8,14 @@ ghost use Rattle.pas_answers.specs.Replays.{at_start};
 ghost use Rattle.pas_trace.specs.Acts.{is_active};
 ghost use Rattle.pas_answers.specs.Answers.{Progress};
 ghost use Rattle.pas_acts.specs.Works.{Later};
+ghost use Rattle.pas_acts.specs.Keepers.{LaterKept};
 ghost use Rattle.pas_threads.specs.Performing.{round, IsReady, IsDone};
 ghost use Rattle.pas_threads.specs.Sessions.{Session, AreMarked, CloseDone, PhaseAt, PhaseDone, TeamAt, HasRoom, HasReplayed};
 
 use crate::dealing::{deal, take_back};
 use crate::hands::{Hand, act_with};
 use crate::scavenger::Scavenger;
-use crate::turns::{gather, stop_all, wake_all};
+use crate::turns::{gather, gather_kept, lower_all, stop_all, wake_all};
 use crate::workers::{Worker, take_all};
 use pas_acts::at_desk::SCAVENGER;
 use pas_acts::gate::Gate;
@@ -57,8 +58,9 @@ fn perform_all<R: Threads + Wait + Sync, G: Gate + Sync, M: Remake + Sync>(
 ) -> Team
     requires few { length ops.now < 2 ^ 32 }
     requires awake { (k : ℕ) → is_set awake k ≡ is_active ops.now k }
-    requires ready { (s : Session) × (later : ℕ → Later) × (p : Progress) × IsReady region.now (round s team.book ops.now later p) team }
-    ensures done { (s : Session) (later : ℕ → Later) (p : Progress) → IsReady region.now (round s team.book ops.now later p) team → IsDone region.now (round s team.book ops.now later p) team result }
+    requires ready { (s : Session) × (later : ℕ → Later) × (more : ℕ → LaterKept) × (p : Progress) × IsReady region.now (round s team.book ops.now later more p) team }
+    ensures done { (s : Session) (later : ℕ → Later) (more : ℕ → LaterKept) (p : Progress) → IsReady region.now (round s team.book ops.now later more p) team
+        → IsDone region.now (round s team.book ops.now later more p) team result }
 {
     let Team {
         mut threads,
@@ -102,24 +104,27 @@ fn perform_phase<R: Threads + Wait + Sync, G: Gate + Sync, M: Remake + Sync>(
     let mut team = perform_all(rt, region, indexes, team, awake, ops, gate, remaker);
     out.append(&mut team.scavenger.out);
     gather(&mut team.threads, out);
+    gather_kept(&mut team.threads, out);
     take_all(&mut team.book, &mut team.threads);
     team
 }
 
-/// The close: each thread is stopped, and what the stops said is gathered.
+/// The close: each thread is stopped, and then each keeper lowers its guards; what they said is gathered.
 fn finish(region: &SharedRegion, team: Team, out: &mut Records) -> Team
-    requires may { (s : Session) × (p : Progress) × TeamAt region.now s [] team p × AreMarked s p.records (records_in out.old) × HasRoom s [] 0 out.old p }
-    ensures done { (s : Session) (p : Progress) → TeamAt region.now s [] team p → AreMarked s p.records (records_in out.old) → HasRoom s [] 0 out.old p
+    requires may { (s : Session) × (p : Progress) × TeamAt region.now s [] team p × AreMarked s p.records (records_in out.old) × HasRoom s [] 0 team.threads.items out.old p }
+    ensures done { (s : Session) (p : Progress) → TeamAt region.now s [] team p → AreMarked s p.records (records_in out.old) → HasRoom s [] 0 team.threads.items out.old p
         → CloseDone region.now s result (records_in out.new) p }
 {
     let mut team = team;
     stop_all(region, &mut team.threads);
+    lower_all(region, &mut team.threads);
     gather(&mut team.threads, out);
+    gather_kept(&mut team.threads, out);
     team
 }
 
-/// Performs the phases in order, with a mark before each from the second on, and closes: a mark, and the stop of each thread. The operations of a phase are
-/// performed by as many threads as have one, all at once; the records of each phase come actor by actor. Takes no memory.
+/// Performs the phases in order, with a mark before each from the second on, and closes: a mark, the stop of each thread, and the last sweep of each keeper. The
+/// operations of a phase are performed by as many threads as have one, all at once; the records of each phase come actor by actor. Takes no memory.
 pub(crate) fn replay<R: Threads + Wait + Sync, G: Gate + Sync, M: Remake + Sync>(
     rt: &R,
     region: &SharedRegion,
@@ -132,8 +137,8 @@ pub(crate) fn replay<R: Threads + Wait + Sync, G: Gate + Sync, M: Remake + Sync>
 ) -> Team
     requires phases { length phases.now < 2 ^ 32 }
     requires empty { records_in out.old ≡ [] }
-    requires stands { (s : Session) × TeamAt region.now s (map ops_of phases.now) team at_start × HasRoom s (map ops_of phases.now) (length phases.now + 1) out.old at_start }
-    ensures replayed { (s : Session) → TeamAt region.now s (map ops_of phases.now) team at_start → HasRoom s (map ops_of phases.now) (length phases.now + 1) out.old at_start
+    requires stands { (s : Session) × TeamAt region.now s (map ops_of phases.now) team at_start × HasRoom s (map ops_of phases.now) (length phases.now + 1) team.threads.items out.old at_start }
+    ensures replayed { (s : Session) → TeamAt region.now s (map ops_of phases.now) team at_start → HasRoom s (map ops_of phases.now) (length phases.now + 1) team.threads.items out.old at_start
         → HasReplayed region.now s (map ops_of phases.now) result (records_in out.new) }
 {
     let mut team = team;

@@ -1,6 +1,6 @@
 //! What threads do one after the other, while nobody else makes a step: the reads of the epoch before a phase, the stops at the close, and what is
 //! gathered of them.
-ghost use Rattle.std.specs.Prelude.{◌≡◌, ◌+◌, ◌<◌, ◌≤◌, ◌++◌, ℕ, [], length, get_or};
+ghost use Rattle.std.specs.Prelude.{◌≡◌, ◌+◌, ◌<◌, ◌≤◌, ◌++◌, ℕ, [], None, Some, length, get_or};
 ghost use Rattle.pas_profile.specs.declared.profile.Profile.{Profile as TheProfile};
 ghost use Rattle.pas_report.specs.Rooms.{records_in, room_of};
 ghost use Rattle.pas_answers.specs.Answers.{Progress};
@@ -8,9 +8,14 @@ ghost use Rattle.pas_cache.specs.Caches.{cached};
 ghost use Rattle.pas_trace.specs.Acts.{Wakes, Ends};
 ghost use Rattle.pas_acts.specs.Works.{Later};
 ghost use Rattle.pas_threads.specs.Sessions.{WorkerHas, AreResting};
-ghost use Rattle.pas_threads.specs.Turns.{Turn, WokeAll, StoppedAll, said_by_all, IsGathered};
+ghost use Rattle.pas_acts.specs.Keepers.{LaterKept};
+ghost use Rattle.pas_acts.specs.Pairs.{KeeperWaits};
+ghost use Rattle.pas_threads.specs.Pairs.{IsKeeperOf, kept_by_worker, no_more, IsButKeeper, KeeperStands, KeeperLowered, MayLower, LoweredAll};
+ghost use Rattle.pas_threads.specs.Turns.{Turn, WokeAll, StoppedAll, said_by_all, said_kept, said_by_keepers, IsGathered, IsKeptGathered};
+ghost use Rattle.pas_threads.specs.declared.keeper.Keeper.{Keeper as TheKeeper};
 ghost use Rattle.pas_threads.specs.declared.workers.Worker.{Worker as TheWorker};
 
+use crate::keeper::lower;
 use crate::workers::Worker;
 use pas_acts::turns::{begin, end};
 use pas_bits::Mask4;
@@ -70,6 +75,31 @@ pub(crate) fn stop_all(region: &SharedRegion, threads: &mut [Worker])
     }
 }
 
+/// The keeper of the worker lowers all its guards, if it has one.
+fn lower_one(region: &SharedRegion, worker: &mut Worker)
+    requires stands { (f : TheProfile) × (actor : ℕ) × (p : Progress) × IsKeeperOf region.now worker.old.keeper × KeeperWaits f actor [] (kept_by_worker worker.old.keeper) no_more p }
+    ensures but { IsButKeeper worker.old worker.new }
+    ensures none { worker.old.keeper ≡ None → worker.new ≡ worker.old }
+    ensures one { (keeper : TheKeeper) → worker.old.keeper ≡ Some keeper → (after : TheKeeper) × (worker.new.keeper ≡ Some after)
+        × ((f : TheProfile) (actor : ℕ) (later : LaterKept) (p : Progress) → KeeperStands region.now f actor keeper later p → KeeperLowered region.now f actor keeper after later p) }
+{
+    match worker.keeper.take() {
+        Some(keeper) => worker.keeper = Some(lower(region, keeper)),
+        None => {}
+    }
+}
+
+/// The keeper of each thread, in order, lowers all its guards. There are none in a replay that isn't guarded.
+pub(crate) fn lower_all(region: &SharedRegion, threads: &mut [Worker])
+    requires may { (f : TheProfile) × (many : ℕ) × (keepers : ℕ) × (p : Progress) × MayLower region.now f many keepers threads.old p }
+    ensures lowered { (f : TheProfile) (many keepers : ℕ) (p : Progress) → MayLower region.now f many keepers threads.old p → LoweredAll region.now f many keepers threads.old threads.new p }
+    ensures many { length threads.new ≡ length threads.old }
+{
+    for index in 0..threads.len() {
+        lower_one(region, &mut threads[index]);
+    }
+}
+
 /// What the worker said comes to the end of `out`.
 fn gather_one(worker: &mut Worker, out: &mut Records)
     requires room { length (records_in out.old) + length (records_in worker.old.out) ≤ room_of out.old }
@@ -80,7 +110,7 @@ fn gather_one(worker: &mut Worker, out: &mut Records)
     out.append(&mut worker.out);
 }
 
-/// What the workers said comes to the end of `out`, one worker after the other.
+/// What the workers said for their threads comes to the end of `out`, one worker after the other.
 pub(crate) fn gather(threads: &mut [Worker], out: &mut Records)
     requires room { length (records_in out.old) + length (said_by_all threads.old) ≤ room_of out.old }
     ensures added { records_in out.new ≡ records_in out.old ++ said_by_all threads.old }
@@ -90,5 +120,31 @@ pub(crate) fn gather(threads: &mut [Worker], out: &mut Records)
 {
     for place in 0..threads.len() {
         gather_one(&mut threads[place], out);
+    }
+}
+
+/// What the keeper of the worker said comes to the end of `out`, if it has one.
+fn gather_kept_one(worker: &mut Worker, out: &mut Records)
+    requires room { length (records_in out.old) + length (said_kept worker.old) ≤ room_of out.old }
+    ensures added { records_in out.new ≡ records_in out.old ++ said_kept worker.old }
+    ensures room { room_of out.new ≡ room_of out.old }
+    ensures gathered { IsKeptGathered worker.old worker.new }
+{
+    match &mut worker.keeper {
+        Some(keeper) => out.append(&mut keeper.out),
+        None => {}
+    }
+}
+
+/// What their keepers said comes to the end of `out`, in the same order.
+pub(crate) fn gather_kept(threads: &mut [Worker], out: &mut Records)
+    requires room { length (records_in out.old) + length (said_by_keepers threads.old) ≤ room_of out.old }
+    ensures added { records_in out.new ≡ records_in out.old ++ said_by_keepers threads.old }
+    ensures room { room_of out.new ≡ room_of out.old }
+    ensures gathered { (i : ℕ) (d : TheWorker) → i < length threads.old → IsKeptGathered (get_or threads.old i d) (get_or threads.new i d) }
+    ensures many { length threads.new ≡ length threads.old }
+{
+    for place in 0..threads.len() {
+        gather_kept_one(&mut threads[place], out);
     }
 }

@@ -9,12 +9,13 @@ ghost use Rattle.pas_acts.specs.Works.{Later};
 ghost use Rattle.pas_acts.specs.Turns.{RestsAt};
 ghost use Rattle.pas_acts.specs.AtDesks.{here, told_if, ThreadActs};
 ghost use Rattle.pas_threads.specs.Turns.{Pushed};
-ghost use Rattle.pas_threads.specs.Hands.{MayDoPhase, DidPhase};
+ghost use Rattle.pas_threads.specs.Pairs.{MayDoPhase, DidPhase};
 ghost use Rattle.pas_threads.specs.Sessions.{WorkerHas};
 ghost use Rattle.pas_threads.specs.Lent.{StopsLent};
 ghost use Rattle.pas_answers.specs.Names.{names_held};
 ghost use Rattle.pas_threads.specs.Taken.{HasTaken, IsWithin, IsEmptied};
 
+use crate::keeper::{Beside, Keeper};
 use pas_acts::at_desk::{SCAVENGER, stop_if_idle};
 use pas_acts::gate::Gate;
 use pas_acts::names::{NameBook, Requests};
@@ -29,17 +30,20 @@ use pas_steps::Desk;
 use pas_trace::Op;
 use std::sync::{Mutex, Wait};
 
-/// A thread of the replay: its pass while it doesn't sit at the region, its cache, its requests of the phase, and its records.
+/// A thread of the replay: its pass while it doesn't sit at the region, its cache, its requests of the phase, and its records; and its keeper in a guarded
+/// replay, whose steps the thread's worker makes.
 #[derive(Drop)]
 pub(crate) struct Worker {
     pub(crate) pass: Option<SharedPass>,
     pub(crate) cache: ThreadCache,
     pub(crate) requests: Requests,
     pub(crate) out: Records,
+    pub(crate) keeper: Option<Keeper>,
 }
 
-/// The thread sits down, performs its operations of a phase, with the indexes that all threads share as its door, and rises. It waits for the lock of an index
-/// where it makes a request for whole pages, or hands on what it noted, and nowhere else.
+/// The thread sits down, and its keeper beside it, if it has one. It performs its operations of a phase, of which the keeper tries the guarded requests
+/// first, with the indexes that all threads share as its door, and both rise. It waits for the lock of an index where it makes a request for whole pages,
+/// or hands on what it noted, and nowhere else.
 pub(crate) fn perform<R: Wait, G: Gate, M: Remake>(
     rt: &R,
     region: &SharedRegion,
@@ -59,17 +63,20 @@ pub(crate) fn perform<R: Wait, G: Gate, M: Remake>(
     };
     let mut desk = region.desk(pass);
     let mut door = SharedDoor::new(rt, indexes);
+    let mut keeper = Beside::sit(region, worker.keeper.take());
     work(
         &mut desk,
         &mut door,
         book,
         &mut worker.cache,
         remaker,
+        &mut keeper,
         &mut worker.requests,
         ops,
         gate,
         &mut worker.out,
     );
+    worker.keeper = keeper.rise();
     worker.pass = Some(desk.into_pass());
 }
 

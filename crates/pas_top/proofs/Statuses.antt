@@ -1,5 +1,5 @@
 -- How a call ends: what it wrote, and what status 4 says of a text that was cut off.
-use Rattle.std.proofs.Common.{◌≡◌, ℕ, ◌⊎◌, List, [], Option, Some, ◌∙◌, sym, subst, inl, inr, arith}
+use Rattle.std.proofs.Common.{◌≡◌, ◌≤◌, ℕ, ◌⊎◌, List, [], Option, Some, ◌∙◌, sym, subst, inl, inr, arith}
 use Rattle.pas_io.specs.Told.{Tells}
 use Rattle.pas_io.specs.Inputs.{IsReadOut}
 use Rattle.pas_io.specs.declared.whole.Input.{Input}
@@ -32,17 +32,21 @@ cut_off words told before after faults faults' text status answer tells output o
 pub sound : (before after : Option (List ℕ)) (faults faults' : ℕ) (text : List ℕ) (status answer : ℕ) → Tells before after faults faults' text status answer → (answer ≡ 4 → ⊥) → faults' ≡ faults
 sound before after faults faults' text status answer tells whole = elim tells [ inl wrote ↦ wrote.1 | inr cut ↦ absurd (whole cut.0) ]
 
-pub not_four : (answer : ℕ) → IsWriting answer → answer ≡ 4 → ⊥
-not_four answer writing four = elim writing [
-  | inl e ↦ omega (arith, e, four)
+-- a status with which the whole text was written is none of the two with which it wasn't
+pub not_quiet : (quiet answer : ℕ) → 4 ≤ quiet → quiet ≤ 5 → IsWriting answer → answer ≡ quiet → ⊥
+not_quiet quiet answer lo hi writing is = elim writing [
+  | inl e ↦ omega (arith, e, is, lo, hi)
   | inr more ↦ elim more [
-    | inl e ↦ omega (arith, e, four)
+    | inl e ↦ omega (arith, e, is, lo, hi)
     | inr more2 ↦ elim more2 [
-      | inl e ↦ omega (arith, e, four)
+      | inl e ↦ omega (arith, e, is, lo, hi)
       | inr more3 ↦ elim more3 [
-        | inl e ↦ omega (arith, e, four)
-        | inr e ↦ omega (arith, e, four)
+        | inl e ↦ omega (arith, e, is, lo, hi)
+        | inr e ↦ omega (arith, e, is, lo, hi)
       ]
     ]
   ]
 ]
+
+pub not_four : (answer : ℕ) → IsWriting answer → answer ≡ 4 → ⊥
+not_four answer writing four = not_quiet 4 answer (omega arith) (omega arith) writing four

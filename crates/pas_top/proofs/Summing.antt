@@ -11,9 +11,9 @@ use Rattle.pas_top.specs.Generating.{IsSummarized}
 use Rattle.pas_top.specs.Generated.{Generates}
 use Rattle.pas_top.specs.Outcomes.{IsShowing}
 use Rattle.pas_answers.specs.Ways.{InOrder}
-use Rattle.pas_top.specs.Outputs.{GenComesTo, IsGen, IsCutOff}
+use Rattle.pas_top.specs.Outputs.{GenComesTo, IsGen, IsWriting, IsWritten, IsCutOff}
 use Rattle.pas_top.proofs.Headline.{totals_are}
-use Rattle.pas_top.proofs.Statuses.{cut_off, sound}
+use Rattle.pas_top.proofs.Statuses.{not_quiet, not_four, written, cut_off, sound}
 
 -- ---- the summary
 pub summarized : (seed ops threads pages : ℕ) (bytes : List ℕ) (records : List Record) (state : State) (text : List ℕ) → IsShowing InOrder bytes records state → bytes ≡ trace_text seed ops threads pages
@@ -37,6 +37,14 @@ gen_cut_off words told before after faults faults' seed ops threads pages answer
   | inl five ↦ absurd (omega (arith, five, four))
   | inr (status, text, comes, tells) ↦ cut_off words told before after faults faults' text status answer tells
       (inr (inr (inr (record { seed = seed; ops = ops; threads = threads; pages = pages; asked = asked; comes = comes })))) (gen_not_four seed ops threads pages status text comes) four
+]
+
+pub gen_written : (words : List (List ℕ)) (told before after : Option (List ℕ)) (faults faults' : ℕ) (seed ops threads pages answer : ℕ) → IsGen words seed ops threads pages
+    → Generates before after faults faults' seed ops threads pages answer → IsWriting answer → IsWritten words told before after answer
+gen_written words told before after faults faults' seed ops threads pages answer asked generates writing = elim generates [
+  | inl five ↦ absurd (not_quiet 5 answer (omega arith) (omega arith) writing five)
+  | inr (status, text, comes, tells) ↦ written words told before after faults faults' text status answer tells
+      (inr (inr (inr (record { seed = seed; ops = ops; threads = threads; pages = pages; asked = asked; comes = comes })))) (not_four answer writing)
 ]
 
 -- the sink counted a fault in no other case

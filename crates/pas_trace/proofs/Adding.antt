@@ -1,19 +1,20 @@
 -- What an item that passed its checks may do to the reader.
-use Rattle.std.proofs.Common.{◌≡◌, ℕ, ◌<◌, ◌≤◌, ◌==◌, true, if◌then◌else◌, List, None, Some, inl, inr, sym, ap, ◌∙◌, subst, arith}
+use Rattle.std.proofs.Common.{◌≡◌, ℕ, ◌+◌, ◌<◌, ◌≤◌, ◌==◌, ◌&&◌, true, false, if◌then◌else◌, refl, List, Option, None, Some, inl, inr, sym, ap, ◌∙◌, subst, arith}
 use Rattle.std.proofs.lemmas.Bool.{ltb-true, eq-eqb, ne_eqb, cases_eq}
-use Rattle.pas_trace.specs.Wishes.{name_made, heap_made, is_name, IsFit}
-use Rattle.pas_trace.specs.Reasons.{reason_of, cost_of, is_operation, actor_of}
+use Rattle.pas_trace.specs.Wishes.{name_made, heap_made, asks_pages, is_name, IsFit}
+use Rattle.pas_trace.specs.Reasons.{reason_of, guard_after, is_guard_number, cost_of, cost_of_wish, is_operation, actor_of}
 use Rattle.pas_trace.specs.Plans.{what_wished}
-use Rattle.pas_trace.specs.Told.{owner_in, heap_told, Tells, IsReady, IsCounted, IsOperated}
+use Rattle.pas_trace.specs.Told.{owner_in, heap_told, keeper_told, Tells, IsReady, CanSample, IsCounted, IsSampled, samples_next, larges_after, kept_after, IsOperated}
 use Rattle.pas_trace.specs.declared.item.Item.{Item}
-use Rattle.pas_trace.specs.declared.item.Item.TheVariants.{Shares, Operates}
+use Rattle.pas_trace.specs.declared.item.Item.TheVariants.{Shares, Guards, Operates}
 use Rattle.pas_trace.specs.declared.item.Wish.{Wish}
 use Rattle.pas_trace.specs.declared.names.Owner.{Owner}
 use Rattle.pas_trace.specs.declared.names.Names.{Names}
 use Rattle.pas_trace.specs.declared.plan.What.{What}
 use Rattle.pas_trace.specs.declared.reader.Reader.{Reader}
-use Rattle.pas_trace.proofs.PassedChecks.{passes, own_passed, all_fit, actor_within, counts_within}
-use Rattle.pas_trace.proofs.Telling.{ready}
+use Rattle.pas_trace.specs.declared.samples.Samples.{Samples}
+use Rattle.pas_trace.proofs.PassedChecks.{passes, own_passed, guard_passed, all_fit, actor_within, counts_within}
+use Rattle.pas_trace.proofs.Telling.{ready, can-sample}
 
 module _ (r : Reader) (items : List Item) (i : Item) (tells : Tells r items) (passed : reason_of r.header.profile items i ≡ None) where
   pub small_actor : (actor : ℕ) → actor_of i ≡ actor → actor ≤ 16
@@ -23,8 +24,14 @@ module _ (r : Reader) (items : List Item) (i : Item) (tells : Tells r items) (pa
       let threads : r.header.profile.threads ≤ 16 = header.threads in
       omega (arith, most, threads, is)
 
-  pub ready_for : (actor cost : ℕ) → cost ≡ cost_of r.header.profile i → is_operation i ≡ true → actor_of i ≡ actor → IsReady r.counts actor cost
-  ready_for actor cost is_cost operates is = ready r items i actor cost tells (counts_within r.header.profile items i operates passed) (small_actor actor is) is_cost
+  pub ready_for : (actor cost : ℕ) → cost ≡ cost_of r.header.profile r.samples.guard i → is_operation i ≡ true → actor_of i ≡ actor → ((guard : ℕ) → guard_after i guard ≡ guard) → IsReady r.counts actor cost
+  ready_for actor cost is_cost operates is same = ready r items i actor cost same tells (counts_within r.header.profile items i operates passed) (small_actor actor is) is_cost
+
+  pub sample_for : (actor : ℕ) → is_operation i ≡ true → actor_of i ≡ actor → CanSample r.samples actor
+  sample_for actor operates is = can-sample r items i actor tells (counts_within r.header.profile items i operates passed) (small_actor actor is)
+
+  pub guard_for : (n : Option ℕ) → i ≡ Guards n → is_guard_number n ≡ true
+  guard_for n is = (guard_passed r.header.profile items n (subst (λ (j : Item). reason_of r.header.profile items j ≡ None) is passed)).number
 
   pub fit_for : (t : ℕ) (w : Wish) → i ≡ Operates t w → IsFit r.header.profile w
   fit_for t w is = all_fit r.header.profile items t w tells.header (own_passed r.header.profile items t w (subst (λ (j : Item). reason_of r.header.profile items j ≡ None) is passed))
@@ -43,20 +50,44 @@ eqb_sym m n = elim (cases_eq m n) [
   | inr other ↦ ne_eqb m n other ∙ sym (ne_eqb n m (λ e. other (sym e)))
 ]
 
-pub named : (old mid new : Reader) (names : Names) (t name heap : ℕ) (w : Wish) (what : What) (cost : ℕ) → Some name ≡ name_made w → heap ≡ heap_made (heap_told old) w → what ≡ what_wished old.header.profile (heap_told old) w → mid ≡ record old { names = names }
+pub named : (old mid new : Reader) (names : Names) (samples : Samples) (t name heap : ℕ) (w : Wish) (what : What) (cost : ℕ) → Some name ≡ name_made w → heap ≡ heap_made (heap_told old) w
+    → what ≡ what_wished old.header.profile (heap_told old) (keeper_told old t w) w → mid ≡ record old { names = names; samples = samples } → IsSampled old.samples samples t (asks_pages w) (cost_of_wish 0 w)
     → ((n : ℕ) → owner_in names n ≡ (if n == name then record { thread = t; heap = heap; phase = old.phase } else owner_in old.names n)) → IsCounted mid new t what cost → IsOperated old new t w cost
-named old mid new names t name heap w what cost made home is same given counted = record {
+named old mid new names samples t name heap w what cost made home is same sampled given counted = record {
   names = names;
+  samples = samples;
+  sampled = sampled;
   given = λ n.
       let owner : Owner = record { thread = t; heap = heap; phase = old.phase } in
       given n ∙ ap (λ b. if b then owner else owner_in old.names n) (eqb_sym n name) ∙ ap (λ o. if is_name o n then owner else owner_in old.names n) made
       ∙ ap (λ h. if is_name (name_made w) n then record { thread = t; heap = h; phase = old.phase } else owner_in old.names n) home;
-  counted = subst (λ r. IsCounted r new t (what_wished old.header.profile (heap_told old) w) cost) same (subst (λ x. IsCounted mid new t x cost) is counted);
+  counted = subst (λ r. IsCounted r new t (what_wished old.header.profile (heap_told old) (keeper_told old t w) w) cost) same (subst (λ x. IsCounted mid new t x cost) is counted);
 }
 
-pub unnamed : (old mid new : Reader) (t : ℕ) (w : Wish) (what : What) (cost : ℕ) → None ≡ name_made w → what ≡ what_wished old.header.profile (heap_told old) w → mid ≡ old → IsCounted mid new t what cost → IsOperated old new t w cost
-unnamed old mid new t w what cost none is same counted = record {
+-- a wish that is no request leaves what is known of requests
+idle_sample : (s : Samples) (t : ℕ) (w : Wish) → asks_pages w ≡ false → IsSampled s s t (asks_pages w) (cost_of_wish 0 w)
+idle_sample s t w none = record {
+  guard = refl;
+  larges = sym (ap (λ large. larges_after s t large) none);
+  kept = sym (ap (λ large. kept_after s t (large && samples_next s t) (cost_of_wish 0 w)) none);
+}
+
+no_keeper : (old : Reader) (t : ℕ) (w : Wish) → asks_pages w ≡ false → keeper_told old t w ≡ None
+no_keeper old t w none = ap (λ large. if large && samples_next old.samples t then Some (old.header.profile.threads + t) else None) none
+
+pub renamed : (old mid new : Reader) (names : Names) (t name heap : ℕ) (w : Wish) (what : What) (cost : ℕ) → Some name ≡ name_made w → heap ≡ heap_made (heap_told old) w → asks_pages w ≡ false
+    → what ≡ what_wished old.header.profile (heap_told old) None w → mid ≡ record old { names = names }
+    → ((n : ℕ) → owner_in names n ≡ (if n == name then record { thread = t; heap = heap; phase = old.phase } else owner_in old.names n)) → IsCounted mid new t what cost → IsOperated old new t w cost
+renamed old mid new names t name heap w what cost made home none is same given counted =
+    named old mid new names old.samples t name heap w what cost made home (is ∙ ap (λ keeper. what_wished old.header.profile (heap_told old) keeper w) (sym (no_keeper old t w none))) same (idle_sample old.samples t w none) given counted
+
+pub unnamed : (old mid new : Reader) (t : ℕ) (w : Wish) (what : What) (cost : ℕ) → None ≡ name_made w → asks_pages w ≡ false → what ≡ what_wished old.header.profile (heap_told old) None w → mid ≡ old → IsCounted mid new t what cost
+    → IsOperated old new t w cost
+unnamed old mid new t w what cost none small is same counted = record {
   names = old.names;
+  samples = old.samples;
+  sampled = idle_sample old.samples t w small;
   given = λ n. ap (λ o. if is_name o n then record { thread = t; heap = heap_made (heap_told old) w; phase = old.phase } else owner_in old.names n) none;
-  counted = subst (λ r. IsCounted r new t (what_wished old.header.profile (heap_told old) w) cost) same (subst (λ x. IsCounted mid new t x cost) is counted);
+  counted = subst (λ r. IsCounted r new t (what_wished old.header.profile (heap_told old) (keeper_told old t w) w) cost) same
+      (subst (λ x. IsCounted mid new t x cost) (is ∙ ap (λ keeper. what_wished old.header.profile (heap_told old) keeper w) (sym (no_keeper old t w small))) counted);
 }

@@ -1,24 +1,35 @@
 -- The checks by what the reader keeps are those of the items before.
-use Rattle.std.proofs.Common.{◌≡◌, ℕ, ◌+◌, ◌*◌, ◌==◌, nat_lt, nat_le, Bool, true, false, not, ◌||◌, List, [], ◌∷◌, ◌++◌, Option, None, Some, Result, Ok, Err, refl, sym, ap, ◌∙◌, subst, arith}
+use Rattle.std.proofs.Common.{◌≡◌, ◌≢◌, ℕ, ◌+◌, ◌*◌, ◌<◌, ◌≤◌, ◌==◌, nat_lt, nat_le, Bool, true, false, not, ◌&&◌, ◌||◌, List, [], ◌∷◌, ◌++◌, Option, None, Some, Result, Ok, Err, refl, sym, ap, ◌∙◌, subst, arith}
+use Rattle.std.proofs.Math.Bool.{and-false}
+use Rattle.std.proofs.lemmas.Bool.{ne_eqb, le-leb, lt-leb}
+use Rattle.pas_profile.specs.declared.profile.Profile.{Profile}
 use Rattle.pas_trace.specs.Wishes.{heap_in, sizing_in, name_made, name_freed, holds_of, asking}
-use Rattle.pas_trace.specs.Reasons.{first_failed, is_thread, is_alignment, cost_of, cost_of_size, cost_of_wish, record_bound, few_enough, may_free, checks_of, reason_of, operations_in, is_named, is_named_now, thread_of, checked, kept, line_says, started}
+use Rattle.pas_trace.specs.Reasons.{first_failed, is_thread, is_alignment, guard_after, guard_in, guard_checks, is_guard_number, actors_by, cost_of, cost_of_request, cost_of_wish, record_bound, few_enough, may_free, checks_of, reason_of, operations_in, is_named, is_named_now, thread_of, checked, kept, line_says, started}
 use Rattle.pas_trace.specs.Items.{item_of_line}
 use Rattle.pas_trace.specs.Told.{owner_in, few_told, sizing_told, told_checks, reason_told, has_owner, has_owner_now, may_free_told, IsChecked, Tells}
 use Rattle.pas_trace.specs.declared.fault.Reason.{Reason}
 use Rattle.pas_trace.specs.declared.item.Request.{Request}
 use Rattle.pas_trace.specs.declared.item.Item.{Item}
-use Rattle.pas_trace.specs.declared.item.Item.TheVariants.{Operates, Scavenges}
+use Rattle.pas_trace.specs.declared.item.Item.TheVariants.{Guards, Operates, Scavenges}
 use Rattle.pas_trace.specs.declared.item.Wish.{Wish}
 use Rattle.pas_trace.specs.declared.reader.Reader.{Reader}
 
 -- ---- the tables tell what the checks ask
-pub bound-after : (r : Reader) (items : List Item) (i : Item) → Tells r items → r.counts.bound + cost_of r.header.profile i ≡ record_bound r.header.profile (i ∷ items)
-bound-after r items i t = let b : r.counts.bound ≡ record_bound r.header.profile items = t.bound in omega (arith, b)
+-- the bound with an operation; its cost goes by the `guard` line before it, and it is none itself
+pub bound-after : (r : Reader) (items : List Item) (i : Item) → guard_after i (guard_in items) ≡ guard_in items → Tells r items → r.counts.bound + cost_of r.header.profile r.samples.guard i ≡ record_bound r.header.profile (i ∷ items)
+bound-after r items i none t =
+    let f = r.header.profile in
+    let b : r.counts.bound ≡ record_bound f items = t.bound in
+    let g : r.samples.guard ≡ guard_in items = t.samples.guard in
+    let cost : cost_of f r.samples.guard i ≡ cost_of f (guard_in items) i = ap (λ guard. cost_of f guard i) g in
+    let deeds : actors_by (guard_in (i ∷ items)) f.threads * f.pages ≡ actors_by (guard_in items) f.threads * f.pages = ap (λ guard. actors_by guard f.threads * f.pages) none in
+    omega (arith, b, cost, deeds)
 
-few-same : (r : Reader) (items : List Item) (i : Item) → Tells r items → few_told r (cost_of r.header.profile i) ≡ few_enough (operations_in items) (record_bound r.header.profile (i ∷ items))
-few-same r items i t =
+few-same : (r : Reader) (items : List Item) (i : Item) → guard_after i (guard_in items) ≡ guard_in items → Tells r items
+    → few_told r (cost_of r.header.profile r.samples.guard i) ≡ few_enough (operations_in items) (record_bound r.header.profile (i ∷ items))
+few-same r items i none t =
     let o : r.counts.operations ≡ operations_in items = t.operations in
-    ap (λ n. few_enough n (r.counts.bound + cost_of r.header.profile i)) o ∙ ap (few_enough (operations_in items)) (bound-after r items i t)
+    ap (λ n. few_enough n (r.counts.bound + cost_of r.header.profile r.samples.guard i)) o ∙ ap (few_enough (operations_in items)) (bound-after r items i none t)
 
 -- two tests that say the same of each value
 holds-same : {A : Type 0} (o : Option A) (test other : A → Bool) → ((x : A) → test x ≡ other x) → holds_of test o ≡ holds_of other o
@@ -41,15 +52,18 @@ own-same r items t w h =
     let fresh = holds-same (name_made w) (λ n. not (has_owner r n)) (λ n. not (is_named items n)) (λ n. ap not (named n)) in
     let known = holds-same (name_freed w) (has_owner r) (is_named items) named in
     let free = holds-same (name_freed w) (may_free_told r t) (may_free items t) (λ n. free-same r items t n h) in
-    let few = few_told r (cost_of_wish w) in
+    let few = few_told r (cost_of_wish r.samples.guard w) in
     ap (λ b. list b (holds_of (has_owner r) (name_freed w)) (holds_of (may_free_told r t) (name_freed w)) few) fresh
     ∙ ap (λ b. list (holds_of (λ n. not (is_named items n)) (name_made w)) b (holds_of (may_free_told r t) (name_freed w)) few) known
     ∙ ap (λ b. list (holds_of (λ n. not (is_named items n)) (name_made w)) (holds_of (is_named items) (name_freed w)) b few) free
-    ∙ ap (λ cs. list (holds_of (λ n. not (is_named items n)) (name_made w)) (holds_of (is_named items) (name_freed w)) (holds_of (may_free items t) (name_freed w)) cs) (few-same r items (Operates t w) h)
+    ∙ ap (λ cs. list (holds_of (λ n. not (is_named items n)) (name_made w)) (holds_of (is_named items) (name_freed w)) (holds_of (may_free items t) (name_freed w)) cs) (few-same r items (Operates t w) refl h)
 
 pub checks-same : (r : Reader) (items : List Item) (i : Item) → Tells r items → told_checks r i ≡ checks_of r.header.profile items i
 checks-same r items (Operates t w) h = own-same r items t w h
-checks-same r items (Scavenges c) h = few-same r items (Scavenges c) h
+checks-same r items (Scavenges c) h = few-same r items (Scavenges c) refl h
+checks-same r items (Guards n) h =
+    let f = r.header.profile in
+    ap (λ begun. guard_checks f begun r.samples.guard n) h.started ∙ ap (λ guard. guard_checks f (started items) guard n) h.samples.guard
 checks-same r items i h = refl
 
 -- ---- what a line says
@@ -79,13 +93,38 @@ passed-then ((false, r) ∷ cs) ds e = absurd (cc)
 
 pub request-checked : (r : Reader) (t : ℕ) (q : Request) (result : Result ℕ Reason)
     → is_thread r.header.profile t ≡ true → nat_lt q.heap r.header.profile.heaps ≡ true → first_failed (sizing_told r q.size q.align) ≡ None → not (has_owner r q.name) ≡ true
-    → IsChecked (first_failed (few_told r (cost_of_size q.size))) (cost_of_size q.size) result → IsChecked (reason_told r t (asking q)) (cost_of_size q.size) result
+    → IsChecked (first_failed (few_told r (cost_of_request r.samples.guard q.size))) (cost_of_request r.samples.guard q.size) result → IsChecked (reason_told r t (asking q)) (cost_of_request r.samples.guard q.size) result
 request-checked r t q result thread heap sized fresh few =
     let f = r.header.profile in
+    let cost = cost_of_request r.samples.guard q.size in
     let sizing = sizing_told r q.size q.align in
-    let left : List (Bool × Reason) = (not (has_owner r q.name), Reason.NameTaken) ∷ few_told r (cost_of_size q.size) in
-    let failed : Option Reason = first_failed (few_told r (cost_of_size q.size)) in
+    let left : List (Bool × Reason) = (not (has_owner r q.name), Reason.NameTaken) ∷ few_told r cost in
+    let failed : Option Reason = first_failed (few_told r cost) in
     let same : reason_told r t (asking q) ≡ failed =
     next (is_thread f t) Reason.BadThread ((nat_lt q.heap f.heaps, Reason.BadHeap) ∷ (sizing ++ left)) failed thread (next (nat_lt q.heap f.heaps) Reason.BadHeap (sizing ++ left) failed heap
-    (passed-then sizing left sized ∙ next (not (has_owner r q.name)) Reason.NameTaken (few_told r (cost_of_size q.size)) failed fresh refl)) in
-    subst (λ failed. IsChecked failed (cost_of_size q.size) result) (sym same) few
+    (passed-then sizing left sized ∙ next (not (has_owner r q.name)) Reason.NameTaken (few_told r cost) failed fresh refl)) in
+    subst (λ failed. IsChecked failed cost result) (sym same) few
+
+-- ---- the checks of a `guard` line, one after the other
+module _ (f : Profile) (begun : Bool) (guard : ℕ) (n : Option ℕ) where
+  pub guard-late : begun ≡ true → first_failed (guard_checks f begun guard n) ≡ Some Reason.BadWord
+  guard-late is = ap (λ b. first_failed (guard_checks f b guard n)) is
+
+  pub guard-twice : guard ≢ 0 → first_failed (guard_checks f begun guard n) ≡ Some Reason.BadWord
+  guard-twice some =
+      let word = ap (λ b. not begun && b) (ne_eqb guard 0 some) ∙ and-false (not begun) in
+      ap (λ b. first_failed ((b, Reason.BadWord) ∷ (is_guard_number n, Reason.BadNumber) ∷ (nat_le f.threads 8, Reason.BadThread) ∷ [])) word
+
+  placed : begun ≡ false → guard ≡ 0 → first_failed (guard_checks f begun guard n) ≡ first_failed ((is_guard_number n, Reason.BadNumber) ∷ (nat_le f.threads 8, Reason.BadThread) ∷ [])
+  placed first none = ap (λ b. first_failed (guard_checks f b guard n)) first ∙ ap (λ g. first_failed (guard_checks f false g n)) none
+
+  pub guard-number : begun ≡ false → guard ≡ 0 → is_guard_number n ≡ false → first_failed (guard_checks f begun guard n) ≡ Some Reason.BadNumber
+  guard-number first none number = placed first none ∙ ap (λ b. first_failed ((b, Reason.BadNumber) ∷ (nat_le f.threads 8, Reason.BadThread) ∷ [])) number
+
+  pub guard-thread : begun ≡ false → guard ≡ 0 → is_guard_number n ≡ true → 8 < f.threads → first_failed (guard_checks f begun guard n) ≡ Some Reason.BadThread
+  guard-thread first none number many =
+      placed first none ∙ ap (λ b. first_failed ((b, Reason.BadNumber) ∷ (nat_le f.threads 8, Reason.BadThread) ∷ [])) number ∙ ap (λ b. first_failed ((b, Reason.BadThread) ∷ [])) (lt-leb f.threads 8 many)
+
+  pub guard-fine : begun ≡ false → guard ≡ 0 → is_guard_number n ≡ true → f.threads ≤ 8 → first_failed (guard_checks f begun guard n) ≡ None
+  guard-fine first none number few =
+      placed first none ∙ ap (λ b. first_failed ((b, Reason.BadNumber) ∷ (nat_le f.threads 8, Reason.BadThread) ∷ [])) number ∙ ap (λ b. first_failed ((b, Reason.BadThread) ∷ [])) (le-leb f.threads 8 few)

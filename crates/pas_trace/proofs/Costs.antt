@@ -1,7 +1,7 @@
 -- The cost of an allocation on either side of 2,048 bytes.
-use Rattle.std.proofs.Common.{◌≡◌, ℕ, ◌+◌, ◌<◌, ◌≤◌, if◌then◌else◌, ap, sym, arith, inl, inr}
-use Rattle.std.proofs.lemmas.Bool.{cases_lt, le-leb, lt-leb}
-use Rattle.pas_trace.specs.Reasons.{cost_of_size, pages_for}
+use Rattle.std.proofs.Common.{◌≡◌, ◌≢◌, ◌∙◌, ℕ, ◌+◌, ◌<◌, ◌≤◌, ◌==◌, Bool, true, false, if◌then◌else◌, refl, ap, sym, arith, inl, inr}
+use Rattle.std.proofs.lemmas.Bool.{cases_lt, le-leb, lt-leb, ne_eqb}
+use Rattle.pas_trace.specs.Reasons.{cost_of_size, cost_of_request, pages_for}
 
 pub small_cost : (size : ℕ) → size ≤ 2048 → 2 ≡ cost_of_size size
 small_cost size within = sym (ap (λ t. if t then 2 else 1 + pages_for size) (le-leb size 2048 within))
@@ -13,4 +13,36 @@ pub some_cost : (size : ℕ) → 1 ≤ cost_of_size size
 some_cost size = elim (cases_lt 2048 size) [
   | inl beyond ↦ omega (arith, large_cost size beyond)
   | inr within ↦ omega (arith, small_cost size within)
+]
+
+-- ---- in a trace whose `guard` line has this number
+pub small_request : (guard size : ℕ) → size ≤ 2048 → 2 ≡ cost_of_request guard size
+small_request guard size within = sym (ap (λ t. if t then 2 else (if guard == 0 then 1 + pages_for size else 3 + pages_for size)) (le-leb size 2048 within))
+
+large_request : (guard size : ℕ) (none : Bool) → 2048 < size → (guard == 0) ≡ none → (if none then 1 + pages_for size else 3 + pages_for size) ≡ cost_of_request guard size
+large_request guard size none beyond is =
+    sym (ap (λ t. if t then 2 else (if guard == 0 then 1 + pages_for size else 3 + pages_for size)) (lt-leb size 2048 beyond) ∙ ap (λ t. if t then 1 + pages_for size else 3 + pages_for size) is)
+
+pub unguarded_cost : (guard size : ℕ) → guard ≡ 0 → cost_of_size size ≡ cost_of_request guard size
+unguarded_cost guard size none = ap (λ g. cost_of_request g size) (sym none)
+
+pub guarded_cost : (guard size : ℕ) → 2048 < size → guard ≢ 0 → cost_of_size size + 2 ≡ cost_of_request guard size
+guarded_cost guard size beyond some =
+    let large = large_cost size beyond in
+    let request : 3 + pages_for size ≡ cost_of_request guard size = large_request guard size false beyond (ne_eqb guard 0 some) in
+    omega (arith, large, request)
+
+two_least : (none : Bool) (n : ℕ) → 1 + n ≤ (if none then 1 + n else 3 + n)
+two_least true n = omega arith
+two_least false n = omega arith
+
+-- no request costs less there than elsewhere
+pub least_cost : (guard size : ℕ) → cost_of_size size ≤ cost_of_request guard size
+least_cost guard size = elim (cases_lt 2048 size) [
+  | inl beyond ↦
+      let large = large_cost size beyond in
+      let request = large_request guard size (guard == 0) beyond refl in
+      let least = two_least (guard == 0) (pages_for size) in
+      omega (arith, large, request, least)
+  | inr within ↦ omega (arith, small_cost size within, small_request guard size within)
 ]

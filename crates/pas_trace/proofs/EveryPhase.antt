@@ -1,17 +1,17 @@
 -- In each phase of every plan, the names that a thread frees were asked for by itself or before the phase.
-use Rattle.std.proofs.Common.{◌≡◌, ℕ, ◌==◌, ◌||◌, Bool, true, false, not, if◌then◌else◌, List, [], ◌∷◌, ◌++◌, map, Some, None, refl, ap, sym, ◌∙◌, subst, append_assoc}
+use Rattle.std.proofs.Common.{◌≡◌, ℕ, ◌==◌, ◌||◌, Bool, true, false, not, if◌then◌else◌, Option, List, [], ◌∷◌, ◌++◌, map, Some, None, refl, ap, sym, ◌∙◌, subst, append_assoc}
 use Rattle.std.specs.Prelude.{MatchOption}
 use Rattle.std.proofs.lemmas.Bool.{eqb-true, eq-eqb, false≢true}
 use Rattle.std.proofs.lemmas.List.{append-nil}
 use Rattle.pas_profile.specs.declared.profile.Profile.{Profile}
 use Rattle.pas_trace.specs.Wishes.{name_made, name_freed, is_name}
 use Rattle.pas_trace.specs.Reasons.{is_phase, is_named, is_named_now, may_free, thread_of, heap_of, reason_of}
-use Rattle.pas_trace.specs.Plans.{IsPlanOf, phases_of, ops_of, what_wished, what_of_chore, add_last, phases_in}
+use Rattle.pas_trace.specs.Plans.{IsPlanOf, keeper_for, phases_of, ops_of, what_wished, what_of_chore, add_last, phases_in}
 use Rattle.pas_trace.specs.Asked.{freed_in}
 use Rattle.pas_trace.specs.EveryPlan.{all_ops, is_asked, asked_after, asked_by}
 use Rattle.pas_trace.specs.EveryPhase.{FreesItsOwn, FreeTheirOwn}
 use Rattle.pas_trace.specs.declared.item.Item.{Item}
-use Rattle.pas_trace.specs.declared.item.Item.TheVariants.{Blank, Shares, NextPhase, Operates, Scavenges}
+use Rattle.pas_trace.specs.declared.item.Item.TheVariants.{Blank, Shares, Guards, NextPhase, Operates, Scavenges}
 use Rattle.pas_trace.specs.declared.item.Wish.{Wish}
 use Rattle.pas_trace.specs.declared.item.Wish.TheVariants.{Asks}
 use Rattle.pas_trace.specs.declared.plan.Chore.{Chore}
@@ -74,9 +74,10 @@ record HasLast (f : Profile) (items : List Item) : Type 0 where
   frees : (k : ℕ) → FreesItsOwn k (asked_in front) last
   own : HaveOwn (λ k. own_by k (asked_in front) last) items
 
-wish_frees : (f : Profile) (heaps : ℕ → ℕ) (w : Wish) → freed_in (what_wished f heaps w) ≡ name_freed w
-wish_frees f heaps (Asks n h s a) = refl
-wish_frees f heaps w = refl
+wish_frees : (f : Profile) (heaps : ℕ → ℕ) (keeper : Option ℕ) (w : Wish) → freed_in (what_wished f heaps keeper w) ≡ name_freed w
+wish_frees f heaps None (Asks n h s a) = refl
+wish_frees f heaps (Some keeper) (Asks n h s a) = refl
+wish_frees f heaps keeper w = refl
 
 chore_frees : (c : Chore) → freed_in (what_of_chore c) ≡ None
 chore_frees (Chore.Tick e) = refl
@@ -86,7 +87,7 @@ item_frees : (f : Profile) (i : Item) (earlier : List Item) (own : ℕ → List 
 item_frees f (Operates t w) earlier own passed have k =
     let held = own_passed f earlier t w passed in
     let freed : MatchOption (name_freed w) (Unit {0}) (λ n. is_asked (own t) n ≡ true) = held_both (name_freed w) (is_named earlier) (may_free earlier t) _ (λ n known free. have t n (known, free)) held.known held.free in
-    (λ who. subst (λ o. MatchOption o (Unit {0}) (λ n. is_asked (own k) n ≡ true)) (sym (wish_frees f (heap_of earlier) w)) (subst (λ j. MatchOption (name_freed w) (Unit {0}) (λ n. is_asked (own j) n ≡ true)) who freed), tt)
+    (λ who. subst (λ o. MatchOption o (Unit {0}) (λ n. is_asked (own k) n ≡ true)) (sym (wish_frees f (heap_of earlier) (keeper_for f earlier (Operates t w)) w)) (subst (λ j. MatchOption (name_freed w) (Unit {0}) (λ n. is_asked (own j) n ≡ true)) who freed), tt)
 item_frees f (Scavenges c) earlier own passed have k = (λ who. subst (λ o. MatchOption o (Unit {0}) (λ n. is_asked (own k) n ≡ true)) (sym (chore_frees c)) tt, tt)
 item_frees f i earlier own passed have k = tt
 
@@ -96,26 +97,26 @@ either_same true asked n is = is
 either_same false asked n is = is
 
 -- an operation of thread t: of a name that it makes, what another thread may free is no other than before
-own_made : (f : Profile) (heaps : ℕ → ℕ) (new mine : Bool) (w : Wish) (n : ℕ) (asked : List ℕ) → is_name (name_made w) n ≡ new → (new ≡ true → mine ≡ true) → (new ≡ false → is_asked asked n ≡ true)
-    → is_asked (if mine then asked_after (what_wished f heaps w) asked else asked) n ≡ true
-own_made f heaps true true w n asked is own old = asks_for f heaps w asked n ∙ ap (λ b. b || is_asked asked n) is
-own_made f heaps true false w n asked is own old = absurd (false≢true (own refl))
-own_made f heaps false true w n asked is own old = asks_for f heaps w asked n ∙ ap (λ b. b || is_asked asked n) is ∙ old refl
-own_made f heaps false false w n asked is own old = old refl
+own_made : (f : Profile) (heaps : ℕ → ℕ) (keeper : Option ℕ) (new mine : Bool) (w : Wish) (n : ℕ) (asked : List ℕ) → is_name (name_made w) n ≡ new → (new ≡ true → mine ≡ true) → (new ≡ false → is_asked asked n ≡ true)
+    → is_asked (if mine then asked_after (what_wished f heaps keeper w) asked else asked) n ≡ true
+own_made f heaps keeper true true w n asked is own old = asks_for f heaps keeper w asked n ∙ ap (λ b. b || is_asked asked n) is
+own_made f heaps keeper true false w n asked is own old = absurd (false≢true (own refl))
+own_made f heaps keeper false true w n asked is own old = asks_for f heaps keeper w asked n ∙ ap (λ b. b || is_asked asked n) is ∙ old refl
+own_made f heaps keeper false false w n asked is own old = old refl
 
 only_left : (t : Bool) → t || false ≡ true → t ≡ true
 only_left true is = refl
 only_left false is = absurd (cc)
 
-wish_own : (f : Profile) (heaps : ℕ → ℕ) (new named now : Bool) (t thread k : ℕ) (w : Wish) (n : ℕ) (asked : List ℕ) → is_name (name_made w) n ≡ new → new || named ≡ true → ((k == (if new then t else thread)) || not (new || now)) ≡ true
-    → (named ≡ true → ((k == thread) || not now) ≡ true → is_asked asked n ≡ true) → is_asked (if t == k then asked_after (what_wished f heaps w) asked else asked) n ≡ true
-wish_own f heaps true named now t thread k w n asked is known may old =
-    own_made f heaps true (t == k) w n asked is (λ yes. eq-eqb t k (sym (eqb-true k t (only_left (k == t) may)))) (λ no. absurd (cc))
-wish_own f heaps false named now t thread k w n asked is known may old = own_made f heaps false (t == k) w n asked is (λ yes. absurd (cc)) (λ no. old known may)
+wish_own : (f : Profile) (heaps : ℕ → ℕ) (keeper : Option ℕ) (new named now : Bool) (t thread k : ℕ) (w : Wish) (n : ℕ) (asked : List ℕ) → is_name (name_made w) n ≡ new → new || named ≡ true → ((k == (if new then t else thread)) || not (new || now)) ≡ true
+    → (named ≡ true → ((k == thread) || not now) ≡ true → is_asked asked n ≡ true) → is_asked (if t == k then asked_after (what_wished f heaps keeper w) asked else asked) n ≡ true
+wish_own f heaps keeper true named now t thread k w n asked is known may old =
+    own_made f heaps keeper true (t == k) w n asked is (λ yes. eq-eqb t k (sym (eqb-true k t (only_left (k == t) may)))) (λ no. absurd (cc))
+wish_own f heaps keeper false named now t thread k w n asked is known may old = own_made f heaps keeper false (t == k) w n asked is (λ yes. absurd (cc)) (λ no. old known may)
 
 item_own : (f : Profile) (i : Item) (earlier : List Item) (own : ℕ → List ℕ) → is_phase i ≡ false → HaveOwn own earlier → HaveOwn (λ k. own_by k (own k) (new_ops f i earlier)) (i ∷ earlier)
 item_own f (Operates t w) earlier own other have k n may =
-    wish_own f (heap_of earlier) (is_name (name_made w) n) (is_named earlier n) (is_named_now earlier n) t (thread_of earlier n) k w n (own k) refl may.0 may.1 (λ known free. have k n (known, free))
+    wish_own f (heap_of earlier) (keeper_for f earlier (Operates t w)) (is_name (name_made w) n) (is_named earlier n) (is_named_now earlier n) t (thread_of earlier n) k w n (own k) refl may.0 may.1 (λ known free. have k n (known, free))
 item_own f (Scavenges c) earlier own other have k n may =
     subst (λ now. is_asked (if 0 == k then now else own k) n ≡ true) (sym (asks_none c (own k))) (either_same (0 == k) (own k) n (have k n may))
 item_own f NextPhase earlier own other have k n may = absurd (cc)
@@ -126,6 +127,7 @@ item_behind : (f : Profile) (i : Item) (earlier : List Item) (front : List (List
     → phases_in f (i ∷ earlier) ≡ front ++ (last ++ new_ops f i earlier) ∷ []
 item_behind f Blank earlier front last other same = same ∙ ap (λ ops. front ++ ops ∷ []) (sym (append-nil last))
 item_behind f (Shares h) earlier front last other same = same ∙ ap (λ ops. front ++ ops ∷ []) (sym (append-nil last))
+item_behind f (Guards n) earlier front last other same = same ∙ ap (λ ops. front ++ ops ∷ []) (sym (append-nil last))
 item_behind f NextPhase earlier front last other same = absurd (cc)
 item_behind f i earlier front last other same = ap (add_last (Some _)) same ∙ add_behind _ front last
 

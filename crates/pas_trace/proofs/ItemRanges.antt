@@ -63,7 +63,8 @@ two_range started w a =
     (if_range (same_bytes w (codes "flush")) _ _ (range1 (λ t. Operates t Flushes) (number_of a) (λ x is. tt))
     (if_range (same_bytes w (codes "stop")) _ _ (range1 (λ t. Operates t Stops) (number_of a) (λ x is. tt))
     (if_range (same_bytes w (codes "tick")) _ _ (range1 (λ e. Scavenges (Chore.Tick e)) (epoch_word a) (λ x is. below_lt (2 ^ 40) x (number_of a) is))
-    (if_range (same_bytes w (codes "idle")) _ _ (range1 (λ n. Scavenges (Chore.Idle n)) (epoch_word a) (λ x is. below_lt (2 ^ 40) x (number_of a) is)) tt))))
+    (if_range (same_bytes w (codes "idle")) _ _ (range1 (λ n. Scavenges (Chore.Idle n)) (epoch_word a) (λ x is. below_lt (2 ^ 40) x (number_of a) is))
+    (if_range (same_bytes w (codes "guard")) _ _ tt tt)))))
 
 six_range : (w a b c d e : List ℕ) → IfOk (item_of_six w a b c d e) IsInRange
 six_range w a b c d e =

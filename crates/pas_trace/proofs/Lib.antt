@@ -4,6 +4,7 @@ mod FrontLines
 pub mod Digits
 mod Gathering
 pub mod Costs
+mod Sampling
 mod Checking
 mod Headers
 pub mod PassedChecks
@@ -21,3 +22,4 @@ pub mod EveryPlan
 pub mod EveryPhase
 pub mod OperationCounts
 pub mod ThreadsInOrder
+pub mod Keepers

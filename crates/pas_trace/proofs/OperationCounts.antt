@@ -5,7 +5,7 @@ use Rattle.pas_trace.specs.Reasons.{is_operation, operations_in}
 use Rattle.pas_trace.specs.Plans.{IsPlanOf}
 use Rattle.pas_trace.specs.EveryPlan.{all_ops, operations_of}
 use Rattle.pas_trace.specs.declared.item.Item.{Item}
-use Rattle.pas_trace.specs.declared.item.Item.TheVariants.{Blank, Shares, NextPhase}
+use Rattle.pas_trace.specs.declared.item.Item.TheVariants.{Blank, Shares, Guards, NextPhase}
 use Rattle.pas_trace.specs.declared.plan.Op.{Op}
 use Rattle.pas_trace.specs.declared.plan.Plan.{Plan}
 use Rattle.pas_trace.proofs.OperationsOfItems.{ops_in, new_ops, ops_next}
@@ -16,6 +16,7 @@ use Rattle.pas_trace.proofs.PassedChecks.{counts_within}
 item_count : (f : Profile) (i : Item) (earlier : List Item) → length (new_ops f i earlier) ≡ (if is_operation i then 1 else 0)
 item_count f Blank earlier = refl
 item_count f (Shares h) earlier = refl
+item_count f (Guards n) earlier = refl
 item_count f NextPhase earlier = refl
 item_count f i earlier = refl
 

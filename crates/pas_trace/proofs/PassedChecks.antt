@@ -6,11 +6,11 @@ use Rattle.pas_profile.specs.Classes.{IsAlignment}
 use Rattle.pas_profile.specs.Profiles.{IsValid}
 use Rattle.pas_profile.specs.declared.profile.Profile.{Profile}
 use Rattle.pas_trace.specs.Wishes.{Sizing, heap_in, sizing_in, name_made, name_freed, holds_of, IsFit, IsFitSizing}
-use Rattle.pas_trace.specs.Reasons.{first_failed, is_thread, is_alignment, record_bound, few_enough, may_free, checks_of, reason_of, operations_in, is_operation, is_named, actor_of}
+use Rattle.pas_trace.specs.Reasons.{first_failed, is_thread, is_alignment, record_bound, few_enough, may_free, is_guard_number, guard_in, checks_of, reason_of, operations_in, started, is_operation, is_named, actor_of}
 use Rattle.pas_trace.specs.EveryPlan.{IsThread}
 use Rattle.pas_trace.specs.declared.fault.Reason.{Reason}
 use Rattle.pas_trace.specs.declared.item.Item.{Item}
-use Rattle.pas_trace.specs.declared.item.Item.TheVariants.{Operates, Scavenges}
+use Rattle.pas_trace.specs.declared.item.Item.TheVariants.{Guards, Operates, Scavenges}
 use Rattle.pas_trace.specs.declared.item.Wish.{Wish}
 
 abbrev pub AreHeld : List (Bool × Reason) → Type 0
@@ -77,6 +77,19 @@ own_passed f items t w e =
       free = held.1.1.1.1.1.1.0;
       counts = counts_fit f items (Operates t w) held.1.1.1.1.1.1.1;
     }
+
+-- those of a `guard` line
+pub record GuardPassed (f : Profile) (items : List Item) (n : Option ℕ) : Type 0 where
+  pub first : started items ≡ false
+  pub single : guard_in items ≡ 0
+  pub number : is_guard_number n ≡ true
+  pub few : f.threads ≤ 8
+
+pub guard_passed : (f : Profile) (items : List Item) (n : Option ℕ) → reason_of f items (Guards n) ≡ None → GuardPassed f items n
+guard_passed f items n e =
+    let held = passes f items (Guards n) e in
+    let place = and_parts (not (started items)) (guard_in items == 0) held.0 in
+    record { first = is_not (started items) place.0; single = eqb-true (guard_in items) 0 place.1; number = held.1.0; few = leb-true _ _ held.1.1.0 }
 
 -- ---- what any item gives
 pub actor_within : (f : Profile) (items : List Item) (i : Item) → reason_of f items i ≡ None → actor_of i ≤ f.threads

@@ -60,6 +60,7 @@ planned text line rest f all plan e h i p = record {
   read = parsed-items text line rest f e h ∙ ap (with_items f) i;
   version = p.version;
   profile = p.profile;
+  guard = p.guard;
   phases = p.phases;
   bounds = p.bounds;
   total = p.total;

@@ -1,16 +1,17 @@
 -- What the reader keeps after each item.
-use Rattle.std.proofs.Common.{◌≡◌, ◌≢◌, ℕ, ◌+◌, ◌<◌, ◌≤◌, ◌==◌, Bool, true, false, not, ◌&&◌, ◌||◌, if◌then◌else◌, List, [], ◌∷◌, ◌++◌, length, get_or, set, Option, None, Some, refl, sym, ap, subst, ◌∙◌, arith, inl, inr, add-one}
+use Rattle.std.proofs.Common.{◌≡◌, ◌≢◌, ℕ, ◌+◌, ◌<◌, ◌≤◌, ◌==◌, Bool, true, false, not, ◌&&◌, ◌||◌, ◌*◌, ◌-◌, nat_le, if◌then◌else◌, List, [], ◌∷◌, ◌++◌, length, get_or, set, Option, None, Some, refl, sym, ap, subst, ◌∙◌, arith, inl, inr, add-one}
 use Rattle.std.proofs.Math.ListN.{length-set}
-use Rattle.std.proofs.lemmas.Bool.{eq-eqb, ne_eqb, cases_eq}
+use Rattle.std.proofs.lemmas.Bool.{eq-eqb, ne_eqb, cases_eq, leb-true, le-leb, lt-leb, and_parts}
+use Rattle.std.proofs.lemmas.Nat.{mul-le}
 use Rattle.pas_profile.specs.Profiles.{IsValid}
 use Rattle.pas_profile.specs.declared.profile.Profile.{Profile}
 use Rattle.pas_trace.specs.declared.header.Header.{Header}
 use Rattle.pas_trace.specs.Wishes.{heap_in, name_made, name_freed, heap_by, heap_made, is_name}
-use Rattle.pas_trace.specs.Reasons.{cost_of, costs_of, cost_of_wish, records_of_chore, record_bound, reason_of, operations_in, is_operation, is_phase, actor_of, makes, is_named, is_named_now, thread_of, heap_of_item, heap_of, started}
-use Rattle.pas_trace.specs.Plans.{shared_by, shared_in, phases_after, phases_in, line_of_newest, own_costs, bound_of, bounds_upto, operation, what_wished, what_of_chore, add_last}
-use Rattle.pas_trace.specs.Told.{owner_in, heap_told, Tells, NameTold, IsReady, IsCounted, IsOperated, IsAdded}
+use Rattle.pas_trace.specs.Reasons.{is_guard_number, guard_after, guard_in, large_requests, actors_by, cost_of, costs_of, cost_of_wish, records_of_chore, record_bound, reason_of, operations_in, is_operation, is_phase, actor_of, makes, is_named, is_named_now, thread_of, heap_of_item, heap_of, started}
+use Rattle.pas_trace.specs.Plans.{shared_by, shared_in, phases_after, phases_in, line_of_newest, own_costs, kept_costs, keeper_for, bound_of, bounds_upto, all_bounds, operation, what_wished, what_of_chore, add_last}
+use Rattle.pas_trace.specs.Told.{owner_in, heap_told, keeper_told, Tells, TellsSamples, NameTold, IsReady, CanSample, IsCounted, IsOperated, IsGuarding, IsAdded}
 use Rattle.pas_trace.specs.declared.item.Item.{Item}
-use Rattle.pas_trace.specs.declared.item.Item.TheVariants.{Operates, Scavenges}
+use Rattle.pas_trace.specs.declared.item.Item.TheVariants.{Guards, Operates, Scavenges}
 use Rattle.pas_trace.specs.declared.item.Wish.{Wish}
 use Rattle.pas_trace.specs.declared.item.Wish.TheVariants.{Remakes}
 use Rattle.pas_trace.specs.declared.names.Owner.{Owner}
@@ -20,9 +21,11 @@ use Rattle.pas_trace.specs.declared.plan.Op.{Op}
 use Rattle.pas_trace.specs.declared.plan.What.{What}
 use Rattle.pas_trace.specs.declared.plan.What.TheVariants.{Remake}
 use Rattle.pas_trace.specs.declared.reader.Reader.{Reader}
+use Rattle.pas_trace.specs.declared.samples.Samples.{Samples}
 use Rattle.pas_trace.proofs.Checking.{bound-after}
 use Rattle.pas_trace.proofs.Gathering.{get_or-written}
-use Rattle.pas_trace.proofs.PassedChecks.{FineCounts, own_passed, actor_within, counts_within}
+use Rattle.pas_trace.proofs.PassedChecks.{FineCounts, own_passed, guard_passed, actor_within, counts_within}
+use Rattle.pas_trace.proofs.Sampling.{sampled, unsampled, keeper_same, few_larges, few_kept}
 
 -- ---- costs
 if-le : (b : Bool) (x y z : ℕ) → x ≤ z → y ≤ z → (if b then x else y) ≤ z
@@ -34,7 +37,8 @@ pub own_costs-le : (f : Profile) (k : ℕ) (items : List Item) → own_costs f k
 own_costs-le f k [] = omega arith
 own_costs-le f k (i ∷ items) =
     let h = own_costs-le f k items in
-    if-le (actor_of i == k) (own_costs f k items + cost_of f i) (own_costs f k items) (costs_of f items + cost_of f i) (omega (arith, h)) (omega (arith, h))
+    let cost = cost_of f (guard_in items) i in
+    if-le (actor_of i == k) (own_costs f k items + cost) (own_costs f k items) (costs_of f items + cost) (omega (arith, h)) (omega (arith, h))
 
 pub cost-within : (r : Reader) (items : List Item) (k : ℕ) → Tells r items → k < 17 → get_or r.counts.costs k 0 ≤ r.counts.bound
 cost-within r items k t lt =
@@ -42,11 +46,35 @@ cost-within r items k t lt =
     let all : r.counts.bound ≡ record_bound r.header.profile items = t.bound in
     omega (arith, own, all, own_costs-le r.header.profile k items)
 
-pub ready : (r : Reader) (items : List Item) (i : Item) (actor cost : ℕ) → Tells r items → FineCounts r.header.profile items i → actor ≤ 16 → cost ≡ cost_of r.header.profile i → IsReady r.counts actor cost
-ready r items i actor cost t fine le e =
+pub kept-within : (r : Reader) (items : List Item) (k : ℕ) → Tells r items → k < 17 → get_or r.samples.kept k 0 ≤ r.counts.bound
+kept-within r items k t lt =
+    let own : get_or r.samples.kept k 0 ≡ kept_costs r.header.profile k items = t.samples.kept k lt in
+    let all : r.counts.bound ≡ record_bound r.header.profile items = t.bound in
+    let few = few_kept r.header.profile k items in
+    omega (arith, own, all, few)
+
+-- a request of the thread may be counted
+pub can-sample : (r : Reader) (items : List Item) (i : Item) (actor : ℕ) → Tells r items → FineCounts r.header.profile items i → actor ≤ 16 → CanSample r.samples actor
+can-sample r items i actor t fine le =
+    let wide : length r.samples.larges ≡ 17 = t.samples.width in
+    let kept_wide : length r.samples.kept ≡ 17 = t.samples.kept_width in
+    let larges : get_or r.samples.larges actor 0 ≡ large_requests actor items = t.samples.larges actor (omega (arith, le)) in
+    let few : operations_in items < 1000000 = fine.few in
+    let most = few_larges actor items in
+    let kept = kept-within r items actor t (omega (arith, le)) in
+    let small : r.counts.bound ≤ 2000000 = t.small in
+    record {
+      place = omega (arith, le, wide);
+      kept_place = omega (arith, le, kept_wide);
+      larges = omega (arith, larges, few, most);
+      kept = omega (arith, kept, small);
+    }
+
+pub ready : (r : Reader) (items : List Item) (i : Item) (actor cost : ℕ) → ((guard : ℕ) → guard_after i guard ≡ guard) → Tells r items → FineCounts r.header.profile items i → actor ≤ 16 → cost ≡ cost_of r.header.profile r.samples.guard i → IsReady r.counts actor cost
+ready r items i actor cost same t fine le e =
     let few : operations_in items < 1000000 = fine.few in
     let small : record_bound r.header.profile (i ∷ items) ≤ 2000000 = fine.small in
-    let all = bound-after r items i t in
+    let all = bound-after r items i (same (guard_in items)) t in
     let ops : r.counts.operations ≡ operations_in items = t.operations in
     record {
       is_actor = omega (arith, le);
@@ -71,9 +99,9 @@ heap-by-same heaps others (Some h) freed same = refl
 heap-by-same heaps others None None same = refl
 heap-by-same heaps others None (Some old) same = same old
 
-what-same : (f : Profile) (heaps others : ℕ → ℕ) (w : Wish) → ((n : ℕ) → heaps n ≡ others n) → what_wished f heaps w ≡ what_wished f others w
-what-same f heaps others (Remakes n o s a) same = ap (λ heap. Remake n o heap s a) (same o)
-what-same f heaps others w same = refl
+what-same : (f : Profile) (heaps others : ℕ → ℕ) (keeper : Option ℕ) (w : Wish) → ((n : ℕ) → heaps n ≡ others n) → what_wished f heaps keeper w ≡ what_wished f others keeper w
+what-same f heaps others keeper (Remakes n o s a) same = ap (λ heap. Remake n o heap s a) (same o)
+what-same f heaps others keeper w same = refl
 
 taken-here : (t heap p : ℕ) (w : Wish) (items : List Item) (n : ℕ) → heap_made (heap_of items) w ≡ heap → 1 ≤ t → is_name (name_made w) n ≡ true → NameTold (record { thread = t; heap = heap; phase = p }) p (Operates t w ∷ items) n
 taken-here t heap p w items n home least e =
@@ -93,15 +121,16 @@ taken-by true t heap p w items o o' n home is least e told = subst (λ (x : Owne
 taken-by false t heap p w items o o' n home is least e told = subst (λ (x : Owner). NameTold x p (Operates t w ∷ items) n) (sym e) (kept-name (Operates t w) items o p n refl is told)
 
 -- ---- an item that is an operation, of a thread or of the scavenger
-pub record IsOperation (f : Profile) (heaps : ℕ → ℕ) (i : Item) (actor : ℕ) (what : What) (cost : ℕ) : Type 0 where
+pub record IsOperation (f : Profile) (heaps : ℕ → ℕ) (keeper : Option ℕ) (guard : ℕ) (i : Item) (actor : ℕ) (what : What) (cost : ℕ) : Type 0 where
   pub operates : is_operation i ≡ true
   pub same_phase : is_phase i ≡ false
+  pub same_guard : (g : ℕ) → guard_after i g ≡ g
   pub marks : (m : ℕ) → shared_by i m ≡ m
   pub thread : actor_of i ≡ actor
-  pub costs : cost_of f i ≡ cost
-  pub phases : (line : ℕ) (ps : List (List Op)) → phases_after f heaps i line ps ≡ add_last (Some (operation line actor what)) ps
+  pub costs : cost_of f guard i ≡ cost
+  pub phases : (line : ℕ) (ps : List (List Op)) → phases_after f heaps keeper i line ps ≡ add_last (Some (operation line actor what)) ps
 
-cost-added : (f : Profile) (i : Item) (items : List Item) (costs : List ℕ) (actor cost k : ℕ) → actor < length costs → actor_of i ≡ actor → cost_of f i ≡ cost
+cost-added : (f : Profile) (i : Item) (items : List Item) (costs : List ℕ) (actor cost k : ℕ) → actor < length costs → actor_of i ≡ actor → cost_of f (guard_in items) i ≡ cost
     → get_or costs k 0 ≡ own_costs f k items → get_or (set costs actor (get_or costs actor 0 + cost)) k 0 ≡ own_costs f k (i ∷ items)
 cost-added f i items costs actor cost k lt is_actor is_cost told = elim (cases_eq k actor) [
   | inl same ↦
@@ -109,18 +138,19 @@ cost-added f i items costs actor cost k lt is_actor is_cost told = elim (cases_e
       let own : (actor_of i == k) ≡ true = eq-eqb (actor_of i) k (is_actor ∙ sym same) in
       get_or-written costs actor k (get_or costs actor 0 + cost) 0 lt ∙ ap (λ b. if b then get_or costs actor 0 + cost else get_or costs k 0) here
       ∙ ap (λ m. get_or costs m 0 + cost) (sym same) ∙ ap (λ m. m + cost) told ∙ ap (λ m. own_costs f k items + m) (sym is_cost)
-      ∙ sym (ap (λ b. if b then own_costs f k items + cost_of f i else own_costs f k items) own)
+      ∙ sym (ap (λ b. if b then own_costs f k items + cost_of f (guard_in items) i else own_costs f k items) own)
   | inr other ↦
       let there : (k == actor) ≡ false = ne_eqb k actor other in
       let own : (actor_of i == k) ≡ false = ne_eqb (actor_of i) k (λ e. other (sym e ∙ is_actor)) in
       get_or-written costs actor k (get_or costs actor 0 + cost) 0 lt ∙ ap (λ b. if b then get_or costs actor 0 + cost else get_or costs k 0) there
-      ∙ told ∙ sym (ap (λ b. if b then own_costs f k items + cost_of f i else own_costs f k items) own)
+      ∙ told ∙ sym (ap (λ b. if b then own_costs f k items + cost_of f (guard_in items) i else own_costs f k items) own)
 ]
 
-pub operated : (old new : Reader) (names : Names) (items : List Item) (i : Item) (actor : ℕ) (what : What) (cost : ℕ) → Tells old items → IsOperation old.header.profile (heap_of items) i actor what cost
-    → IsReady old.counts actor cost → ((n : ℕ) → NameTold (owner_in names n) old.phase (i ∷ items) n)
-    → IsCounted (record old { line = old.line + 1; names = names }) new actor what cost → Tells new (i ∷ items)
-operated old new names items i actor what cost t op can told h =
+pub operated : (old new : Reader) (names : Names) (samples : Samples) (items : List Item) (i : Item) (actor : ℕ) (what : What) (cost : ℕ) → Tells old items
+    → IsOperation old.header.profile (heap_of items) (keeper_for old.header.profile items i) old.samples.guard i actor what cost
+    → IsReady old.counts actor cost → ((n : ℕ) → NameTold (owner_in names n) old.phase (i ∷ items) n) → TellsSamples old.header.profile samples (i ∷ items)
+    → IsCounted (record old { line = old.line + 1; names = names; samples = samples }) new actor what cost → Tells new (i ∷ items)
+operated old new names samples items i actor what cost t op can told sampling h =
     let size : length old.counts.costs ≡ 17 = t.width in
     let actor-lt : actor < length old.counts.costs = omega (arith, size, can.is_actor) in
     let bound : new.counts.bound ≡ old.counts.bound + cost = h.bound in
@@ -128,6 +158,7 @@ operated old new names items i actor what cost t op can told h =
     let phase : new.phase ≡ old.phase = h.phase in
     let line : new.line ≡ old.line + 1 = h.line in
     let le : old.phase ≤ old.line = t.phase in
+    let cost_now : cost_of old.header.profile (guard_in items) i ≡ cost = ap (λ g. cost_of old.header.profile g i) (sym t.samples.guard) ∙ op.costs in
     record {
       header = subst (λ (g : Header). IsValid g.profile) (sym h.header) t.header;
       shared = h.shared ∙ t.shared ∙ sym (op.marks (shared_in items));
@@ -136,10 +167,11 @@ operated old new names items i actor what cost t op can told h =
       phase = omega (arith, phase, line, le);
       names = λ n. subst (λ (o : Owner). NameTold o new.phase (i ∷ items) n) (sym (h.names n)) (subst (λ (p : ℕ). NameTold (owner_in names n) p (i ∷ items) n) (sym phase) (told n));
       operations = h.operations ∙ ap (λ n. n + 1) t.operations ∙ sym (ap (λ b. if b then operations_in items + 1 else operations_in items) op.operates);
-      bound = bound ∙ ap (λ n. old.counts.bound + n) (sym op.costs) ∙ bound-after old items i t ∙ ap (λ (g : Header). record_bound g.profile (i ∷ items)) (sym h.header);
+      bound = bound ∙ ap (λ n. old.counts.bound + n) (sym op.costs) ∙ bound-after old items i (op.same_guard (guard_in items)) t ∙ ap (λ (g : Header). record_bound g.profile (i ∷ items)) (sym h.header);
       small = omega (arith, bound, small);
       width = ap length h.costs ∙ length-set old.counts.costs actor (get_or old.counts.costs actor 0 + cost) ∙ size;
-      costs = λ k lt. ap (λ xs. get_or xs k 0) h.costs ∙ cost-added old.header.profile i items old.counts.costs actor cost k actor-lt op.thread op.costs (t.costs k lt) ∙ ap (λ (g : Header). own_costs g.profile k (i ∷ items)) (sym h.header);
+      costs = λ k lt. ap (λ xs. get_or xs k 0) h.costs ∙ cost-added old.header.profile i items old.counts.costs actor cost k actor-lt op.thread cost_now (t.costs k lt) ∙ ap (λ (g : Header). own_costs g.profile k (i ∷ items)) (sym h.header);
+      samples = subst (λ (s : Samples). TellsSamples new.header.profile s (i ∷ items)) (sym h.samples) (subst (λ (g : Header). TellsSamples g.profile samples (i ∷ items)) (sym h.header) sampling);
       phases = h.phases ∙ ap (λ ps. add_last (Some (operation (old.line + 1) actor what)) ps) t.phases ∙ ap (λ n. add_last (Some (operation (n + 1) actor what)) (phases_in old.header.profile items)) t.line
           ∙ sym (op.phases (line_of_newest (i ∷ items)) (phases_in old.header.profile items)) ∙ ap (λ (g : Header). phases_in g.profile (i ∷ items)) (sym h.header);
     }
@@ -156,47 +188,151 @@ names-taken old names t w given items told e n =
 names-kept : (old : Reader) (c : Chore) → NamesAfter old old.names (Scavenges c)
 names-kept old c items told e n = kept-name (Scavenges c) items (owner_in old.names n) old.phase n refl refl (told.names n)
 
-pub added : (old new : Reader) (names : Names) (i : Item) (actor : ℕ) (what : What) (cost : ℕ) → ((items : List Item) → Tells old items → IsOperation old.header.profile (heap_of items) i actor what cost) → NamesAfter old names i
-    → IsCounted (record old { line = old.line + 1; names = names }) new actor what cost → IsAdded old new i
-added old new names i actor what cost op after h = record {
+-- .. and which requests are guarded
+abbrev pub SamplesAfter : Reader → Samples → Item → Type 0
+SamplesAfter old samples i = (items : List Item) → Tells old items → reason_of old.header.profile items i ≡ None → TellsSamples old.header.profile samples (i ∷ items)
+
+small_thread : (old : Reader) (items : List Item) (t : ℕ) (w : Wish) → Tells old items → reason_of old.header.profile items (Operates t w) ≡ None → t < 17
+small_thread old items t w told e =
+    let most = actor_within old.header.profile items (Operates t w) e in
+    let header = told.header in
+    let threads : old.header.profile.threads ≤ 16 = header.threads in
+    omega (arith, most, threads)
+
+pub added : (old new : Reader) (names : Names) (samples : Samples) (i : Item) (actor : ℕ) (what : What) (cost : ℕ)
+    → ((items : List Item) → Tells old items → reason_of old.header.profile items i ≡ None → IsOperation old.header.profile (heap_of items) (keeper_for old.header.profile items i) old.samples.guard i actor what cost)
+    → NamesAfter old names i → SamplesAfter old samples i
+    → IsCounted (record old { line = old.line + 1; names = names; samples = samples }) new actor what cost → IsAdded old new i
+added old new names samples i actor what cost op after sampling h = record {
   header = h.header;
   line = h.line;
   tells = λ items t e.
       let most = actor_within old.header.profile items i e in
       let header = t.header in
       let threads : old.header.profile.threads ≤ 16 = header.threads in
-      let is : actor_of i ≡ actor = (op items t).thread in
-      let can = ready old items i actor cost t (counts_within old.header.profile items i (op items t).operates e) (omega (arith, most, threads, is)) (sym (op items t).costs) in
-      operated old new names items i actor what cost t (op items t) can (after items t e) h;
+      let is : actor_of i ≡ actor = (op items t e).thread in
+      let can = ready old items i actor cost (op items t e).same_guard t (counts_within old.header.profile items i (op items t e).operates e) (omega (arith, most, threads, is)) (sym (op items t e).costs) in
+      operated old new names samples items i actor what cost t (op items t e) can (after items t e) (sampling items t e) h;
 }
 
-pub added_wish : (old new : Reader) (t : ℕ) (w : Wish) → IsOperated (record old { line = old.line + 1 }) new t w (cost_of_wish w) → IsAdded old new (Operates t w)
+pub added_wish : (old new : Reader) (t : ℕ) (w : Wish) → IsOperated (record old { line = old.line + 1 }) new t w (cost_of_wish old.samples.guard w) → IsAdded old new (Operates t w)
 added_wish old new t w h =
     let f = old.header.profile in
-    let what = what_wished f (heap_told old) w in
-    let op : (items : List Item) → Tells old items → IsOperation f (heap_of items) (Operates t w) t what (cost_of_wish w) = λ items told. record {
+    let cost = cost_of_wish old.samples.guard w in
+    let what = what_wished f (heap_told old) (keeper_told old t w) w in
+    let op : (items : List Item) → Tells old items → reason_of f items (Operates t w) ≡ None → IsOperation f (heap_of items) (keeper_for f items (Operates t w)) old.samples.guard (Operates t w) t what cost = λ items told e. record {
       operates = refl;
       same_phase = refl;
+      same_guard = λ g. refl;
       marks = λ m. refl;
       thread = refl;
       costs = refl;
-      phases = λ line ps. ap (λ what. add_last (Some (operation line t what)) ps) (what-same f (heap_of items) (heap_told old) w (λ m. (told.names m).heap));
+      phases = λ line ps. ap (λ what. add_last (Some (operation line t what)) ps)
+          (ap (λ keeper. what_wished f (heap_of items) keeper w) (sym (keeper_same old items t w told (small_thread old items t w told e))) ∙ what-same f (heap_of items) (heap_told old) (keeper_told old t w) w (λ m. (told.names m).heap));
     } in
-    added old new h.names (Operates t w) t what (cost_of_wish w) op (names-taken old h.names t w h.given) h.counted
+    added old new h.names h.samples (Operates t w) t what cost op (names-taken old h.names t w h.given)
+    (λ items told e. sampled f old.samples items told.samples h.samples t w (small_thread old items t w told e) h.sampled) h.counted
 
 pub added_chore : (old new : Reader) (c : Chore) → IsCounted (record old { line = old.line + 1 }) new 0 (what_of_chore c) (records_of_chore old.header.profile c) → IsAdded old new (Scavenges c)
 added_chore old new c h =
-    let cost = records_of_chore old.header.profile c in
-    let op : (items : List Item) → Tells old items → IsOperation old.header.profile (heap_of items) (Scavenges c) 0 (what_of_chore c) cost = λ items told. record { operates = refl; same_phase = refl; marks = λ m. refl; thread = refl; costs = refl; phases = λ line ps. refl } in
-    added old new old.names (Scavenges c) 0 (what_of_chore c) cost op (names-kept old c) h
+    let f = old.header.profile in
+    let cost = records_of_chore f c in
+    let op : (items : List Item) → Tells old items → reason_of f items (Scavenges c) ≡ None → IsOperation f (heap_of items) (keeper_for f items (Scavenges c)) old.samples.guard (Scavenges c) 0 (what_of_chore c) cost = λ items told e.
+    record { operates = refl; same_phase = refl; same_guard = λ g. refl; marks = λ m. refl; thread = refl; costs = refl; phases = λ line ps. refl } in
+    added old new old.names old.samples (Scavenges c) 0 (what_of_chore c) cost op (names-kept old c) (λ items told e. unsampled f old.samples (Scavenges c) items refl (λ g. refl) told.samples) h
+
+-- ---- a `guard` line stands before all operations
+or_none : (s t u : Bool) → s || t || u ≡ false → (s ≡ false) × (u ≡ false)
+or_none false false false is = (refl, refl)
+or_none false false true is = absurd (cc)
+or_none false true u is = absurd (cc)
+or_none true t u is = absurd (cc)
+
+no_cost : (f : Profile) (guard : ℕ) (i : Item) → is_operation i ≡ false → cost_of f guard i ≡ 0
+no_cost f guard (Operates t w) none = absurd (cc)
+no_cost f guard (Scavenges c) none = absurd (cc)
+no_cost f guard i none = refl
+
+pub none-costs : (f : Profile) (items : List Item) → started items ≡ false → costs_of f items ≡ 0
+none-costs f [] none = refl
+none-costs f (i ∷ items) none =
+    let both = or_none (is_operation i) (is_phase i) (started items) none in
+    let cost = no_cost f (guard_in items) i both.0 in
+    let rest = none-costs f items both.1 in
+    omega (arith, cost, rest)
+
+free-cost : (here : Bool) (n : ℕ) → n ≡ (if here then n + 0 else n)
+free-cost true n = omega arith
+free-cost false n = refl
+
+numbered : (old new : Reader) (n : ℕ) → IsGuarding (record old { line = old.line + 1 }) new (Some n) → IsAdded old new (Guards (Some n))
+numbered old new n h = record {
+  header = h.header;
+  line = h.line;
+  tells = λ items t e.
+      let f = old.header.profile in
+      let held = guard_passed f items (Some n) e in
+      let header = t.header in
+      let pages : f.pages ≤ 16384 = header.pages in
+      let few : f.threads ≤ 8 = held.few in
+      let number = and_parts (nat_le 1 n) (nat_le n 1000000) held.number in
+      let least : 1 ≤ n = leb-true 1 n number.0 in
+      let some : (n == 0) ≡ false = ne_eqb n 0 (λ z. absurd (omega (arith, z, least))) in
+      let costs = none-costs f items held.first in
+      let before : record_bound f items ≡ f.threads * f.pages + costs_of f items = ap (λ g. actors_by g f.threads * f.pages + costs_of f items) held.single in
+      let after : record_bound f (Guards (Some n) ∷ items) ≡ 2 * f.threads * f.pages + (costs_of f items + 0) = ap (λ b. (if b then f.threads else 2 * f.threads) * f.pages + (costs_of f items + 0)) some in
+      let bound : old.counts.bound ≡ record_bound f items = t.bound in
+      let now : new.counts.bound ≡ old.counts.bound + f.threads * f.pages = h.bound in
+      let most : f.threads * f.pages ≤ 8 * 16384 = mul-le f.threads f.pages 8 16384 few pages in
+      let line : new.line ≡ old.line + 1 = h.line in
+      let phase : new.phase ≡ old.phase = h.phase in
+      let le : old.phase ≤ old.line = t.phase in
+      let same_bound : new.counts.bound ≡ record_bound f (Guards (Some n) ∷ items) = omega (arith, now, bound, before, after) in
+      record {
+        header = subst (λ (g : Header). IsValid g.profile) (sym h.header) t.header;
+        shared = h.shared ∙ t.shared;
+        started = h.started ∙ t.started;
+        line = line ∙ ap (λ n. n + 1) t.line;
+        phase = omega (arith, phase, line, le);
+        names = λ m. subst (λ (o : Owner). NameTold o new.phase (Guards (Some n) ∷ items) m) (sym (h.names m))
+            (subst (λ (p : ℕ). NameTold (owner_in old.names m) p (Guards (Some n) ∷ items) m) (sym phase) (kept-name (Guards (Some n)) items (owner_in old.names m) old.phase m refl refl (t.names m)));
+        operations = h.operations ∙ t.operations;
+        bound = same_bound ∙ ap (λ (g : Header). record_bound g.profile (Guards (Some n) ∷ items)) (sym h.header);
+        small = omega (arith, now, bound, before, costs, most);
+        width = ap length h.costs ∙ t.width;
+        costs = λ k lt. ap (λ xs. get_or xs k 0) h.costs ∙ t.costs k lt ∙ free-cost (0 == k) (own_costs f k items) ∙ ap (λ (g : Header). own_costs g.profile k (Guards (Some n) ∷ items)) (sym h.header);
+        samples = subst (λ (s : Samples). TellsSamples new.header.profile s (Guards (Some n) ∷ items)) (sym h.samples) (subst (λ (g : Header). TellsSamples g.profile (record old.samples { guard = n }) (Guards (Some n) ∷ items)) (sym h.header)
+            (record { guard = refl; width = t.samples.width; larges = t.samples.larges; kept_width = t.samples.kept_width; kept = t.samples.kept }));
+        phases = h.phases ∙ t.phases ∙ ap (λ (g : Header). phases_in g.profile (Guards (Some n) ∷ items)) (sym h.header);
+      };
+}
+
+pub added_guard : (old new : Reader) (n : Option ℕ) → is_guard_number n ≡ true → IsGuarding (record old { line = old.line + 1 }) new n → IsAdded old new (Guards n)
+added_guard old new None number h = absurd (cc)
+added_guard old new (Some n) number h = numbered old new n h
 
 -- ---- bounds
-pub bounds-more : (f : Profile) (items : List Item) (k deeds cost : ℕ) (bounds more : List ℕ) → bounds ≡ bounds_upto f items k → deeds + cost ≡ bound_of f items k → more ≡ bounds ++ (deeds + cost) ∷ []
-    → more ≡ bounds_upto f items (k + 1)
-bounds-more f items k deeds cost bounds more e b m = m ∙ ap (λ xs. xs ++ (deeds + cost) ∷ []) e ∙ ap (λ n. bounds_upto f items k ++ n ∷ []) b ∙ sym (ap (λ n. bounds_upto f items n) (add-one k))
+pub bounds-more : (f : Profile) (items : List Item) (k bound : ℕ) (bounds more : List ℕ) → bounds ≡ bounds_upto f items k → bound ≡ bound_of f items k → more ≡ bounds ++ bound ∷ [] → more ≡ bounds_upto f items (k + 1)
+bounds-more f items k bound bounds more e b m = m ∙ ap (λ xs. xs ++ bound ∷ []) e ∙ ap (λ n. bounds_upto f items k ++ n ∷ []) b ∙ sym (ap (λ n. bounds_upto f items n) (add-one k))
 
-pub bound-first : (f : Profile) (items : List Item) (k cost : ℕ) → k ≡ 0 → cost ≡ own_costs f k items → 0 + cost ≡ bound_of f items k
-bound-first f items k cost e h = let t : (k == 0) ≡ true = eq-eqb k 0 e in rw (t, h, e) (omega arith)
+pub bound-thread : (f : Profile) (items : List Item) (k : ℕ) → 1 ≤ k → k ≤ f.threads → f.pages + own_costs f k items ≡ bound_of f items k
+bound-thread f items k some within =
+    let other : (k == 0) ≡ false = ne_eqb k 0 (λ none. absurd (omega (arith, some, none))) in
+    let thread : nat_le k f.threads ≡ true = le-leb k f.threads within in
+    rw (other, thread) refl
 
-pub bound-other : (f : Profile) (items : List Item) (k cost : ℕ) → k ≢ 0 → cost ≡ own_costs f k items → f.pages + cost ≡ bound_of f items k
-bound-other f items k cost ne h = let t : (k == 0) ≡ false = ne_eqb k 0 ne in rw (t, h) refl
+pub bound-keeper : (f : Profile) (items : List Item) (k : ℕ) → 1 ≤ k → f.pages + kept_costs f k items ≡ bound_of f items (f.threads + k)
+bound-keeper f items k some =
+    let other : (f.threads + k == 0) ≡ false = ne_eqb (f.threads + k) 0 (λ none. absurd (omega (arith, some, none))) in
+    let beyond : nat_le (f.threads + k) f.threads ≡ false = lt-leb (f.threads + k) f.threads (omega (arith, some)) in
+    let place : f.threads + k - f.threads ≡ k = omega arith in
+    rw (other, beyond, place) refl
+
+-- those of all actors, without a `guard` line and with one
+pub all-plain : (f : Profile) (items : List Item) → guard_in items ≡ 0 → bounds_upto f items (f.threads + 1) ≡ all_bounds f items
+all-plain f items none = ap (λ guard. bounds_upto f items (actors_by guard f.threads + 1)) (sym none)
+
+pub all-guarded : (f : Profile) (items : List Item) → guard_in items ≢ 0 → bounds_upto f items (f.threads + (f.threads + 1)) ≡ all_bounds f items
+all-guarded f items some =
+    let twice : f.threads + (f.threads + 1) ≡ 2 * f.threads + 1 = omega arith in
+    ap (λ n. bounds_upto f items n) twice ∙ sym (ap (λ b. bounds_upto f items ((if b then f.threads else 2 * f.threads) + 1)) (ne_eqb (guard_in items) 0 some))

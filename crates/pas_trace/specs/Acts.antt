@@ -1,20 +1,26 @@
 -- The acts of a plan, which a replay in the order of the text does one after the other. At the start of a phase stands its mark, from the second phase on, and
 -- then each thread that has an operation in it reads the epoch. The operations follow in order. After the last phase stands a mark, and then each
--- thread is stopped.
+-- thread is stopped, and in a guarded trace each keeper lowers its guards.
 use Rattle.std.specs.Prelude.{ℕ, zero, suc, ◌+◌, ◌==◌, Bool, false, ◌||◌, not, if◌then◌else◌, List, [], ◌∷◌, ◌++◌, map, Option, None, Some}
 use Rattle.std.specs.List.{filter, flat_map}
-use Rattle.pas_trace.specs.Asked.{work_of}
+use Rattle.pas_profile.specs.declared.profile.Profile.{Profile}
+use Rattle.pas_trace.specs.Asked.{work_of, keeper_of, keeper_in}
 use Rattle.pas_trace.specs.EveryPlan.{asked_after}
+use Rattle.pas_trace.specs.Plans.{ops_of}
+use Rattle.pas_trace.specs.Reasons.{actors_by}
 use Rattle.pas_trace.specs.declared.plan.What.{What}
 use Rattle.pas_trace.specs.declared.plan.Chore.{Chore}
 use Rattle.pas_trace.specs.declared.plan.Work.{Work}
 use Rattle.pas_trace.specs.declared.plan.Op.{Op}
+use Rattle.pas_trace.specs.declared.plan.Plan.{Plan}
 
 -- `Operates`: a thread's operation, after which the runs of large blocks that its cache noted are handed on (`Settles`). `Ticks` and `MakesPass`: those of
 -- the scavenger. An idle operation is several acts: the scavenger reads the epoch, and then each thread that is idle in the phase is stopped, where it was
--- idle for so many epochs. What such a stop noted is handed on after the thread's next operation.
+-- idle for so many epochs. What such a stop noted is handed on after the thread's next operation. `Guards`: a guarded request, by its keeper, which
+-- lowers the guards of blocks that were ended and then raises one for it, and, where that finds no run, by its thread as any request. `Lowers`: a keeper lowers all its guards.
 pub data Act : Type 0 where
   Operates : Op → Act
+  Guards : ℕ → Op → Act
   Settles : ℕ → Act
   Ticks : ℕ → Act
   MakesPass : Act
@@ -24,10 +30,12 @@ pub data Act : Type 0 where
   Wakes : ℕ → Act
   MarksClose : Act
   Ends : ℕ → Act
+  Lowers : ℕ → Act
 
 -- the operation of a thread that an act is
 abbrev pub operation_in : Act → Option Op
 operation_in (Operates op) = Some op
+operation_in (Guards keeper op) = Some op
 operation_in (Settles k) = None
 operation_in (Ticks epoch) = None
 operation_in MakesPass = None
@@ -37,10 +45,12 @@ operation_in (MarksPhase n) = None
 operation_in (Wakes k) = None
 operation_in MarksClose = None
 operation_in (Ends k) = None
+operation_in (Lowers keeper) = None
 
--- whose steps an act makes; a mark makes none
+-- whose steps an act makes; a mark makes none. Those of a guarded request are its keeper's, and its thread's after them
 abbrev pub stepper_of : Act → ℕ
 stepper_of (Operates op) = op.actor
+stepper_of (Guards keeper op) = op.actor
 stepper_of (Settles k) = k
 stepper_of (Ticks epoch) = 0
 stepper_of MakesPass = 0
@@ -50,6 +60,7 @@ stepper_of (MarksPhase n) = 0
 stepper_of (Wakes k) = k
 stepper_of MarksClose = 0
 stepper_of (Ends k) = k
+stepper_of (Lowers keeper) = keeper
 
 -- the names that were asked for, after an act and after several
 abbrev pub asked_after_operation : Option Op → List ℕ → List ℕ
@@ -94,8 +105,13 @@ acts_of_chore idle (Chore.Tick epoch) = Ticks epoch ∷ []
 acts_of_chore idle Chore.Pass = MakesPass ∷ []
 acts_of_chore idle (Chore.Idle n) = ReadsEpoch ∷ idle_stops n idle
 
+-- that of a thread's operation, whose guard is kept by this actor, if it is guarded
+abbrev pub act_kept : Option ℕ → Op → Act
+act_kept None op = Operates op
+act_kept (Some keeper) op = Guards keeper op
+
 abbrev pub acts_of_work : List ℕ → Op → Work → List Act
-acts_of_work idle op (Work.Own task) = Operates op ∷ (Settles op.actor ∷ [])
+acts_of_work idle op (Work.Own task) = act_kept (keeper_of task) op ∷ (Settles op.actor ∷ [])
 acts_of_work idle op (Work.Chore chore) = acts_of_chore idle chore
 
 abbrev pub acts_of_what : List ℕ → Op → What → List Act
@@ -110,7 +126,7 @@ acts_of_ops idle ops = flat_map (acts_of_op idle) ops
 -- the acts of thread k's operations among those of a phase
 abbrev pub own_acts : ℕ → List Op → List Act
 own_acts k [] = []
-own_acts k (op ∷ ops) = if op.actor == k then Operates op ∷ (Settles op.actor ∷ own_acts k ops) else own_acts k ops
+own_acts k (op ∷ ops) = if op.actor == k then act_kept (keeper_in op.what) op ∷ (Settles op.actor ∷ own_acts k ops) else own_acts k ops
 
 -- the acts of the scavenger's operations among those of a phase in which these threads are idle
 abbrev pub scavenger_acts : List ℕ → List Op → List Act
@@ -121,16 +137,34 @@ scavenger_acts idle (op ∷ ops) = if op.actor == 0 then acts_of_op idle op ++ s
 abbrev pub phase_acts : ℕ → List Op → List Act
 phase_acts threads ops = map Wakes (active_threads threads ops) ++ acts_of_ops (idle_threads threads ops) ops
 
--- the close: a mark, and the end of each thread
-abbrev pub close_acts : ℕ → List Act
-close_acts threads = MarksClose ∷ map Ends (numbers_from 1 threads)
+-- the close: a mark, the end of each thread, and the last sweep of each of so many keepers, which are the actors behind the threads
+abbrev pub close_acts : ℕ → ℕ → List Act
+close_acts threads keepers = MarksClose ∷ (map Ends (numbers_from 1 threads) ++ map Lowers (numbers_from (threads + 1) keepers))
 
 -- the acts of the phases that are left, the first of which has this number
-abbrev pub acts_from : ℕ → ℕ → List (List Op) → List Act
-acts_from threads n [] = close_acts threads
-acts_from threads n (phase ∷ phases) = MarksPhase n ∷ (phase_acts threads phase ++ acts_from threads (n + 1) phases)
+abbrev pub acts_from : ℕ → ℕ → ℕ → List (List Op) → List Act
+acts_from threads keepers n [] = close_acts threads keepers
+acts_from threads keepers n (phase ∷ phases) = MarksPhase n ∷ (phase_acts threads phase ++ acts_from threads keepers (n + 1) phases)
 
--- the acts of a plan of so many threads; its first phase begins without a mark
-abbrev pub acts_of : ℕ → List (List Op) → List Act
-acts_of threads [] = close_acts threads
-acts_of threads (phase ∷ phases) = phase_acts threads phase ++ acts_from threads 2 phases
+-- the acts of a plan of so many threads and keepers; its first phase begins without a mark
+abbrev pub acts_of : ℕ → ℕ → List (List Op) → List Act
+acts_of threads keepers [] = close_acts threads keepers
+acts_of threads keepers (phase ∷ phases) = phase_acts threads phase ++ acts_from threads keepers 2 phases
+
+-- ---- of a plan
+-- the profile that its region is opened for: what is legal there, who sits there, and up to which actor records are arranged, goes by it. In a guarded trace
+-- it has twice as many actors
+abbrev pub region_of : Plan → Profile
+region_of plan = record plan.profile { threads = actors_by plan.guard plan.profile.threads }
+
+-- how many threads it has: they are its region's actors from 1 on, each has a cache, and they make its operations
+abbrev pub threads_of : Plan → ℕ
+threads_of plan = plan.profile.threads
+
+-- how many keepers it has: they are its region's actors behind the threads, one for each of them in a guarded trace, and have no caches
+abbrev pub keepers_of : Plan → ℕ
+keepers_of plan = if plan.guard == 0 then 0 else plan.profile.threads
+
+-- the acts that a replay of it does
+abbrev pub acts_of_plan : Plan → List Act
+acts_of_plan plan = acts_of (threads_of plan) (keepers_of plan) (map ops_of plan.phases.phases.items)

@@ -3,7 +3,7 @@ use Rattle.std.specs.Prelude.{ℕ, ◌+◌, Option, None, Some}
 use Rattle.pas_trace.specs.Reasons.{cost_of_size}
 use Rattle.pas_trace.specs.declared.item.Request.{Request}
 use Rattle.pas_trace.specs.declared.plan.What.{What}
-use Rattle.pas_trace.specs.declared.plan.What.TheVariants.{Alloc, Free, FreeSized, Raw, RawSized, Remake, Flush, Stop, Tick, Pass, Idle}
+use Rattle.pas_trace.specs.declared.plan.What.TheVariants.{Alloc, Guarded, Free, FreeSized, Raw, RawSized, Remake, Flush, Stop, Tick, Pass, Idle}
 use Rattle.pas_trace.specs.declared.plan.Task.{Task}
 use Rattle.pas_trace.specs.declared.plan.Chore.{Chore}
 use Rattle.pas_trace.specs.declared.plan.Work.{Work}
@@ -11,6 +11,7 @@ use Rattle.pas_trace.specs.declared.plan.Work.{Work}
 -- who acts, and for what
 abbrev pub work_of : What → Work
 work_of (Alloc name heap size align) = Work.Own (Task.Request name heap size align)
+work_of (Guarded keeper name heap size align) = Work.Own (Task.Guarded keeper name heap size align)
 work_of (Free name) = Work.Own (Task.Free name None)
 work_of (FreeSized name room) = Work.Own (Task.Free name (Some room))
 work_of (Raw block) = Work.Own (Task.FreeRaw block None)
@@ -26,6 +27,7 @@ work_of (Idle n) = Work.Chore (Chore.Idle n)
 -- a request: its name, its heap, how many bytes, and at a multiple of what
 abbrev pub request_of : Task → Option Request
 request_of (Task.Request name heap size align) = Some record { name = name; heap = heap; size = size; align = align }
+request_of (Task.Guarded keeper name heap size align) = Some record { name = name; heap = heap; size = size; align = align }
 request_of (Task.Free name room) = None
 request_of (Task.FreeRaw block room) = None
 request_of (Task.Remake name old heap size align) = Some record { name = name; heap = heap; size = size; align = align }
@@ -35,15 +37,27 @@ request_of Task.Stop = None
 -- the name that is freed or reallocated
 abbrev pub freed_of : Task → Option ℕ
 freed_of (Task.Request name heap size align) = None
+freed_of (Task.Guarded keeper name heap size align) = None
 freed_of (Task.Free name room) = Some name
 freed_of (Task.FreeRaw block room) = None
 freed_of (Task.Remake name old heap size align) = Some old
 freed_of Task.Flush = None
 freed_of Task.Stop = None
 
--- how many records it may make, beside deeds
+-- the actor that keeps its guard, where it is guarded
+abbrev pub keeper_of : Task → Option ℕ
+keeper_of (Task.Request name heap size align) = None
+keeper_of (Task.Guarded keeper name heap size align) = Some keeper
+keeper_of (Task.Free name room) = None
+keeper_of (Task.FreeRaw block room) = None
+keeper_of (Task.Remake name old heap size align) = None
+keeper_of Task.Flush = None
+keeper_of Task.Stop = None
+
+-- how many records it may make, beside deeds: a guarded request two more, that a guard went up and was lowered
 abbrev pub cost_of_task : Task → ℕ
 cost_of_task (Task.Request name heap size align) = cost_of_size size
+cost_of_task (Task.Guarded keeper name heap size align) = cost_of_size size + 2
 cost_of_task (Task.Free name room) = 1
 cost_of_task (Task.FreeRaw block room) = 1
 cost_of_task (Task.Remake name old heap size align) = cost_of_size size + 1
@@ -60,6 +74,9 @@ request_in what = of_task request_of (work_of what)
 
 abbrev pub freed_in : What → Option ℕ
 freed_in what = of_task freed_of (work_of what)
+
+abbrev pub keeper_in : What → Option ℕ
+keeper_in what = of_task keeper_of (work_of what)
 
 -- ---- what the scavenger is asked for
 -- the epoch, or the number of epochs, that it is told

@@ -3,7 +3,7 @@ use Rattle.std.specs.Prelude.{ℕ, ◌-◌, ◌^◌, ◌==◌, nat_lt, nat_le, B
 use Rattle.pas_trace.specs.Texts.{words_of}
 use Rattle.pas_trace.specs.Numbers.{number_of, address_of_word}
 use Rattle.pas_trace.specs.declared.item.Item.{Item}
-use Rattle.pas_trace.specs.declared.item.Item.TheVariants.{Blank, Shares, NextPhase, Operates, Scavenges}
+use Rattle.pas_trace.specs.declared.item.Item.TheVariants.{Blank, Shares, Guards, NextPhase, Operates, Scavenges}
 use Rattle.pas_trace.specs.declared.item.Wish.TheVariants.{Asks, Frees, FreesSized, FreesRaw, FreesRawSized, Remakes, Flushes, Stops}
 use Rattle.pas_trace.specs.declared.plan.Chore.{Chore}
 use Rattle.pas_trace.specs.declared.fault.Reason.{Reason}
@@ -63,14 +63,15 @@ item5 make (Some a) b c d e = item4 (make a) b c d e
 -- ---- which words begin lines of a version
 -- the version in which the word began a line first, where that isn't the first of all; of a word that begins no line nothing is said here
 abbrev pub since : List ℕ → Option ℕ
-since w = if same_bytes w (codes "fs") || same_bytes w (codes "rs") then Some 2 else (if same_bytes w (codes "m") then Some 4 else None)
+since w = if same_bytes w (codes "fs") || same_bytes w (codes "rs") then Some 2 else (if same_bytes w (codes "m") || same_bytes w (codes "guard") then Some 4 else None)
 
 abbrev pub has_since : ℕ → Option ℕ → Bool
 has_since version None = true
 has_since version (Some first) = nat_le first version
 
 -- ---- a line's words, by how many there are: the first word and the number of words choose the item
--- `started` says that an operation or a `phase` line stands before: a `shared` line may not follow it
+-- `started` says that an operation or a `phase` line stands before: a `shared` line may not follow it. A `guard` line says its number, if it has one:
+-- where it may stand, and what its number has to be, its checks ask (`guard_checks`), so that one in a wrong place has that fault
 abbrev pub item_of_one : List ℕ → Result Item Reason
 item_of_one w = if same_bytes w (codes "pass") then Ok (Scavenges Chore.Pass) else (if same_bytes w (codes "phase") then Ok NextPhase else Err Reason.BadWord)
 
@@ -80,7 +81,8 @@ item_of_two started w a =
     (if same_bytes w (codes "flush") then item1 (λ t. Operates t Flushes) (plain a) else
     (if same_bytes w (codes "stop") then item1 (λ t. Operates t Stops) (plain a) else
     (if same_bytes w (codes "tick") then item1 (λ e. Scavenges (Chore.Tick e)) (epoch_word a) else
-    (if same_bytes w (codes "idle") then item1 (λ n. Scavenges (Chore.Idle n)) (epoch_word a) else Err Reason.BadWord))))
+    (if same_bytes w (codes "idle") then item1 (λ n. Scavenges (Chore.Idle n)) (epoch_word a) else
+    (if same_bytes w (codes "guard") then Ok (Guards (plain a)) else Err Reason.BadWord)))))
 
 abbrev pub item_of_three : List ℕ → List ℕ → List ℕ → Result Item Reason
 item_of_three w a b = if same_bytes w (codes "f") then item2 (λ t n. Operates t (Frees n)) (plain a) (trace_name b) else Err Reason.BadWord

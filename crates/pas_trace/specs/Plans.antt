@@ -1,22 +1,22 @@
 -- The plan of a text, or its first fault.
-use Rattle.std.specs.Prelude.{ℕ, zero, suc, ◌+◌, ◌^◌, ◌<◌, ◌≡◌, ◌==◌, true, if◌then◌else◌, bit_or, List, [], ◌∷◌, ◌++◌, map, Option, None, Some, Result, Ok, Err}
+use Rattle.std.specs.Prelude.{ℕ, zero, suc, ◌+◌, ◌-◌, ◌^◌, ◌<◌, ◌≡◌, ◌==◌, ◌&&◌, nat_le, true, if◌then◌else◌, bit_or, List, [], ◌∷◌, ◌++◌, map, Option, None, Some, Result, Ok, Err}
 use Rattle.pas_profile.specs.Requests.{room_in}
 use Rattle.pas_profile.specs.declared.profile.Profile.{Profile}
 use Rattle.pas_profile.specs.declared.name.Name.{Name}
 use Rattle.pas_trace.specs.declared.header.Header.{Header}
 use Rattle.pas_trace.specs.Texts.{lines_of}
 use Rattle.pas_trace.specs.declared.item.Item.{Item}
-use Rattle.pas_trace.specs.declared.item.Item.TheVariants.{Blank, Shares, NextPhase, Operates, Scavenges}
+use Rattle.pas_trace.specs.declared.item.Item.TheVariants.{Blank, Shares, Guards, NextPhase, Operates, Scavenges}
 use Rattle.pas_trace.specs.declared.item.Wish.{Wish}
 use Rattle.pas_trace.specs.declared.item.Wish.TheVariants.{Asks, Frees, FreesSized, FreesRaw, FreesRawSized, Remakes, Flushes, Stops}
 use Rattle.pas_trace.specs.declared.plan.Chore.{Chore}
-use Rattle.pas_trace.specs.Reasons.{header_of, line_says, is_named, heap_of, actor_of, cost_of, record_bound}
+use Rattle.pas_trace.specs.Reasons.{header_of, line_says, is_named, heap_of, actor_of, guard_in, is_guarded, actors_by, cost_of, record_bound}
 use Rattle.pas_trace.specs.declared.fault.Reason.{Reason}
 use Rattle.pas_trace.specs.declared.fault.TraceFault.{TraceFault}
 use Rattle.pas_trace.specs.declared.fault.ReadFault.{ReadFault}
 use Rattle.pas_trace.specs.declared.fault.ReadFault.TheVariants.{Trace, NoMemory}
 use Rattle.pas_trace.specs.declared.plan.What.{What}
-use Rattle.pas_trace.specs.declared.plan.What.TheVariants.{Alloc, Free, FreeSized, Raw, RawSized, Remake, Flush, Stop, Tick, Pass, Idle}
+use Rattle.pas_trace.specs.declared.plan.What.TheVariants.{Alloc, Guarded, Free, FreeSized, Raw, RawSized, Remake, Flush, Stop, Tick, Pass, Idle}
 use Rattle.pas_trace.specs.declared.plan.Op.{Op}
 use Rattle.pas_trace.specs.declared.plan.Phase.{Phase}
 use Rattle.pas_trace.specs.declared.plan.Phases.{Phases}
@@ -61,6 +61,7 @@ parsed text = parsed_lines (lines_of text)
 abbrev pub shared_by : Item → ℕ → ℕ
 shared_by Blank marks = marks
 shared_by (Shares h) marks = bit_or marks (2 ^ h)
+shared_by (Guards n) marks = marks
 shared_by NextPhase marks = marks
 shared_by (Operates t w) marks = marks
 shared_by (Scavenges c) marks = marks
@@ -75,17 +76,25 @@ name_at address turn = record { address = record { 0 = address }; turn = turn }
 abbrev pub operation : ℕ → ℕ → What → Op
 operation line actor what = record { line = line; actor = actor; what = what }
 
--- what a wish and a chore are in a plan, where earlier names have these heaps. A free that names a size and an alignment names the room that a
--- request for them gets in the region
-abbrev pub what_wished : Profile → (ℕ → ℕ) → Wish → What
-what_wished f heaps (Asks n h s a) = Alloc n h s a
-what_wished f heaps (Frees n) = Free n
-what_wished f heaps (FreesSized n s a) = FreeSized n (room_in f s a)
-what_wished f heaps (FreesRaw b n) = Raw (name_at b n)
-what_wished f heaps (FreesRawSized b n s a) = RawSized (room_in f s a) (name_at b n)
-what_wished f heaps (Remakes n o s a) = Remake n o (heaps o) s a
-what_wished f heaps Flushes = Flush
-what_wished f heaps Stops = Stop
+-- the keeper of a guarded request: the actor behind all threads that has its thread's place among the keepers
+abbrev pub keeper_for : Profile → List Item → Item → Option ℕ
+keeper_for f earlier i = if is_guarded earlier i then Some (f.threads + actor_of i) else None
+
+-- what a wish and a chore are in a plan, where earlier names have these heaps, and this keeper keeps the guard of a request, if it is guarded. A free that names a size
+-- and an alignment names the room that a request for them gets in the region
+abbrev pub request_kept : Option ℕ → ℕ → ℕ → ℕ → ℕ → What
+request_kept None n h s a = Alloc n h s a
+request_kept (Some keeper) n h s a = Guarded keeper n h s a
+
+abbrev pub what_wished : Profile → (ℕ → ℕ) → Option ℕ → Wish → What
+what_wished f heaps keeper (Asks n h s a) = request_kept keeper n h s a
+what_wished f heaps keeper (Frees n) = Free n
+what_wished f heaps keeper (FreesSized n s a) = FreeSized n (room_in f s a)
+what_wished f heaps keeper (FreesRaw b n) = Raw (name_at b n)
+what_wished f heaps keeper (FreesRawSized b n s a) = RawSized (room_in f s a) (name_at b n)
+what_wished f heaps keeper (Remakes n o s a) = Remake n o (heaps o) s a
+what_wished f heaps keeper Flushes = Flush
+what_wished f heaps keeper Stops = Stop
 
 abbrev pub what_of_chore : Chore → What
 what_of_chore (Chore.Tick epoch) = Tick epoch
@@ -93,12 +102,13 @@ what_of_chore Chore.Pass = Pass
 what_of_chore (Chore.Idle n) = Idle n
 
 -- an item's operation, where it is one
-abbrev pub operation_of : Profile → (ℕ → ℕ) → ℕ → Item → Option Op
-operation_of f heaps line Blank = None
-operation_of f heaps line (Shares h) = None
-operation_of f heaps line NextPhase = None
-operation_of f heaps line (Operates t w) = Some (operation line t (what_wished f heaps w))
-operation_of f heaps line (Scavenges c) = Some (operation line 0 (what_of_chore c))
+abbrev pub operation_of : Profile → (ℕ → ℕ) → Option ℕ → ℕ → Item → Option Op
+operation_of f heaps keeper line Blank = None
+operation_of f heaps keeper line (Shares h) = None
+operation_of f heaps keeper line (Guards n) = None
+operation_of f heaps keeper line NextPhase = None
+operation_of f heaps keeper line (Operates t w) = Some (operation line t (what_wished f heaps keeper w))
+operation_of f heaps keeper line (Scavenges c) = Some (operation line 0 (what_of_chore c))
 
 -- the phases so far, with their operations in order, from the items (newest first): a `phase` line begins an empty one, and an operation goes
 -- to the end of the last one
@@ -113,30 +123,41 @@ abbrev pub line_of_newest : List Item → ℕ
 line_of_newest [] = 1
 line_of_newest (i ∷ earlier) = line_of_newest earlier + 1
 
-abbrev pub phases_after : Profile → (ℕ → ℕ) → Item → ℕ → List (List Op) → List (List Op)
-phases_after f heaps Blank line phases = phases
-phases_after f heaps (Shares h) line phases = phases
-phases_after f heaps NextPhase line phases = phases ++ [] ∷ []
-phases_after f heaps (Operates t w) line phases = add_last (operation_of f heaps line (Operates t w)) phases
-phases_after f heaps (Scavenges c) line phases = add_last (operation_of f heaps line (Scavenges c)) phases
+abbrev pub phases_after : Profile → (ℕ → ℕ) → Option ℕ → Item → ℕ → List (List Op) → List (List Op)
+phases_after f heaps keeper Blank line phases = phases
+phases_after f heaps keeper (Shares h) line phases = phases
+phases_after f heaps keeper (Guards n) line phases = phases
+phases_after f heaps keeper NextPhase line phases = phases ++ [] ∷ []
+phases_after f heaps keeper (Operates t w) line phases = add_last (operation_of f heaps keeper line (Operates t w)) phases
+phases_after f heaps keeper (Scavenges c) line phases = add_last (operation_of f heaps keeper line (Scavenges c)) phases
 
 abbrev pub phases_in : Profile → List Item → List (List Op)
 phases_in f [] = [] ∷ []
-phases_in f (i ∷ earlier) = phases_after f (heap_of earlier) i (line_of_newest (i ∷ earlier)) (phases_in f earlier)
+phases_in f (i ∷ earlier) = phases_after f (heap_of earlier) (keeper_for f earlier i) i (line_of_newest (i ∷ earlier)) (phases_in f earlier)
 
 -- the costs of an actor's own operations
 abbrev pub own_costs : Profile → ℕ → List Item → ℕ
 own_costs f k [] = 0
-own_costs f k (i ∷ earlier) = if actor_of i == k then own_costs f k earlier + cost_of f i else own_costs f k earlier
+own_costs f k (i ∷ earlier) = if actor_of i == k then own_costs f k earlier + cost_of f (guard_in earlier) i else own_costs f k earlier
 
--- an actor's bound: for a thread a deed for each page and its costs, for the scavenger its costs
+-- what the keeper of thread k may make for its guarded requests: for each one, and one for each page, as without a guard
+abbrev pub kept_costs : Profile → ℕ → List Item → ℕ
+kept_costs f k [] = 0
+kept_costs f k (i ∷ earlier) = if is_guarded earlier i && (actor_of i == k) then kept_costs f k earlier + cost_of f 0 i else kept_costs f k earlier
+
+-- an actor's bound: for a thread a deed for each page and its costs, for the scavenger its costs; for a keeper a deed for each page, and what it may make for the
+-- guarded requests of its thread
 abbrev pub bound_of : Profile → List Item → ℕ → ℕ
-bound_of f items k = if k == 0 then own_costs f 0 items else f.pages + own_costs f k items
+bound_of f items k = if k == 0 then own_costs f 0 items else (if nat_le k f.threads then f.pages + own_costs f k items else f.pages + kept_costs f (k - f.threads) items)
 
 -- the bounds of the actors below n, in order
 abbrev pub bounds_upto : Profile → List Item → ℕ → List ℕ
 bounds_upto f items zero = []
 bounds_upto f items (suc n) = bounds_upto f items n ++ bound_of f items n ∷ []
+
+-- .. of the scavenger and all actors
+abbrev pub all_bounds : Profile → List Item → List ℕ
+all_bounds f items = bounds_upto f items (actors_by (guard_in items) f.threads + 1)
 
 -- the operations of a phase as a list
 abbrev pub ops_of : Phase → List Op
@@ -153,15 +174,16 @@ bounds_of bounds = bounds.bounds.items
 abbrev pub AreNamedBelow : ℕ → List Item → Type 0
 AreNamedBelow limit items = (name : ℕ) → is_named items name ≡ true → name < limit
 
--- The plan is that of the text: its version, its region, its phases, its bounds and its total, and a limit above its names.
+-- The plan is that of the text: its version, its region, the number of its `guard` line, its phases, its bounds and its total, and a limit above its names.
 pub record IsPlanOf (text : List ℕ) (plan : Plan) : Type 0 where
   pub items : List Item
   pub header : Header
   pub read : parsed text ≡ Ok (record { header = header; items = items })
   pub version : plan.version ≡ header.version
   pub profile : plan.profile ≡ record header.profile { shared = shared_in items }
+  pub guard : plan.guard ≡ guard_in items
   pub phases : map ops_of (phases_of plan.phases) ≡ phases_in header.profile items
-  pub bounds : bounds_of plan.bounds ≡ bounds_upto header.profile items (header.profile.threads + 1)
+  pub bounds : bounds_of plan.bounds ≡ all_bounds header.profile items
   pub total : plan.total ≡ record_bound header.profile items
   pub names : AreNamedBelow plan.names_limit items
 

@@ -5,11 +5,11 @@ use Rattle.pas_trace.specs.Texts.{words_of}
 use Rattle.pas_trace.specs.Numbers.{number_of}
 use Rattle.pas_trace.specs.declared.header.Header.{Header}
 use Rattle.pas_trace.specs.declared.item.Item.{Item}
-use Rattle.pas_trace.specs.declared.item.Item.TheVariants.{Blank, Shares, NextPhase, Operates, Scavenges}
+use Rattle.pas_trace.specs.declared.item.Item.TheVariants.{Blank, Shares, Guards, NextPhase, Operates, Scavenges}
 use Rattle.pas_trace.specs.declared.item.Wish.{Wish}
 use Rattle.pas_trace.specs.declared.item.Wish.TheVariants.{Asks, Frees, FreesSized, FreesRaw, FreesRawSized, Remakes, Flushes, Stops}
 use Rattle.pas_trace.specs.declared.plan.Chore.{Chore}
-use Rattle.pas_trace.specs.Wishes.{heap_in, sizing_in, name_made, name_freed, heap_made, holds_of, is_name}
+use Rattle.pas_trace.specs.Wishes.{heap_in, sizing_in, name_made, name_freed, heap_made, asks_pages, holds_of, is_name}
 use Rattle.pas_trace.specs.Items.{same_bytes, item_of_line}
 use Rattle.pas_trace.specs.declared.fault.Reason.{Reason}
 
@@ -53,6 +53,7 @@ header_of line = header_of_words (words_of line)
 abbrev pub is_operation : Item → Bool
 is_operation Blank = false
 is_operation (Shares h) = false
+is_operation (Guards n) = false
 is_operation NextPhase = false
 is_operation (Operates t w) = true
 is_operation (Scavenges c) = true
@@ -60,6 +61,7 @@ is_operation (Scavenges c) = true
 abbrev pub is_phase : Item → Bool
 is_phase Blank = false
 is_phase (Shares h) = false
+is_phase (Guards n) = false
 is_phase NextPhase = true
 is_phase (Operates t w) = false
 is_phase (Scavenges c) = false
@@ -77,6 +79,7 @@ operations_in (i ∷ earlier) = if is_operation i then operations_in earlier + 1
 abbrev pub makes : Item → ℕ → Bool
 makes Blank name = false
 makes (Shares h) name = false
+makes (Guards n) name = false
 makes NextPhase name = false
 makes (Operates t w) name = is_name (name_made w) name
 makes (Scavenges c) name = false
@@ -95,6 +98,7 @@ is_named_now (i ∷ earlier) name = if is_phase i then false else (makes i name 
 abbrev pub actor_of : Item → ℕ
 actor_of Blank = 0
 actor_of (Shares h) = 0
+actor_of (Guards n) = 0
 actor_of NextPhase = 0
 actor_of (Operates t w) = t
 actor_of (Scavenges c) = 0
@@ -108,6 +112,7 @@ thread_of (i ∷ earlier) name = if makes i name then actor_of i else thread_of 
 abbrev pub heap_of_item : (ℕ → ℕ) → Item → ℕ
 heap_of_item heaps Blank = 0
 heap_of_item heaps (Shares h) = 0
+heap_of_item heaps (Guards n) = 0
 heap_of_item heaps NextPhase = 0
 heap_of_item heaps (Operates t w) = heap_made heaps w
 heap_of_item heaps (Scavenges c) = 0
@@ -115,6 +120,49 @@ heap_of_item heaps (Scavenges c) = 0
 abbrev pub heap_of : List Item → ℕ → ℕ
 heap_of [] name = 0
 heap_of (i ∷ earlier) name = if makes i name then heap_of_item (heap_of earlier) i else heap_of earlier name
+
+-- ---- guarded sampling
+-- the number of the `guard` line, after an item; 0 where there was none
+abbrev pub guard_with : Option ℕ → ℕ → ℕ
+guard_with None guard = guard
+guard_with (Some n) guard = n
+
+abbrev pub guard_after : Item → ℕ → ℕ
+guard_after Blank guard = guard
+guard_after (Shares h) guard = guard
+guard_after (Guards n) guard = guard_with n guard
+guard_after NextPhase guard = guard
+guard_after (Operates t w) guard = guard
+guard_after (Scavenges c) guard = guard
+
+abbrev pub guard_in : List Item → ℕ
+guard_in [] = 0
+guard_in (i ∷ earlier) = guard_after i (guard_in earlier)
+
+-- an item is a request for whole pages
+abbrev pub is_large_request : Item → Bool
+is_large_request Blank = false
+is_large_request (Shares h) = false
+is_large_request (Guards n) = false
+is_large_request NextPhase = false
+is_large_request (Operates t w) = asks_pages w
+is_large_request (Scavenges c) = false
+
+-- how many of them the thread made
+abbrev pub large_requests : ℕ → List Item → ℕ
+large_requests t [] = 0
+large_requests t (i ∷ earlier) = if is_large_request i && (actor_of i == t) then large_requests t earlier + 1 else large_requests t earlier
+
+-- Of a thread's requests for whole pages, counted from 1 in the order of the text, each is guarded whose number is a multiple of that of the `guard` line.
+abbrev pub is_sampled : ℕ → ℕ → Bool
+is_sampled guard number = not (guard == 0) && (number % guard == 0)
+
+abbrev pub is_guarded : List Item → Item → Bool
+is_guarded earlier i = is_large_request i && is_sampled (guard_in earlier) (large_requests (actor_of i) earlier + 1)
+
+-- The actors of a trace of so many threads, beside the scavenger: its threads, and, where there is a `guard` line, behind them a keeper for each.
+abbrev pub actors_by : ℕ → ℕ → ℕ
+actors_by guard threads = if guard == 0 then threads else 2 * threads
 
 -- ---- how many records an item may make
 -- whole pages that hold so many bytes
@@ -125,16 +173,20 @@ pages_for size = (size + 4095) / 4096
 abbrev pub cost_of_size : ℕ → ℕ
 cost_of_size size = if nat_le size 2048 then 2 else 1 + pages_for size
 
+-- .. by the number of the `guard` line: in a guarded trace two more where it is for whole pages, for a guard that goes up and is lowered
+abbrev pub cost_of_request : ℕ → ℕ → ℕ
+cost_of_request guard size = if nat_le size 2048 then 2 else (if guard == 0 then 1 + pages_for size else 3 + pages_for size)
+
 -- of an operation of a thread
-abbrev pub cost_of_wish : Wish → ℕ
-cost_of_wish (Asks n h s a) = cost_of_size s
-cost_of_wish (Frees n) = 1
-cost_of_wish (FreesSized n s a) = 1
-cost_of_wish (FreesRaw b n) = 1
-cost_of_wish (FreesRawSized b n s a) = 1
-cost_of_wish (Remakes n o s a) = cost_of_size s + 1
-cost_of_wish Flushes = 0
-cost_of_wish Stops = 0
+abbrev pub cost_of_wish : ℕ → Wish → ℕ
+cost_of_wish guard (Asks n h s a) = cost_of_request guard s
+cost_of_wish guard (Frees n) = 1
+cost_of_wish guard (FreesSized n s a) = 1
+cost_of_wish guard (FreesRaw b n) = 1
+cost_of_wish guard (FreesRawSized b n s a) = 1
+cost_of_wish guard (Remakes n o s a) = cost_of_request guard s + 1
+cost_of_wish guard Flushes = 0
+cost_of_wish guard Stops = 0
 
 -- of one of the scavenger
 abbrev pub records_of_chore : Profile → Chore → ℕ
@@ -142,20 +194,22 @@ records_of_chore f (Chore.Tick epoch) = 1
 records_of_chore f Chore.Pass = 1 + f.pages
 records_of_chore f (Chore.Idle n) = f.threads
 
-abbrev pub cost_of : Profile → Item → ℕ
-cost_of f Blank = 0
-cost_of f (Shares h) = 0
-cost_of f NextPhase = 0
-cost_of f (Operates t w) = cost_of_wish w
-cost_of f (Scavenges c) = records_of_chore f c
+abbrev pub cost_of : Profile → ℕ → Item → ℕ
+cost_of f guard Blank = 0
+cost_of f guard (Shares h) = 0
+cost_of f guard (Guards n) = 0
+cost_of f guard NextPhase = 0
+cost_of f guard (Operates t w) = cost_of_wish guard w
+cost_of f guard (Scavenges c) = records_of_chore f c
 
+-- each by the `guard` line before it
 abbrev pub costs_of : Profile → List Item → ℕ
 costs_of f [] = 0
-costs_of f (i ∷ earlier) = costs_of f earlier + cost_of f i
+costs_of f (i ∷ earlier) = costs_of f earlier + cost_of f (guard_in earlier) i
 
--- the bound of the records: a deed for each thread and page, and the costs
+-- the bound of the records: a deed for each actor and page, and the costs
 abbrev pub record_bound : Profile → List Item → ℕ
-record_bound f items = f.threads * f.pages + costs_of f items
+record_bound f items = actors_by (guard_in items) f.threads * f.pages + costs_of f items
 
 -- ---- the checks of one item, in the order of the reasons; the first that fails gives the reason
 abbrev pub first_failed : List (Bool × Reason) → Option Reason
@@ -190,9 +244,19 @@ own_checks f is_known may_free t w few =
 abbrev pub may_free : List Item → ℕ → ℕ → Bool
 may_free earlier t name = (t == thread_of earlier name) || not (is_named_now earlier name)
 
+-- A `guard` line stands before the first operation and `phase` line, and there is one at most. Its number is from 1 to 1,000,000, and the region has room for the keepers: for
+-- as many actors more as threads, 16 at most.
+abbrev pub is_guard_number : Option ℕ → Bool
+is_guard_number None = false
+is_guard_number (Some n) = nat_le 1 n && nat_le n 1000000
+
+abbrev pub guard_checks : Profile → Bool → ℕ → Option ℕ → List (Bool × Reason)
+guard_checks f begun guard n = (not begun && (guard == 0), Reason.BadWord) ∷ (is_guard_number n, Reason.BadNumber) ∷ (nat_le f.threads 8, Reason.BadThread) ∷ []
+
 abbrev pub checks_of : Profile → List Item → Item → List (Bool × Reason)
 checks_of f earlier Blank = []
 checks_of f earlier (Shares h) = (nat_lt h f.heaps, Reason.BadHeap) ∷ []
+checks_of f earlier (Guards n) = guard_checks f (started earlier) (guard_in earlier) n
 checks_of f earlier NextPhase = []
 checks_of f earlier (Operates t w) = own_checks f (is_named earlier) (may_free earlier t) t w (few_enough (operations_in earlier) (record_bound f (Operates t w ∷ earlier)))
 checks_of f earlier (Scavenges c) = few_enough (operations_in earlier) (record_bound f (Scavenges c ∷ earlier))

@@ -2,15 +2,15 @@
 use Rattle.std.specs.Prelude.{if◌then◌else◌, ℕ, ◌+◌, ◌*◌, ◌==◌, ◌≡◌, ◌≤◌, ◌<◌, nat_lt, nat_le, Bool, true, not, ◌&&◌, ◌||◌, List, [], ◌∷◌, ◌++◌, map, length, Option, None, Some, Result, Ok, Err, slice_index, slice_index_or, slice_set}
 use Rattle.pas_profile.specs.Profiles.{IsValid}
 use Rattle.pas_trace.specs.declared.header.Header.{Header}
-use Rattle.pas_trace.specs.Wishes.{name_made, heap_made, is_name}
-use Rattle.pas_trace.specs.Reasons.{header_of, first_failed, is_thread, is_alignment, few_enough, own_checks, cost_of_wish, records_of_chore, started, operations_in, is_named, is_named_now, thread_of, heap_of, record_bound, line_says, reason_of}
+use Rattle.pas_trace.specs.Wishes.{name_made, heap_made, asks_pages, is_name}
+use Rattle.pas_trace.specs.Reasons.{header_of, first_failed, is_thread, is_alignment, few_enough, own_checks, guard_checks, guard_with, guard_in, large_requests, is_sampled, cost_of_wish, records_of_chore, started, operations_in, is_named, is_named_now, thread_of, heap_of, record_bound, line_says, reason_of}
 use Rattle.pas_trace.specs.declared.fault.Reason.{Reason}
 use Rattle.pas_trace.specs.declared.item.Item.{Item}
-use Rattle.pas_trace.specs.declared.item.Item.TheVariants.{Blank, Shares, NextPhase, Operates, Scavenges}
+use Rattle.pas_trace.specs.declared.item.Item.TheVariants.{Blank, Shares, Guards, NextPhase, Operates, Scavenges}
 use Rattle.pas_trace.specs.declared.item.Wish.{Wish}
 use Rattle.pas_trace.specs.declared.reader.Reader.{Reader}
 use Rattle.pas_trace.specs.Texts.{lines_of}
-use Rattle.pas_trace.specs.Plans.{ops_of, phases_of, bounds_of, phases_in, shared_in, line_of_newest, own_costs, bounds_upto, AreNamedBelow, add_last, operation, what_wished, fault_at, items_from}
+use Rattle.pas_trace.specs.Plans.{ops_of, phases_of, bounds_of, phases_in, shared_in, line_of_newest, own_costs, kept_costs, all_bounds, AreNamedBelow, add_last, operation, what_wished, fault_at, items_from}
 use Rattle.pas_trace.specs.declared.plan.Op.{Op}
 use Rattle.pas_trace.specs.declared.plan.What.{What}
 use Rattle.pas_trace.specs.declared.plan.Plan.{Plan}
@@ -20,6 +20,8 @@ use Rattle.pas_trace.specs.declared.counts.Counts.{Counts}
 use Rattle.pas_trace.specs.declared.names.Owner.{Owner}
 use Rattle.pas_trace.specs.declared.names.Names.{Names}
 use Rattle.pas_trace.specs.declared.gathered.Gathered.{Gathered}
+use Rattle.pas_trace.specs.declared.samples.Samples.{Samples}
+use Rattle.pas_profile.specs.declared.profile.Profile.{Profile}
 
 -- the owner that the names give a name
 abbrev pub owner_in : Names → ℕ → Owner
@@ -58,8 +60,9 @@ freed_told r t n = (has_owner r n, Reason.NameUnknown) ∷ (may_free_told r t n,
 abbrev pub told_checks : Reader → Item → List (Bool × Reason)
 told_checks r Blank = []
 told_checks r (Shares h) = (nat_lt h r.header.profile.heaps, Reason.BadHeap) ∷ []
+told_checks r (Guards n) = guard_checks r.header.profile r.started r.samples.guard n
 told_checks r NextPhase = []
-told_checks r (Operates t w) = own_checks r.header.profile (has_owner r) (may_free_told r t) t w (few_told r (cost_of_wish w))
+told_checks r (Operates t w) = own_checks r.header.profile (has_owner r) (may_free_told r t) t w (few_told r (cost_of_wish r.samples.guard w))
 told_checks r (Scavenges c) = few_told r (records_of_chore r.header.profile c)
 
 abbrev pub reason_told : Reader → ℕ → Wish → Option Reason
@@ -85,6 +88,14 @@ pub record NameTold (owner : Owner) (phase : ℕ) (items : List Item) (n : ℕ) 
   pub now : is_named_now items n ≡ (not (owner.thread == 0) && (owner.phase == phase))
   pub before : owner.phase ≤ phase
 
+-- which requests are guarded, after these items
+pub record TellsSamples (f : Profile) (s : Samples) (items : List Item) : Type 0 where
+  pub guard : s.guard ≡ guard_in items
+  pub width : length s.larges ≡ 17
+  pub larges : (k : ℕ) → k < 17 → slice_index s.larges k ≡ large_requests k items
+  pub kept_width : length s.kept ≡ 17
+  pub kept : (k : ℕ) → k < 17 → slice_index s.kept k ≡ kept_costs f k items
+
 pub record Tells (r : Reader) (items : List Item) : Type 0 where
   pub header : IsValid r.header.profile
   pub shared : r.shared ≡ shared_in items
@@ -97,6 +108,7 @@ pub record Tells (r : Reader) (items : List Item) : Type 0 where
   pub small : r.counts.bound ≤ 2000000
   pub width : length r.counts.costs ≡ 17
   pub costs : (k : ℕ) → k < 17 → slice_index r.counts.costs k ≡ own_costs r.header.profile k items
+  pub samples : TellsSamples r.header.profile r.samples items
   pub phases : gathered_phases r.gathered ≡ phases_in r.header.profile items
 
 -- an operation of the actor may be counted
@@ -106,6 +118,34 @@ pub record IsReady (counts : Counts) (actor cost : ℕ) : Type 0 where
   pub small : counts.bound + cost ≤ 2000000
   pub within : slice_index counts.costs actor ≤ counts.bound
 
+-- a request of the thread may be counted
+pub record CanSample (s : Samples) (thread : ℕ) : Type 0 where
+  pub place : thread < length s.larges
+  pub kept_place : thread < length s.kept
+  pub larges : slice_index s.larges thread ≤ 1000000
+  pub kept : slice_index s.kept thread ≤ 2000000
+
+-- the thread's next request for whole pages is guarded
+abbrev pub samples_next : Samples → ℕ → Bool
+samples_next s thread = is_sampled s.guard (slice_index s.larges thread + 1)
+
+-- .. of so many bytes, where this many records of it are its keeper's
+abbrev pub larges_after : Samples → ℕ → Bool → List ℕ
+larges_after s thread large = if large then slice_set s.larges thread (slice_index s.larges thread + 1) else s.larges
+
+abbrev pub kept_after : Samples → ℕ → Bool → ℕ → List ℕ
+kept_after s thread guarded cost = if guarded then slice_set s.kept thread (slice_index s.kept thread + cost) else s.kept
+
+-- a request of the thread was counted, where it is for whole pages
+pub record IsSampled (old new : Samples) (thread : ℕ) (large : Bool) (cost : ℕ) : Type 0 where
+  pub guard : new.guard ≡ old.guard
+  pub larges : new.larges ≡ larges_after old thread large
+  pub kept : new.kept ≡ kept_after old thread (large && samples_next old thread) cost
+
+-- the keeper of a wish of the thread, by what the reader keeps
+abbrev pub keeper_told : Reader → ℕ → Wish → Option ℕ
+keeper_told r thread w = if asks_pages w && samples_next r.samples thread then Some (r.header.profile.threads + thread) else None
+
 -- an operation was counted and added
 pub record IsCounted (old new : Reader) (actor : ℕ) (what : What) (cost : ℕ) : Type 0 where
   pub header : new.header ≡ old.header
@@ -114,16 +154,19 @@ pub record IsCounted (old new : Reader) (actor : ℕ) (what : What) (cost : ℕ)
   pub line : new.line ≡ old.line
   pub phase : new.phase ≡ old.phase
   pub names : (n : ℕ) → owner_in new.names n ≡ owner_in old.names n
+  pub samples : new.samples ≡ old.samples
   pub operations : new.counts.operations ≡ old.counts.operations + 1
   pub bound : new.counts.bound ≡ old.counts.bound + cost
   pub costs : new.counts.costs ≡ slice_set old.counts.costs actor (slice_index old.counts.costs actor + cost)
   pub phases : gathered_phases new.gathered ≡ add_last (Some (operation old.line actor what)) (gathered_phases old.gathered)
 
--- .. and the name that it makes was given to its thread
+-- .. the name that it makes was given to its thread, and a request for whole pages was counted
 pub record IsOperated (old new : Reader) (actor : ℕ) (wish : Wish) (cost : ℕ) : Type 0 where
   pub names : Names
+  pub samples : Samples
+  pub sampled : IsSampled old.samples samples actor (asks_pages wish) (cost_of_wish 0 wish)
   pub given : (n : ℕ) → owner_in names n ≡ (if is_name (name_made wish) n then record { thread = actor; heap = heap_made (heap_told old) wish; phase = old.phase } else owner_in old.names n)
-  pub counted : IsCounted (record old { names = names }) new actor (what_wished old.header.profile (heap_told old) wish) cost
+  pub counted : IsCounted (record old { names = names; samples = samples }) new actor (what_wished old.header.profile (heap_told old) (keeper_told old actor wish) wish) cost
 
 -- the next phase was begun
 pub record IsNextPhase (old new : Reader) : Type 0 where
@@ -133,8 +176,23 @@ pub record IsNextPhase (old new : Reader) : Type 0 where
   pub line : new.line ≡ old.line
   pub phase : new.phase ≡ old.phase + 1
   pub names : (n : ℕ) → owner_in new.names n ≡ owner_in old.names n
+  pub samples : new.samples ≡ old.samples
   pub counts : new.counts ≡ old.counts
   pub phases : gathered_phases new.gathered ≡ gathered_phases old.gathered ++ [] ∷ []
+
+-- from now on of each thread's requests for whole pages one in so many is guarded
+pub record IsGuarding (old new : Reader) (number : Option ℕ) : Type 0 where
+  pub header : new.header ≡ old.header
+  pub shared : new.shared ≡ old.shared
+  pub started : new.started ≡ old.started
+  pub line : new.line ≡ old.line
+  pub phase : new.phase ≡ old.phase
+  pub names : (n : ℕ) → owner_in new.names n ≡ owner_in old.names n
+  pub samples : new.samples ≡ record old.samples { guard = guard_with number old.samples.guard }
+  pub operations : new.counts.operations ≡ old.counts.operations
+  pub bound : new.counts.bound ≡ old.counts.bound + old.header.profile.threads * old.header.profile.pages
+  pub costs : new.counts.costs ≡ old.counts.costs
+  pub phases : gathered_phases new.gathered ≡ gathered_phases old.gathered
 
 -- an item was added
 pub record IsAdded (old new : Reader) (item : Item) : Type 0 where
@@ -177,7 +235,8 @@ pub record IsBegun (text : List ℕ) (r : Reader) (rest : List ℕ) : Type 0 whe
 pub record IsPlanned (header : Header) (items : List Item) (plan : Plan) : Type 0 where
   pub version : plan.version ≡ header.version
   pub profile : plan.profile ≡ record header.profile { shared = shared_in items }
+  pub guard : plan.guard ≡ guard_in items
   pub phases : map ops_of (phases_of plan.phases) ≡ phases_in header.profile items
-  pub bounds : bounds_of plan.bounds ≡ bounds_upto header.profile items (header.profile.threads + 1)
+  pub bounds : bounds_of plan.bounds ≡ all_bounds header.profile items
   pub total : plan.total ≡ record_bound header.profile items
   pub names : AreNamedBelow plan.names_limit items

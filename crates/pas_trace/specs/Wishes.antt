@@ -1,5 +1,5 @@
 -- What an operation of a thread asks for, by few tables: one for each value that a check asks for, with a line for each wish.
-use Rattle.std.specs.Prelude.{ℕ, ◌*◌, ◌<◌, ◌≤◌, ◌^◌, ◌==◌, Bool, true, false, Option, None, Some, MatchOption}
+use Rattle.std.specs.Prelude.{ℕ, not, nat_le, ◌*◌, ◌<◌, ◌≤◌, ◌^◌, ◌==◌, Bool, true, false, Option, None, Some, MatchOption}
 use Rattle.pas_profile.specs.Classes.{IsAlignment}
 use Rattle.pas_profile.specs.declared.profile.Profile.{Profile}
 use Rattle.pas_trace.specs.declared.item.Request.{Request}
@@ -54,6 +54,21 @@ name_freed (FreesRawSized b n s a) = None
 name_freed (Remakes n o s a) = Some o
 name_freed Flushes = None
 name_freed Stops = None
+
+-- a block of so many bytes has whole pages: no class and no bit-fit page serves more than 2,048
+abbrev pub is_large : ℕ → Bool
+is_large size = not (nat_le size 2048)
+
+-- it is a request for whole pages
+abbrev pub asks_pages : Wish → Bool
+asks_pages (Asks n h s a) = is_large s
+asks_pages (Frees n) = false
+asks_pages (FreesSized n s a) = false
+asks_pages (FreesRaw b n) = false
+asks_pages (FreesRawSized b n s a) = false
+asks_pages (Remakes n o s a) = false
+asks_pages Flushes = false
+asks_pages Stops = false
 
 -- ---- what is said by them
 -- a test of a value holds where there is none

@@ -34,6 +34,17 @@ impl Counts {
         }
     }
 
+    /// Counts a deed more for each thread and page: that of its keeper.
+    pub fn add_keepers(&mut self, header: &Profile)
+        requires valid { IsValid header.now }
+        requires small { self.old.bound ≤ 2000000 }
+        ensures operations { self.new.operations ≡ self.old.operations }
+        ensures bound { self.new.bound ≡ self.old.bound + header.now.threads * header.now.pages }
+        ensures costs { self.new.costs ≡ self.old.costs }
+    {
+        self.bound += header.threads as u32 * header.pages;
+    }
+
     /// Counts an operation of the actor.
     #[inline(always)]
     pub fn add(&mut self, actor: u8, cost: u32)

@@ -64,6 +64,8 @@ pub enum Item {
     Blank,
     /// This heap is shared.
     Shares(u64),
+    /// Of each thread's requests for whole pages one in so many is guarded. None where the line names no number.
+    Guards(Option<u64>),
     /// The next phase begins.
     NextPhase,
     /// An operation of the thread.

@@ -1,5 +1,5 @@
 //! From a line to what it says.
-ghost use Rattle.std.specs.Prelude.{◌≡◌, ℕ, Option, Some, None, MatchResult};
+ghost use Rattle.std.specs.Prelude.{◌≡◌, Some, None, MatchResult};
 ghost use Rattle.pas_trace.specs.Items.{plain, trace_name, epoch_word, turn_word, since, has_since, item_of_one, item_of_two, item_of_three, item_of_four, item5, item_of_five, item_of_six, item_by_count, item_of_words, item_of_line};
 ghost use Rattle.pas_trace.specs.Numbers.{address_of_word};
 ghost use Rattle.pas_trace.specs.Texts.{words_of};
@@ -105,6 +105,8 @@ fn item_of_two_words(started: bool, word: &[u8], a: &[u8]) -> Result<Item, Reaso
         Ok(Item::Scavenges(Chore::Tick(epoch_at(a)?)))
     } else if is_word(word, b"idle") {
         Ok(Item::Scavenges(Chore::Idle(epoch_at(a)?)))
+    } else if is_word(word, b"guard") {
+        Ok(Item::Guards(number(a)))
     } else {
         Err(Reason::BadWord)
     }
@@ -238,7 +240,7 @@ fn has_word(version: u8, word: &[u8]) -> bool
 {
     if is_word(word, b"fs") || is_word(word, b"rs") {
         version >= 2
-    } else if is_word(word, b"m") {
+    } else if is_word(word, b"m") || is_word(word, b"guard") {
         version >= 4
     } else {
         true

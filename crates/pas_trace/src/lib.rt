@@ -17,6 +17,7 @@ pub mod plan;
 mod reader;
 mod requests;
 mod rounds;
+mod samples;
 mod words;
 
 pub use fault::{ReadFault, Reason, TraceFault};

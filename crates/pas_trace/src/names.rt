@@ -1,5 +1,5 @@
 //! The trace names that are taken.
-ghost use Rattle.std.specs.Prelude.{◌≡◌, ◌<◌, ◌≤◌, ◌==◌, ℕ, true, not, if◌then◌else◌, OnOk, length, vec_len};
+ghost use Rattle.std.specs.Prelude.{◌≡◌, ◌<◌, ◌≤◌, ◌==◌, ℕ, true, not, if◌then◌else◌, OnOk, vec_len};
 ghost use Rattle.pas_trace.specs.Told.{owner_in};
 
 use std::alloc::{AllocError, Global};

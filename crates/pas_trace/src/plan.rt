@@ -4,11 +4,18 @@ use pas_profile::{Name, Profile};
 use std::mem::size_of;
 
 /// What an operation asks for, in 24 bytes. Names of allocations are the trace's own numbers, from 1 to 1,000,000; sizes, alignments and rooms
-/// are in bytes. A free that names a room ends the block only where it has this room. A block is
-/// reallocated in its own heap.
+/// are in bytes. A request for whole pages that is guarded names the actor that keeps its guard. A free that names a room ends the block only
+/// where it has this room. A block is reallocated in its own heap.
 #[derive(Clone, Copy, PartialEq, Eq, Drop)]
 pub enum What {
     Alloc {
+        name: u32,
+        heap: u8,
+        size: u32,
+        align: u32,
+    },
+    Guarded {
+        keeper: u8,
         name: u32,
         heap: u8,
         size: u32,
@@ -54,6 +61,13 @@ pub struct Op {
 #[derive(Clone, Copy, PartialEq, Eq, Drop)]
 pub enum Task {
     Request {
+        name: u32,
+        heap: u8,
+        size: u32,
+        align: u32,
+    },
+    Guarded {
+        keeper: u8,
         name: u32,
         heap: u8,
         size: u32,
@@ -109,17 +123,20 @@ pub struct Phases {
     pub(crate) phases: Vec<Phase>,
 }
 
-/// How many records each actor's operations may make, by actor.
+/// How many records each actor's operations may make, by actor; of keepers, behind the threads of a guarded trace, how many events.
 #[derive(Drop)]
 pub struct Bounds {
     pub(crate) bounds: Vec<u32>,
 }
 
-/// The plan of a trace, whose text is of this version. `total` bounds the records of all actors, and each name that a request asks for is below `names_limit`.
+/// The plan of a trace, whose text is of this version. Of each thread's requests for whole pages every `guard`th is guarded, and none where that is 0.
+/// The bounds go up to the last keeper in a guarded trace, and to the last thread in another. `total` bounds the records of all actors, and each name
+/// that a request asks for is below `names_limit`.
 #[derive(Drop)]
 pub struct Plan {
     pub version: u8,
     pub profile: Profile,
+    pub guard: u32,
     pub phases: Phases,
     pub bounds: Bounds,
     pub total: u32,
@@ -142,6 +159,19 @@ impl Op {
                 size,
                 align,
             } => Work::Own(Task::Request {
+                name,
+                heap,
+                size,
+                align,
+            }),
+            What::Guarded {
+                keeper,
+                name,
+                heap,
+                size,
+                align,
+            } => Work::Own(Task::Guarded {
+                keeper,
                 name,
                 heap,
                 size,

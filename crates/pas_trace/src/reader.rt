@@ -1,12 +1,12 @@
 //! The reader: what it keeps of the lines before, and how it takes a line.
-ghost use Rattle.std.specs.Prelude.{◌≡◌, ◌<◌, ◌≤◌, ◌+◌, ◌∷◌, ◌^◌, [], ℕ, List, Some, None, Ok, Err, OnOk, IfOk, MatchOption, MatchResult, length};
+ghost use Rattle.std.specs.Prelude.{◌≡◌, ◌<◌, ◌≤◌, ◌+◌, ◌∷◌, ◌^◌, [], ℕ, List, Some, None, Ok, Err, OnOk, IfOk, MatchOption, MatchResult, true, if◌then◌else◌, length};
 ghost use Rattle.pas_profile.specs.Profiles.{IsValid};
-ghost use Rattle.pas_trace.specs.Reasons.{reason_of, cost_of, cost_of_size, cost_of_wish, records_of_chore, started, is_thread, first_failed};
+ghost use Rattle.pas_trace.specs.Reasons.{reason_of, cost_of, cost_of_request, cost_of_wish, guard_checks, is_guard_number, records_of_chore, started, is_thread, first_failed};
 ghost use Rattle.pas_trace.specs.Items.{item_of_line};
 ghost use Rattle.pas_trace.specs.Wishes.{asking, IsFit};
-ghost use Rattle.pas_trace.specs.Plans.{IsReading, bounds_of, bounds_upto, fault_at};
+ghost use Rattle.pas_trace.specs.Plans.{IsReading, bounds_of, bounds_upto, all_bounds, request_kept, fault_at};
 ghost use Rattle.pas_trace.specs.Texts.{lines_of};
-ghost use Rattle.pas_trace.specs.Told.{Tells, IsReady, IsCounted, IsOperated, IsNextPhase, IsAdded, IsTaken, IsFirstTaken, AreTaken, IsRead, IsBegun, IsPlanned, IsChecked, AreTested, few_told, thread_told, sizing_told, freed_told, told_checks, reason_told};
+ghost use Rattle.pas_trace.specs.Told.{Tells, IsReady, CanSample, IsCounted, IsOperated, IsNextPhase, IsGuarding, IsAdded, IsTaken, IsFirstTaken, AreTaken, IsRead, IsBegun, IsPlanned, IsChecked, AreTested, few_told, thread_told, sizing_told, freed_told, told_checks, reason_told};
 ghost use Rattle.pas_trace.specs.Lexed.{Say, AreLexed};
 ghost use Rattle.pas_trace.specs.declared.item.Item.{Item};
 ghost use Rattle.pas_trace.specs.declared.item.Wish.{Wish};
@@ -21,10 +21,17 @@ use crate::items::read_item;
 use crate::lines::next_line;
 use crate::names::{Names, Owner};
 use crate::plan::{Bounds, Chore, Op, Plan, What};
-use crate::requests::{cost_of_allocation, is_aligning};
+use crate::requests::{cost_of_request, is_aligning};
+use crate::samples::Samples;
 use pas_profile::limits::PAGE_BYTES;
 use pas_profile::{Address, Name, Profile};
 use std::alloc::{AllocError, Global};
+
+/// The most threads of a guarded trace: each has a keeper, and there are at most 16 actors beside the scavenger.
+const MOST_GUARDED: u8 = 8;
+
+/// The greatest number of a `guard` line.
+const MOST_SAMPLED: u64 = 1_000_000;
 
 /// What the lines so far come to.
 #[derive(Drop)]
@@ -40,6 +47,7 @@ pub struct Reader {
     /// The number of `phase` lines.
     phase: u32,
     names: Names,
+    samples: Samples,
     counts: Counts,
     gathered: Gathered,
 }
@@ -59,6 +67,7 @@ impl Reader {
             line: 1,
             phase: 0,
             names: Names::new(alloc),
+            samples: Samples::new(),
             counts: Counts::new(&header.profile),
             gathered: Gathered::new(alloc),
         }
@@ -123,7 +132,7 @@ impl Reader {
     #[inline(always)]
     fn check_request(&self, thread: u64, request: Request) -> Result<u32, Reason>
         requires { IsValid self.now.header.profile }
-        ensures { IsChecked (reason_told self.now thread (asking request)) (cost_of_size request.size) result }
+        ensures { IsChecked (reason_told self.now thread (asking request)) (cost_of_request self.now.samples.guard request.size) result }
     {
         if !self.has_thread(thread) {
             return Err(Reason::BadThread);
@@ -135,7 +144,7 @@ impl Reader {
         if self.names.owner(request.name).thread != 0 {
             return Err(Reason::NameTaken);
         }
-        self.check_counts(cost_of_allocation(request.size as u32))
+        self.check_counts(cost_of_request(self.samples.guard, request.size as u32))
     }
 
     /// The checks of a trace name that is freed. Another thread than the one that allocated waits for a later phase.
@@ -201,7 +210,7 @@ impl Reader {
         align: u64,
     ) -> Result<u32, Reason>
         requires { IsValid self.now.header.profile }
-        ensures { IsChecked (reason_told self.now thread (Wish.Remakes name old size align)) (cost_of_size size + 1) result }
+        ensures { IsChecked (reason_told self.now thread (Wish.Remakes name old size align)) (cost_of_request self.now.samples.guard size + 1) result }
     {
         if !self.has_thread(thread) {
             return Err(Reason::BadThread);
@@ -211,14 +220,14 @@ impl Reader {
             return Err(Reason::NameTaken);
         }
         self.check_freed(thread, old)?;
-        self.check_counts(cost_of_allocation(size as u32) + 1)
+        self.check_counts(cost_of_request(self.samples.guard, size as u32) + 1)
     }
 
     /// The cost of an operation of a thread that passes its checks, or the first reason that applies.
     #[inline(always)]
     fn check_wish(&self, thread: u64, wish: Wish) -> Result<u32, Reason>
         requires { IsValid self.now.header.profile }
-        ensures { IsChecked (reason_told self.now thread wish) (cost_of_wish wish) result }
+        ensures { IsChecked (reason_told self.now thread wish) (cost_of_wish self.now.samples.guard wish) result }
     {
         match wish {
             Wish::Asks {
@@ -265,11 +274,31 @@ impl Reader {
         }
     }
 
+    /// The checks of a `guard` line.
+    #[inline(never)]
+    fn check_guard(&self, number: Option<u64>) -> Result<u32, Reason>
+        ensures { IsChecked (first_failed (guard_checks self.now.header.profile self.now.started self.now.samples.guard number)) 0 result }
+    {
+        if self.started {
+            return Err(Reason::BadWord);
+        }
+        if self.samples.guard != 0 {
+            return Err(Reason::BadWord);
+        }
+        if !is_guard_number(number) {
+            return Err(Reason::BadNumber);
+        }
+        if self.header.profile.threads > MOST_GUARDED {
+            return Err(Reason::BadThread);
+        }
+        Ok(0)
+    }
+
     /// The cost of an item that passes its checks, or the first reason that applies.
     #[inline(always)]
     fn check(&self, item: Item) -> Result<u32, Reason>
         requires { IsValid self.now.header.profile }
-        ensures { IsChecked (first_failed (told_checks self.now item)) (cost_of self.now.header.profile item) result }
+        ensures { IsChecked (first_failed (told_checks self.now item)) (cost_of self.now.header.profile self.now.samples.guard item) result }
     {
         match item {
             Item::Blank => Ok(0),
@@ -281,6 +310,7 @@ impl Reader {
                     Err(Reason::BadHeap)
                 }
             }
+            Item::Guards(number) => self.check_guard(number),
             Item::Operates { thread, wish } => self.check_wish(thread, wish),
             Item::Scavenges(chore) => self.check_chore(chore),
         }
@@ -302,6 +332,7 @@ impl Reader {
     #[inline(always)]
     fn operate(&mut self, thread: u8, wish: Wish, cost: u32) -> Result<(), AllocError>
         requires ready { IsReady self.old.counts thread cost }
+        requires can { CanSample self.old.samples thread }
         requires valid { IsValid self.old.header.profile }
         requires fits { IsFit self.old.header.profile wish }
         ensures { OnOk result (IsOperated self.old self.new thread wish cost) }
@@ -320,12 +351,16 @@ impl Reader {
                     phase,
                 };
                 self.names.give(name, owner)?;
-                let what = What::Alloc {
+                let guarded = self.samples.sample(thread, size as u32);
+                let keeper = self.header.profile.threads + thread;
+                let what = request_kept(
+                    guarded,
+                    keeper,
                     name,
-                    heap: heap as u8,
-                    size: size as u32,
-                    align: align as u32,
-                };
+                    heap as u8,
+                    size as u32,
+                    align as u32,
+                );
                 self.count(thread, what, cost)
             }
             Wish::Frees { name } => self.count(thread, What::Free { name }, cost),
@@ -388,11 +423,26 @@ impl Reader {
         self.gathered.next_phase(alloc)
     }
 
+    /// From now on of each thread's requests for whole pages one in so many is guarded.
+    #[inline(never)]
+    fn begin_guarding(&mut self, number: Option<u64>)
+        requires header { IsValid self.old.header.profile }
+        requires small { self.old.counts.bound ≤ 2000000 }
+        requires number { is_guard_number number ≡ true }
+        ensures { IsGuarding self.old self.new number }
+    {
+        let Some(every) = number else {
+            unreachable!();
+        };
+        self.samples.guard = every as u32;
+        self.counts.add_keepers(&self.header.profile);
+    }
+
     /// Adds an item that passed its checks.
     #[inline(always)]
     fn add(&mut self, item: Item, cost: u32) -> Result<(), AllocError>
         requires tells { (items : List Item) × Tells self.old items × (reason_of self.old.header.profile items item ≡ None) }
-        requires cost { cost ≡ cost_of self.old.header.profile item }
+        requires cost { cost ≡ cost_of self.old.header.profile self.old.samples.guard item }
         requires line { self.old.line < 2 ^ 25 }
         ensures { OnOk result (IsAdded self.old self.new item) }
     {
@@ -402,6 +452,10 @@ impl Reader {
             Item::NextPhase => self.next_phase(),
             Item::Shares(heap) => {
                 self.shared |= 1u32 << heap;
+                Ok(())
+            }
+            Item::Guards(number) => {
+                self.begin_guarding(number);
                 Ok(())
             }
             Item::Operates { thread, wish } => self.operate(thread as u8, wish, cost),
@@ -561,20 +615,32 @@ impl Reader {
         self.read_lines(left)
     }
 
-    /// The bounds of the actors: for a thread a deed for each page and its costs, for the scavenger its costs.
+    /// Adds the bounds of the keepers to those of the scavenger and the threads: a deed for each page, and what a keeper may make for its thread.
+    fn add_keeper_bounds(&self, bounds: &mut Vec<u32>) -> Result<(), AllocError>
+        requires tells { (items : List Item) × Tells self.now items }
+        requires threads { (items : List Item) → Tells self.now items → bounds.old.items ≡ bounds_upto self.now.header.profile items (self.now.header.profile.threads + 1) }
+        ensures { OnOk result ((items : List Item) → Tells self.now items → bounds.new.items ≡ all_bounds self.now.header.profile items) }
+    {
+        if self.samples.guard == 0 {
+            return Ok(());
+        }
+        for thread in 1..self.header.profile.threads as usize + 1 {
+            bounds.push(self.header.profile.pages + self.samples.kept[thread])?;
+        }
+        Ok(())
+    }
+
+    /// The bounds of the actors: for a thread a deed for each page and its costs, for the scavenger its costs, and then those of the keepers.
     fn bounds(&self) -> Result<Bounds, AllocError>
         requires { (items : List Item) × Tells self.now items }
-        ensures { IfOk result (λ bounds. (items : List Item) → Tells self.now items → bounds_of bounds ≡ bounds_upto self.now.header.profile items (self.now.header.profile.threads + 1)) }
+        ensures { IfOk result (λ bounds. (items : List Item) → Tells self.now items → bounds_of bounds ≡ all_bounds self.now.header.profile items) }
     {
         let mut bounds = Vec::new(self.alloc);
-        for actor in 0..self.header.profile.threads as usize + 1 {
-            let deeds = if actor == 0 {
-                0
-            } else {
-                self.header.profile.pages
-            };
-            bounds.push(deeds + self.counts.costs[actor])?;
+        bounds.push(self.counts.costs[0])?;
+        for thread in 1..self.header.profile.threads as usize + 1 {
+            bounds.push(self.header.profile.pages + self.counts.costs[thread])?;
         }
+        self.add_keeper_bounds(&mut bounds)?;
         Ok(Bounds { bounds })
     }
 
@@ -588,6 +654,7 @@ impl Reader {
         let Reader {
             header,
             shared,
+            samples,
             counts,
             gathered,
             ..
@@ -596,6 +663,7 @@ impl Reader {
         Ok(Plan {
             version,
             profile: Profile { shared, ..profile },
+            guard: samples.guard,
             phases: gathered.finish()?,
             bounds,
             total: counts.bound,
@@ -611,6 +679,39 @@ impl Reader {
         match self.finish() {
             Ok(plan) => Ok(plan),
             Err(AllocError) => Err(ReadFault::NoMemory),
+        }
+    }
+}
+
+/// Whether a `guard` line may have the number, from 1 to 1,000,000.
+fn is_guard_number(number: Option<u64>) -> bool
+    ensures { result ≡ is_guard_number number }
+{
+    match number {
+        Some(every) => every >= 1 && every <= MOST_SAMPLED,
+        None => false,
+    }
+}
+
+/// A request in a plan, whose guard the keeper keeps, if it is guarded.
+#[inline(always)]
+fn request_kept(guarded: bool, keeper: u8, name: u32, heap: u8, size: u32, align: u32) -> What
+    ensures { result ≡ request_kept (if guarded then Some keeper else None) name heap size align }
+{
+    if guarded {
+        What::Guarded {
+            keeper,
+            name,
+            heap,
+            size,
+            align,
+        }
+    } else {
+        What::Alloc {
+            name,
+            heap,
+            size,
+            align,
         }
     }
 }

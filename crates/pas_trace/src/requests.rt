@@ -1,6 +1,6 @@
 //! Alignments of requests, and how many records a request may make.
 ghost use Rattle.std.specs.Prelude.{◌≡◌, ◌≤◌, ◌^◌};
-ghost use Rattle.pas_trace.specs.Reasons.{cost_of_size, is_alignment};
+ghost use Rattle.pas_trace.specs.Reasons.{cost_of_size, cost_of_request, is_alignment};
 
 use pas_profile::limits::{GRAIN_BYTES, MOST_BITFIT, PAGE_BYTES};
 
@@ -24,4 +24,21 @@ pub(crate) fn cost_of_allocation(size: u32) -> u32
     } else {
         1 + (size + (PAGE_BYTES - 1)) / PAGE_BYTES
     }
+}
+
+/// .. in a trace whose `guard` line has this number, 0 where there is none: two more for whole pages in a guarded one.
+#[inline(always)]
+pub(crate) fn cost_of_request(guard: u32, size: u32) -> u32
+    requires { size ≤ 2 ^ 26 }
+    ensures value { result ≡ cost_of_request guard size }
+    ensures few { result ≤ 16387 }
+{
+    let plain = cost_of_allocation(size);
+    if size <= MOST_BITFIT {
+        return plain;
+    }
+    if guard == 0 {
+        return plain;
+    }
+    plain + 2
 }

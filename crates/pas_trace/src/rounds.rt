@@ -1,5 +1,5 @@
 //! Reading a trace on two threads: one takes the lines of a piece apart while the other reads the piece before.
-ghost use Rattle.std.specs.Prelude.{◌≡◌, ◌≤◌, ◌<◌, ◌+◌, ◌++◌, ◌^◌, ℕ, List, Ok, Err, IfOk, OnOk, MatchResult, length};
+ghost use Rattle.std.specs.Prelude.{◌≡◌, ◌≤◌, ◌<◌, ◌+◌, ◌++◌, ◌^◌, ℕ, List, Ok, OnOk, length};
 ghost use Rattle.pas_trace.specs.Lexed.{AreLexed};
 ghost use Rattle.pas_trace.specs.Plans.{IsReading};
 ghost use Rattle.pas_trace.specs.Texts.{lines_of};

@@ -1,26 +1,62 @@
-use Rattle.std.proofs.Common.{◌++◌, refl, ap, sym, ◌∙◌, subst}
+use Rattle.std.proofs.Common.{◌∷◌, ◌++◌, Option, Some, refl, ap, sym, ◌∙◌, subst}
 use Rattle.pas_profile.specs.declared.profile.Profile.{Profile}
-use Rattle.pas_answers.specs.Calls.{MayStand}
+use Rattle.pas_profile.specs.declared.name.Block.{Block}
+use Rattle.pas_trace.specs.Acts.{Settles}
+use Rattle.pas_trace.specs.Asked.{request_of}
+use Rattle.pas_answers.specs.Calls.{MayStand, named_with}
 use Rattle.pas_answers.proofs.Kept.{own_what, freed_task, named_task}
 use Rattle.pas_acts.specs.NameBooks.{known_in, requests_in}
-use Rattle.pas_acts.proofs.Working.{no_chore, may_operate, its_own, room_now, operated}
+use Rattle.pas_acts.specs.Pairs.{TriesTask, for_guards}
+use Rattle.pas_acts.proofs.Pairing.{may_try_task, pair_given, pair_left}
+use Rattle.pas_acts.proofs.Working.{no_chore, may_operate, op_rests, its_fit, its_own, room_now, operated}
 use Rattle.pas_acts.proofs.own.operate.Goals as goal
+use Rattle.pas_acts.proofs.own.operate.Goals.{in-Some, in-None}
+
+pub tried-requires : goal.tried-requires
+tried-requires g c =
+    let st = c.requires.stands in
+    let is = own_what c.args.op.what c.in-Own.task (sym c.work.ensures ∙ c.in-Own.is) in
+    record { stands = (st.0, st.1, for_guards st.2 st.4, st.5, may_try_task st.0 st.1 _ _ st.4 st.5 c.in-Own.task c.args.op (Settles c.args.op.actor ∷ st.2) (g.K.Tries.has c.args.keeper.now) is (its_fit c.args.op st.6.thread.names) st.6.waits) }
 
 pub freed-meant-requires : goal.freed-meant-requires
-freed-meant-requires g c = its_own c.requires.stands.4.names
+freed-meant-requires g c = its_own c.requires.stands.6.thread.names
 
 pub operate-came-requires : goal.operate-came-requires
 operate-came-requires g c =
+    let st = c.requires.stands in
     let is = own_what c.args.op.what c.in-Own.task (sym c.work.ensures ∙ c.in-Own.is) in
-    record { stands = (c.requires.stands.0, c.args.op, _, c.requires.stands.3, is, may_operate is c.requires.stands.4 (c.freed-meant.ensures ∙ freed_task (known_in c.args.book.now c.args.requests.now) c.in-Own.task)) }
+    record { stands = (st.0, c.args.op, _, st.5, is, may_operate c.args.op is st.6.thread (c.freed-meant.ensures ∙ freed_task (known_in c.args.book.now c.args.requests.now) c.in-Own.task)) }
 
 pub keep-requires : goal.keep-requires
-keep-requires g c = room_now (own_what c.args.op.what c.in-Own.task (sym c.work.ensures ∙ c.in-Own.is)) c.requires.stands.4.names
+keep-requires g c = room_now c.args.op (own_what c.args.op.what c.in-Own.task (sym c.work.ensures ∙ c.in-Own.is)) c.requires.stands.6.thread.names
 
-pub returns-in-Own-clause-works : goal.returns-in-Own-clause-works
-returns-in-Own-clause-works g c = λ f next later p at.
-    let is = own_what c.args.op.what c.in-Own.task (sym c.work.ensures ∙ c.in-Own.is) in
-    operated is at (c.operate-came.ensures.operates f c.args.op _ p is (may_operate is at (c.freed-meant.ensures ∙ freed_task (known_in c.args.book.now c.args.requests.now) c.in-Own.task))).0 (record { book = refl; requests = c.keep.ensures.kept ∙ ap (λ ns. requests_in c.args.requests.now ++ ns) (named_task c.in-Own.task c.operate-came.result); room = c.keep.ensures.room }) (subst (λ (g : Profile). MayStand g c.operate-came.result) at.sits.profile c.operate-came.ensures.stands)
+pub returns-after-tried-clause-works : goal.returns-after-tried-clause-works
+returns-after-tried-clause-works g c = elim c.match-tried.branch [
+  | in-Some w ↦ rw (w.desk-is, w.cache-is, w.out-is) (λ f k next later more p at.
+      let op = c.args.op in
+      let is = own_what op.what c.in-Own.task (sym c.work.ensures ∙ c.in-Own.is) in
+      let may = may_try_task f k _ _ more p c.in-Own.task op (Settles op.actor ∷ next) (g.K.Tries.has c.args.keeper.now) is (its_fit op at.thread.names) at.waits in
+      let tries = subst (λ (o : Option Block). TriesTask f k c.in-Own.task o (g.K.Tries.has c.args.keeper.now) (g.K.Tries.has c.tried.new.keeper) (for_guards next more) p) w.in-Some.is (c.tried.ensures.tries f k (for_guards next more) p may) in
+      let did = pair_given w.in-Some.block more c.in-Own.task op (Settles op.actor ∷ next) (g.K.Tries.has c.args.keeper.now) (g.K.Tries.has c.tried.new.keeper) is (λ no. sym w.in-Some.is ∙ c.tried.ensures.none no) at.apart at.waits tries (op_rests op at.thread) w.settle.ensures.cache in
+      operated op is at did.0 (record {
+        book = refl;
+        requests = c.keep.ensures.kept ∙ ap (λ ns. requests_in c.args.requests.now ++ ns) (ap (λ o. named_with (request_of c.in-Own.task) o) w.came-is ∙ named_task c.in-Own.task (Some w.in-Some.block));
+        room = c.keep.ensures.room;
+      }) did.1)
+  | in-None w ↦ rw (w.desk-is, w.cache-is, w.out-is) (λ f k next later more p at.
+      let op = c.args.op in
+      let is = own_what op.what c.in-Own.task (sym c.work.ensures ∙ c.in-Own.is) in
+      let may_try = may_try_task f k _ _ more p c.in-Own.task op (Settles op.actor ∷ next) (g.K.Tries.has c.args.keeper.now) is (its_fit op at.thread.names) at.waits in
+      let tries = subst (λ (o : Option Block). TriesTask f k c.in-Own.task o (g.K.Tries.has c.args.keeper.now) (g.K.Tries.has c.tried.new.keeper) (for_guards next more) p) w.in-None.is (c.tried.ensures.tries f k (for_guards next more) p may_try) in
+      let may = may_operate op is at.thread (w.freed-meant.ensures ∙ freed_task (known_in c.args.book.now c.args.requests.now) c.in-Own.task) in
+      let did = pair_left w.operate-came.result more c.in-Own.task op (Settles op.actor ∷ next) (g.K.Tries.has c.args.keeper.now) (g.K.Tries.has c.tried.new.keeper) is (λ no. ap (λ u. g.K.Tries.has u) (c.tried.ensures.same no)) at.apart at.waits tries may
+      (λ q here. (w.operate-came.ensures.operates f op _ q is here).0) in
+      operated op is at did (record {
+        book = refl;
+        requests = c.keep.ensures.kept ∙ ap (λ ns. requests_in c.args.requests.now ++ ns) (ap (λ o. named_with (request_of c.in-Own.task) o) w.came-is ∙ named_task c.in-Own.task w.operate-came.result);
+        room = c.keep.ensures.room;
+      }) (subst (λ (h : Profile). MayStand h w.operate-came.result) at.thread.sits.profile w.operate-came.ensures.stands))
+]
 
 pub returns-in_default-clause-works : goal.returns-in_default-clause-works
-returns-in_default-clause-works g c = λ f next later p at. absurd (no_chore f _ at.names.asked at.names.fit.1 (sym c.work.ensures ∙ c.in_default.is))
+returns-in_default-clause-works g c = λ f k next later more p at. absurd (no_chore f _ at.thread.names.asked (its_fit c.args.op at.thread.names) (sym c.work.ensures ∙ c.in_default.is))

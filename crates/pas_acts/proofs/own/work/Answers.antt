@@ -9,7 +9,7 @@ abbrev past : Op
 past = record { line = 0; actor = 0; what = Alloc 0 0 0 0 }
 
 pub loop-op-init : goal.loop-op-init
-loop-op-init g c = record { far = λ f later p at. begins c.args.ops.now at; number = omega arith; home = refl }
+loop-op-init g c = record { far = λ f keeper later more p at. begins c.args.ops.now (g.K.Tries.has c.args.keeper.now) at; number = omega arith; home = refl; keeps_home = refl }
 
 pub overflow_add-number : goal.overflow_add-number
 overflow_add-number g c =
@@ -21,28 +21,31 @@ overflow_add-number g c =
 pub operate_by_kind-requires : goal.operate_by_kind-requires
 operate_by_kind-requires g c =
     let st = c.requires.stands in
-    let so = c.loop-op.invariant.far st.0 st.1 st.2 st.3 in
-    record { stands = (st.0, _, st.1, so.2.reached, stands_before c.args.ops.now past c.loop-op-test.true (c.if-op-actor.true ∙ c.actor-actor.ensures) so) }
+    let so = c.loop-op.invariant.far st.0 st.1 st.2 st.3 st.4 st.5 in
+    record { stands = (st.0, st.1, _, st.2, st.3, so.2.reached, stands_before c.args.ops.now past c.loop-op-test.true (c.if-op-actor.true ∙ c.actor-actor.ensures) so) }
 
 pub loop-op-preserved : goal.loop-op-preserved
 loop-op-preserved g c = elim c.if-op-actor.branch [
   | then-op-actor w ↦
       let low = c.loop-op.invariant.number in
-      rw (w.desk-is, w.cache-is, w.requests-is, w.out-is, w.number-is) (record {
-        far = λ f later p at.
-            let so = c.loop-op.invariant.far f later p at in
-            goes_on c.args.ops.now past c.loop-op-test.true (w.if-op-actor.true ∙ c.actor-actor.ensures) so (w.operate_by_kind.ensures.works f _ later so.2.reached (stands_before c.args.ops.now past c.loop-op-test.true (w.if-op-actor.true ∙ c.actor-actor.ensures) so));
+      rw (w.desk-is, w.cache-is, w.keeper-is, w.requests-is, w.out-is, w.number-is) (record {
+        far = λ f keeper later more p at.
+            let so = c.loop-op.invariant.far f keeper later more p at in
+            goes_on c.args.ops.now past c.loop-op-test.true (w.if-op-actor.true ∙ c.actor-actor.ensures) so
+            (w.operate_by_kind.ensures.works f keeper _ later more so.2.reached (stands_before c.args.ops.now past c.loop-op-test.true (w.if-op-actor.true ∙ c.actor-actor.ensures) so));
         number = omega (arith, low);
         home = w.operate_by_kind.ensures.home ∙ c.loop-op.invariant.home;
+        keeps_home = w.operate_by_kind.ensures.keeps_home ∙ c.loop-op.invariant.keeps_home;
       })
   | else-op-actor w ↦
       let low = c.loop-op.invariant.number in
-      rw (w.desk-is, w.cache-is, w.requests-is, w.out-is, w.number-is) (record {
-        far = λ f later p at. skips c.args.ops.now past c.loop-op-test.true (λ e. w.if-op-actor.false (e ∙ sym c.actor-actor.ensures)) (c.loop-op.invariant.far f later p at);
+      rw (w.desk-is, w.cache-is, w.keeper-is, w.requests-is, w.out-is, w.number-is) (record {
+        far = λ f keeper later more p at. skips c.args.ops.now past c.loop-op-test.true (λ e. w.if-op-actor.false (e ∙ sym c.actor-actor.ensures)) (c.loop-op.invariant.far f keeper later more p at);
         number = omega (arith, low);
         home = c.loop-op.invariant.home;
+        keeps_home = c.loop-op.invariant.keeps_home;
       })
 ]
 
 pub returns-clause-works : goal.returns-clause-works
-returns-clause-works g c = λ f later p at. ends c.args.ops.now c.loop-op-test.false (c.loop-op.invariant.far f later p at)
+returns-clause-works g c = λ f keeper later more p at. ends c.args.ops.now c.loop-op-test.false (c.loop-op.invariant.far f keeper later more p at)

@@ -4,6 +4,7 @@ use Rattle.pas_cache.specs.Caches.{cached}
 use Rattle.pas_answers.specs.Calls.{what_of, PerformsMeant}
 use Rattle.pas_answers.specs.Indexes.{IsNamedFor, request_made}
 use Rattle.pas_answers.proofs.Frees.{can_log, fits_task, not_asked, performs_free, performs_skip, performs_raw, performs_flush, performs_stop}
+use Rattle.pas_answers.proofs.Requests.{can_unguarded, guarded_performs}
 use Rattle.pas_answers.proofs.Reallocations.{can_resize, admitted_there, performs_move, performs_no_move}
 use Rattle.pas_answers.proofs.answering.perform.Goals as goal
 
@@ -30,6 +31,21 @@ returns-in-Request-clause-performs g c =
     let σ = g.D.Desk.standing c.args.desk.now in
     subst (λ t. (did : PerformsMeant (what_of t) c.args.meant c.allocate.result.0 (cached c.args.cache.now) (cached c.allocate.new.cache) σ (g.D.Desk.standing c.allocate.new.desk) c.allocate.result.1)
     × IsNamedFor σ.seat.profile (g.O.Door.answers c.args.door.now c.allocate.new.door) (c.allocate.new.door ≡ c.args.door.now) (request_made (what_of t) c.args.meant) did.found) (sym c.in-Request.is) (c.allocate.ensures.performs c.args.meant)
+
+-- a guarded one is answered as any
+pub allocate-requires-in-Guarded-clause-admitted : goal.allocate-requires-in-Guarded-clause-admitted
+allocate-requires-in-Guarded-clause-admitted g c =
+    (fits_task (g.D.Desk.standing c.args.desk.now).seat.profile c.requires.fit.0 c.requires.fit.1 (Task.Guarded c.in-Guarded.keeper c.in-Guarded.name c.in-Guarded.heap c.in-Guarded.size c.in-Guarded.align) c.in-Guarded.is c.requires.fit.2).1.0
+
+pub allocate-requires-in-Guarded-clause-can : goal.allocate-requires-in-Guarded-clause-can
+allocate-requires-in-Guarded-clause-can g c = can_unguarded (cached c.args.cache.now) (g.D.Desk.spare_of c.args.desk.now) c.in-Guarded.is c.requires.can
+
+pub returns-in-Guarded-clause-performs : goal.returns-in-Guarded-clause-performs
+returns-in-Guarded-clause-performs g c =
+    let σ = g.D.Desk.standing c.args.desk.now in
+    subst (λ t. (did : PerformsMeant (what_of t) c.args.meant c.allocate-in-Guarded.result.0 (cached c.args.cache.now) (cached c.allocate-in-Guarded.new.cache) σ (g.D.Desk.standing c.allocate-in-Guarded.new.desk) c.allocate-in-Guarded.result.1)
+    × IsNamedFor σ.seat.profile (g.O.Door.answers c.args.door.now c.allocate-in-Guarded.new.door) (c.allocate-in-Guarded.new.door ≡ c.args.door.now) (request_made (what_of t) c.args.meant) did.found) (sym c.in-Guarded.is)
+    (guarded_performs (g.O.Door.answers c.args.door.now c.allocate-in-Guarded.new.door) (c.allocate-in-Guarded.new.door ≡ c.args.door.now) c.in-Guarded.keeper (c.allocate-in-Guarded.ensures.performs c.args.meant))
 
 -- no other task asks the door
 pub returns-in-Some-clause-performs : goal.returns-in-Some-clause-performs

@@ -1,7 +1,8 @@
 use Rattle.std.proofs.Common.{Bool, ℕ, not, ap, sym, ◌∙◌}
 use Rattle.pas_bits.specs.Masks.{is_set}
 use Rattle.pas_profile.specs.declared.profile.Profile.{Profile}
-use Rattle.pas_trace.specs.Acts.{Operates, acts_of_op, threads_where}
+use Rattle.pas_trace.specs.Acts.{act_kept, acts_of_op, threads_where}
+use Rattle.pas_trace.specs.Asked.{keeper_in}
 use Rattle.pas_trace.specs.declared.plan.Chore.{Chore}
 use Rattle.pas_trace.specs.declared.plan.Work.{Work}
 use Rattle.pas_check.specs.Checks.{ActsTaken, threads_in}
@@ -16,7 +17,7 @@ pub returns-in-Own-clause-taken : goal.returns-in-Own-clause-taken
 returns-in-Own-clause-taken c =
     let idle = threads_where (λ k. not (is_set c.args.awake k)) (threads_in c.args.judge.now) in
     if_both c.operate.result
-    (λ (taken : Bool). (f : Profile) → ActTaken f c.args.text.now c.args.judge.now c.args.cursor.now c.operate.new.judge c.operate.new.cursor (Operates c.args.op) taken)
+    (λ (taken : Bool). (f : Profile) → ActTaken f c.args.text.now c.args.judge.now c.args.cursor.now c.operate.new.judge c.operate.new.cursor (act_kept (keeper_in c.args.op.what) c.args.op) taken)
     (λ (taken : Bool). StaysWithin c.args.text.now c.operate.new.cursor taken)
     (λ (taken : Bool). ActsTaken c.args.text.now c.args.judge.now c.args.cursor.now c.operate.new.judge c.operate.new.cursor (acts_of_op idle c.args.op) taken)
     (λ taken done within. operation_taken c.args.text.now c.args.judge.now c.operate.new.judge c.args.cursor.now c.operate.new.cursor idle c.args.op _ taken (sym c.work.ensures ∙ c.in-Own.is) within done)

@@ -15,10 +15,10 @@ returns-in-Ok-true-clause-taken c =
     let at = c.take_phases.new.cursor in
     let to = c.take_close.new.cursor in
     if_ok c.take_close.result
-    (λ (taken : Bool). ActsTaken c.args.text.now mid at new to (close_acts (threads_in mid)) taken)
-    (λ (taken : Bool). TakenTo c.args.text.now old c.args.cursor.now new to (acts_of (threads_in old) (map ops_of c.args.phases.now)) [] taken)
-    (λ taken done. close_on c.args.text.now old mid new c.args.cursor.now at to (map ops_of c.args.phases.now) taken (ap (λ (f : Profile). f.threads) c.in-Ok-true.ensures.sized.profile)
-    (rw c.in-Ok-true.field-0-test at c.in-Ok-true.ensures.taken) done) c.take_close.ensures.taken
+    (λ (taken : Bool). ActsTaken c.args.text.now mid at new to (close_acts (threads_in mid) c.args.keepers) taken)
+    (λ (taken : Bool). TakenTo c.args.text.now old c.args.cursor.now new to (acts_of (threads_in old) c.args.keepers (map ops_of c.args.phases.now)) [] taken)
+    (λ taken done. close_on c.args.keepers c.args.text.now old mid new c.args.cursor.now at to (map ops_of c.args.phases.now) taken (ap (λ (f : Profile). f.threads) c.in-Ok-true.ensures.sized.profile)
+    ((rw c.in-Ok-true.field-0-test at c.in-Ok-true.ensures.taken) c.args.keepers) done) c.take_close.ensures.taken
 
 pub returns-in-Ok-false-clause-taken : goal.returns-in-Ok-false-clause-taken
-returns-in-Ok-false-clause-taken c = rw c.in-Ok-false.field-0-test at c.in-Ok-false.ensures.taken
+returns-in-Ok-false-clause-taken c = (rw c.in-Ok-false.field-0-test at c.in-Ok-false.ensures.taken) c.args.keepers

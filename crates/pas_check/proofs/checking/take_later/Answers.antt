@@ -13,14 +13,14 @@ use Rattle.pas_check.proofs.Phases.{phase_at, phase_done, phases_there, planned_
 use Rattle.pas_check.proofs.checking.take_later.Goals as goal
 
 pub returns-then-not-mark_phase-clause-taken : goal.returns-then-not-mark_phase-clause-taken
-returns-then-not-mark_phase-clause-taken c =
+returns-then-not-mark_phase-clause-taken c keepers =
     let n = threads_in c.args.judge.now in
     let d = c.phase-item.result in
     let i = c.loop-phase.phase-index in
     let number = c.loop-phase.number + 1 in
     then_taken c.args.text.now c.args.judge.now c.loop-phase.judge c.loop-phase.judge c.args.cursor.now c.loop-phase.cursor c.mark_phase.new.cursor _ _ (MarksPhase number ∷ [])
-    (phase_acts n (ops_of (get_or c.args.phases.now i d)) ++ acts_from n (number + 1) (map ops_of (drop (i + 1) c.args.phases.now))) false
-    (phase_at n number c.args.phases.now i d c.loop-phase-test.true) c.loop-phase.invariant.far
+    (phase_acts n (ops_of (get_or c.args.phases.now i d)) ++ acts_from n keepers (number + 1) (map ops_of (drop (i + 1) c.args.phases.now))) false
+    (phase_at n keepers number c.args.phases.now i d c.loop-phase-test.true) (c.loop-phase.invariant.far keepers)
     (act_taken c.args.text.now c.loop-phase.judge c.loop-phase.judge c.loop-phase.cursor c.mark_phase.new.cursor (MarksPhase number) false c.if-not-mark_phase.ensures.taken)
 
 pub take_phase-requires-clause-valid : goal.take_phase-requires-clause-valid
@@ -39,15 +39,15 @@ take_phase-requires-clause-planned c =
     planned_as old c.loop-phase.judge c.as_slice.result.now c.loop-phase.invariant.sized (subst (λ (os : List Op). ArePlanned (profile_of old.machine) (names_held old.names) os) is here)
 
 pub returns-in-Ok-false-clause-taken : goal.returns-in-Ok-false-clause-taken
-returns-in-Ok-false-clause-taken c =
+returns-in-Ok-false-clause-taken c keepers =
     let n = threads_in c.args.judge.now in
     let d = c.phase-item.result in
     let i = c.loop-phase.phase-index in
     let number = c.loop-phase.number + 1 in
     phase_done c.args.text.now c.args.judge.now c.loop-phase.judge c.take_phase.new.judge c.args.cursor.now c.loop-phase.cursor c.mark_phase.new.cursor c.take_phase.new.cursor number
-    c.as_slice.result.now (ops_of (get_or c.args.phases.now i d)) _ _ (acts_from n (number + 1) (map ops_of (drop (i + 1) c.args.phases.now))) false
+    c.as_slice.result.now (ops_of (get_or c.args.phases.now i d)) _ _ (acts_from n keepers (number + 1) (map ops_of (drop (i + 1) c.args.phases.now))) false
     (ap (λ (f : Profile). f.threads) c.loop-phase.invariant.sized.profile) (c.as_slice.ensures ∙ ap ops_of c.phase-item.is)
-    (phase_at n number c.args.phases.now i d c.loop-phase-test.true) c.loop-phase.invariant.far c.if-not-mark_phase.ensures.taken
+    (phase_at n keepers number c.args.phases.now i d c.loop-phase-test.true) (c.loop-phase.invariant.far keepers) c.if-not-mark_phase.ensures.taken
     (rw c.in-Ok-false.field-0-test at c.in-Ok-false.ensures.taken)
 
 pub loop-phase-preserved : goal.loop-phase-preserved
@@ -63,15 +63,15 @@ loop-phase-preserved c =
       within = within;
       count = (let count = c.loop-phase.invariant.count in omega (arith, count));
       planned = (phases_there (profile_of old.machine) (names_held old.names) c.args.phases.now i d c.loop-phase-test.true c.loop-phase.invariant.planned).1;
-      far = phase_done c.args.text.now old c.loop-phase.judge c.take_phase.new.judge c.args.cursor.now c.loop-phase.cursor c.mark_phase.new.cursor c.take_phase.new.cursor number
-          c.as_slice.result.now (ops_of (get_or c.args.phases.now i d)) _ _ (acts_from n (number + 1) (map ops_of (drop (i + 1) c.args.phases.now))) true
+      far = λ keepers. phase_done c.args.text.now old c.loop-phase.judge c.take_phase.new.judge c.args.cursor.now c.loop-phase.cursor c.mark_phase.new.cursor c.take_phase.new.cursor number
+          c.as_slice.result.now (ops_of (get_or c.args.phases.now i d)) _ _ (acts_from n keepers (number + 1) (map ops_of (drop (i + 1) c.args.phases.now))) true
           (ap (λ (f : Profile). f.threads) c.loop-phase.invariant.sized.profile) (c.as_slice.ensures ∙ ap ops_of c.phase-item.is)
-          (phase_at n number c.args.phases.now i d c.loop-phase-test.true) c.loop-phase.invariant.far c.if-not-mark_phase.ensures.taken
+          (phase_at n keepers number c.args.phases.now i d c.loop-phase-test.true) (c.loop-phase.invariant.far keepers) c.if-not-mark_phase.ensures.taken
           (rw c.in-Ok-true.field-0-test at c.in-Ok-true.ensures.taken);
     }
 
 pub returns-clause-taken : goal.returns-clause-taken
-returns-clause-taken c =
+returns-clause-taken c keepers =
     let n = threads_in c.args.judge.now in
     taken_as c.args.text.now c.args.judge.now c.loop-phase.judge c.args.cursor.now c.loop-phase.cursor true _ _ _ _ refl
-    (ap (λ (ps : List Phase). acts_from n (c.loop-phase.number + 1) (map ops_of ps)) (drop_of_length-le c.args.phases.now c.loop-phase-test.false)) c.loop-phase.invariant.far
+    (ap (λ (ps : List Phase). acts_from n keepers (c.loop-phase.number + 1) (map ops_of ps)) (drop_of_length-le c.args.phases.now c.loop-phase-test.false)) (c.loop-phase.invariant.far keepers)

@@ -1,5 +1,5 @@
 -- the phases so far were taken
-use Rattle.std.proofs.Common.{◌≡◌, ◌+◌, drop, map, true}
+use Rattle.std.proofs.Common.{◌≡◌, ℕ, ◌+◌, drop, map, true}
 use Rattle.pas_machine.specs.Machines.{profile_of}
 use Rattle.pas_trace.specs.Acts.{acts_from}
 use Rattle.pas_trace.specs.EveryPlan.{all_ops}
@@ -15,6 +15,6 @@ invariant-loop-phase l = record {
   within : IsWithin l.text l.cursor;
   count : l.number ≡ l.phase-index + 1;
   planned : ArePlanned (profile_of l.fn.judge.machine) (names_held l.fn.judge.names) (all_ops (map ops_of (drop l.phase-index l.phases)));
-  far : TakenTo l.text l.fn.judge l.fn.cursor l.judge l.cursor (acts_from (threads_in l.fn.judge) 2 (map ops_of l.phases))
-      (acts_from (threads_in l.fn.judge) (l.number + 1) (map ops_of (drop l.phase-index l.phases))) true;
+  far : (keepers : ℕ) → TakenTo l.text l.fn.judge l.fn.cursor l.judge l.cursor (acts_from (threads_in l.fn.judge) keepers 2 (map ops_of l.phases))
+      (acts_from (threads_in l.fn.judge) keepers (l.number + 1) (map ops_of (drop l.phase-index l.phases))) true;
 }

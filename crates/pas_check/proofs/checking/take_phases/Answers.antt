@@ -1,4 +1,4 @@
-use Rattle.std.proofs.Common.{◌≡◌, ◌-◌, ◌<◌, Bool, List, drop, take, get_or, length, map, ap, subst, sym, ◌∙◌, arith}
+use Rattle.std.proofs.Common.{◌≡◌, ℕ, ◌-◌, ◌<◌, Bool, List, drop, take, get_or, length, map, ap, subst, sym, ◌∙◌, arith}
 use Rattle.pas_profile.specs.declared.profile.Profile.{Profile}
 use Rattle.pas_machine.specs.Machines.{profile_of}
 use Rattle.pas_trace.specs.Acts.{acts_from, acts_of, close_acts}
@@ -41,16 +41,16 @@ returns-in-Ok-true-clause-taken c =
     let some : 0 < length c.args.phases.now = omega arith in
     let is : c.as_slice.result.now ≡ ops_of (get_or c.args.phases.now 0 d) = c.as_slice.ensures ∙ ap ops_of c.index-phases-0.is in
     if_ok c.take_later.result
-    (λ (taken : Bool). TakenTo c.args.text.now mid at new to (acts_from (threads_in mid) 2 (map ops_of (take (length c.args.phases.now - 1) (drop 1 c.args.phases.now)))) (close_acts (threads_in mid)) taken)
-    (λ (taken : Bool). TakenTo c.args.text.now old c.args.cursor.now new to (acts_of (threads_in old) (map ops_of c.args.phases.now)) (close_acts (threads_in old)) taken)
-    (λ taken done. first_on c.args.text.now old c.args.cursor.now c.args.phases.now d c.as_slice.result.now some is mid new at to taken
+    (λ (taken : Bool). (keepers : ℕ) → TakenTo c.args.text.now mid at new to (acts_from (threads_in mid) keepers 2 (map ops_of (take (length c.args.phases.now - 1) (drop 1 c.args.phases.now)))) (close_acts (threads_in mid) keepers) taken)
+    (λ (taken : Bool). (keepers : ℕ) → TakenTo c.args.text.now old c.args.cursor.now new to (acts_of (threads_in old) keepers (map ops_of c.args.phases.now)) (close_acts (threads_in old) keepers) taken)
+    (λ taken done keepers. first_on keepers c.args.text.now old c.args.cursor.now c.args.phases.now d c.as_slice.result.now some is mid new at to taken
     (ap (λ (f : Profile). f.threads) c.in-Ok-true.ensures.sized.profile) (rw c.in-Ok-true.field-0-test at c.in-Ok-true.ensures.taken)
-    (subst (λ (ps : List Phase). TakenTo c.args.text.now mid at new to (acts_from (threads_in mid) 2 (map ops_of ps)) (close_acts (threads_in mid)) taken) (rest_is c.args.phases.now) done))
+    (subst (λ (ps : List Phase). TakenTo c.args.text.now mid at new to (acts_from (threads_in mid) keepers 2 (map ops_of ps)) (close_acts (threads_in mid) keepers) taken) (rest_is c.args.phases.now) (done keepers)))
     c.take_later.ensures.taken
 
 pub returns-in-Ok-false-clause-taken : goal.returns-in-Ok-false-clause-taken
-returns-in-Ok-false-clause-taken c =
+returns-in-Ok-false-clause-taken c keepers =
     let d = c.index-phases-0.result in
     let some : 0 < length c.args.phases.now = omega arith in
-    first_amiss c.args.text.now c.args.judge.now c.args.cursor.now c.args.phases.now d c.as_slice.result.now some (c.as_slice.ensures ∙ ap ops_of c.index-phases-0.is)
+    first_amiss keepers c.args.text.now c.args.judge.now c.args.cursor.now c.args.phases.now d c.as_slice.result.now some (c.as_slice.ensures ∙ ap ops_of c.index-phases-0.is)
     c.take_phase.new.judge c.take_phase.new.cursor (rw c.in-Ok-false.field-0-test at c.in-Ok-false.ensures.taken)

@@ -1,8 +1,10 @@
 use Rattle.std.proofs.Common.{◌≡◌, ◌≤◌, ◌^◌, List, [], length, ap, sym, arith}
 use Rattle.pas_profile.specs.declared.profile.Profile.{Profile}
 use Rattle.pas_machine.specs.Machines.{profile_of}
+use Rattle.pas_trace.specs.Acts.{keepers_of}
 use Rattle.pas_trace.specs.declared.plan.Phase.{Phase}
 use Rattle.pas_trace.proofs.EveryPlan.{every_plan}
+use Rattle.pas_trace.proofs.Keepers.{keepers_few}
 use Rattle.pas_check.specs.Begins.{report_due}
 use Rattle.pas_check.specs.Checks.{IsSoFar}
 use Rattle.pas_check.specs.States.{at_first}
@@ -25,14 +27,14 @@ take_acts-requires-clause-planned c = planned_there c.requires.plan.0 c.args.pla
 pub returns-in-Ok-false : goal.returns-in-Ok-false
 returns-in-Ok-false c =
     acts_amiss c.requires.plan.0 c.args.plan.now c.args.transcript.now c.in-Ok.judge c.take_acts.new.judge c.take_acts.new.cursor c.requires.plan.2 c.requires.plan.1 c.in-Ok.ensures
-    (opening_within c.args.transcript.now) c.first-cursor.result c.as_slice.result.now c.first-cursor.ensures c.as_slice.ensures
+    (opening_within c.args.transcript.now) c.first-cursor.result c.as_slice.result.now c.keeper_count-keepers.result c.first-cursor.ensures c.as_slice.ensures c.keeper_count-keepers.ensures
     (rw c.in-Ok-false.field-0-test at c.in-Ok-false.ensures.taken)
 
 -- after the acts
 so_far : (c : In-Ok-true) → IsSoFar c.args.plan.now.profile c.args.transcript.now (at_first c.args.plan.now) c.take_acts.new.judge c.take_acts.new.cursor []
 so_far c =
     acts_on c.requires.plan.0 c.args.plan.now c.args.transcript.now c.in-Ok.judge c.take_acts.new.judge c.take_acts.new.cursor c.requires.plan.2 c.requires.plan.1 c.in-Ok.ensures
-    (opening_within c.args.transcript.now) c.first-cursor.result c.as_slice.result.now c.first-cursor.ensures c.as_slice.ensures
+    (opening_within c.args.transcript.now) c.first-cursor.result c.as_slice.result.now c.keeper_count-keepers.result c.first-cursor.ensures c.as_slice.ensures c.keeper_count-keepers.ensures
     (rw c.in-Ok-true.field-0-test at c.in-Ok-true.ensures.taken)
 
 -- its report
@@ -70,3 +72,12 @@ returns c =
     let s = reported c.args.plan.now c.args.transcript.now c.take_acts.new.judge c.take_acts.new.cursor so in
     goes_on c.args.plan.now c.args.transcript.now c.take_acts.new.judge c.take_acts.new.cursor so c.take_report.new.cursor (profile_of c.take_acts.new.judge.machine) so.stands.profile
     (c.if-not-take_report.ensures.led s so.stands.events (sym (reports d))) _ c.next_line.new.cursor c.in-Some.ensures.some c.next_line.ensures.count
+
+pub take_acts-requires-clause-kept : goal.take_acts-requires-clause-kept
+take_acts-requires-clause-kept c =
+    let valid = (every_plan c.requires.plan.2).valid in
+    let most = valid.threads in
+    let few : keepers_of c.args.plan.now ≤ c.args.plan.now.profile.threads = keepers_few c.args.plan.now in
+    let count = ap (λ (f : Profile). f.threads) c.in-Ok.ensures.profile in
+    let is = c.keeper_count-keepers.ensures in
+    omega (arith, most, few, count, is)

@@ -1,9 +1,10 @@
 use Rattle.std.proofs.Common.{◌∙◌, ◌≤◌, ℕ, refl, ap, sym, subst}
+use Rattle.pas_trace.specs.Asked.{keeper_of}
 use Rattle.pas_trace.specs.declared.plan.Chore.{Chore}
 use Rattle.pas_plans.specs.Awake.{idle_in}
 use Rattle.pas_answers.proofs.Kept.{own_what}
 use Rattle.pas_replay.proofs.ActsInOrder.{as_first}
-use Rattle.pas_replay.proofs.ByActors.{acts_as_work, acts_as_chore}
+use Rattle.pas_replay.proofs.ByActors.{acts_as_own, acts_as_chore, own_actor}
 use Rattle.pas_replay.proofs.order.perform.Goals as goal
 
 pub tick-requires : goal.tick-requires
@@ -23,17 +24,18 @@ stop_idle-requires-clause-so_far g c =
     let is = c.in-Chore-Idle.field-0-is ∙ ap (λ (n : ℕ). Chore.Idle n) (sym c.in-Chore-Idle.epochs-is) in
     (c.args.names.now, (so0.0, so0.1, as_first so0.1 (acts_as_chore (idle_in c.args.awake so0.0.threads) c.args.op c.work.ensures c.in-Chore-Idle.is is) so0.2))
 
-pub operate-requires : goal.operate-requires
-operate-requires g c =
+pub own-requires : goal.own-requires
+own-requires g c =
     let so0 = c.requires.so_far in
-    let so = as_first so0.1 (acts_as_work (idle_in c.args.awake so0.0.threads) c.args.op c.work.ensures c.in-Own.is) so0.2 in
+    let so = as_first so0.1 (acts_as_own (idle_in c.args.awake so0.0.threads) c.args.op c.work.ensures c.in-Own.is) so0.2 in
     let asks = own_what c.args.op.what c.in-Own.task (sym c.work.ensures ∙ c.in-Own.is) in
-    record { some = so.1.1.names.fit.0.0; thread = subst (λ (n : ℕ). c.args.op.actor ≤ n) (sym so.1.1.many) so.1.1.operate.0; so_far = (c.args.op, refl, asks, (so0.0, so0.1, so)) }
+    let of = own_actor (keeper_of c.in-Own.task) c.args.op so.1 in
+    record { some = of.0; thread = subst (λ (n : ℕ). c.args.op.actor ≤ n) (sym so.1.1.many) of.1; so_far = (c.args.op, refl, asks, (so0.0, so0.1, so)) }
 
 pub returns-in-Own-clause-so_far : goal.returns-in-Own-clause-so_far
 returns-in-Own-clause-so_far g c r more so =
     let asks = own_what c.args.op.what c.in-Own.task (sym c.work.ensures ∙ c.in-Own.is) in
-    c.operate.ensures.so_far c.args.op refl asks r more (as_first more (acts_as_work (idle_in c.args.awake r.threads) c.args.op c.work.ensures c.in-Own.is) so)
+    c.own.ensures.so_far c.args.op refl asks r more (as_first more (acts_as_own (idle_in c.args.awake r.threads) c.args.op c.work.ensures c.in-Own.is) so)
 
 pub returns-in-Chore-Tick-clause-so_far : goal.returns-in-Chore-Tick-clause-so_far
 returns-in-Chore-Tick-clause-so_far g c r more so =

@@ -6,7 +6,7 @@ use Rattle.pas_replay.proofs.ByActors.{rests_now, act_turn}
 use Rattle.pas_replay.proofs.seats.end.Goals as goal
 
 pub take_seat-requires : goal.take_seat-requires
-take_seat-requires c = let so = c.requires.so_far.1.2 in may_take c.args.desk.now c.args.actors.now c.args.actor c.requires.thread so.0 so.1.1
+take_seat-requires c = let so = c.requires.so_far.1.2 in may_take c.args.desk.now c.args.actors.now c.args.actor (let thread = c.requires.thread in omega (arith, thread)) so.0 so.1.1
 
 pub end-requires : goal.end-requires
 end-requires c =
@@ -20,5 +20,5 @@ returns-clause-cache c = (c.end.new.cache, refl, c.end.ensures.empty)
 pub returns-clause-so_far : goal.returns-clause-so_far
 returns-clause-so_far c table r more (taken, (p, at)) =
     let did = c.end.ensures.ends r.profile c.args.actor _ p (rests_now c.args.actor 0 c.index_mut-cache.result.now c.requires.some c.requires.thread refl refl c.take_seat.ensures c.index_mut-cache.ensures.value at) in
-    let so = act_turn c.args.actor c.index_mut-cache.result.now c.end.new.cache c.requires.some c.requires.thread (λ j. refl) refl (λ limit asked fit. fit) (λ indexes p. (refl, λ q is. tt)) c.take_seat.ensures c.index_mut-cache.ensures.value at did (omega arith) (sym (append-nil (records_in c.end.new.out))) refl in
+    let so = act_turn c.args.actor c.index_mut-cache.result.now c.end.new.cache c.requires.some c.requires.thread (λ limit asked fit. fit) (λ indexes p q is. (refl, tt)) c.take_seat.ensures c.index_mut-cache.ensures.value at did (omega arith) (sym (append-nil (records_in c.end.new.out))) refl in
     (so.0, (did.reached, so.1))

@@ -8,3 +8,6 @@ returns-in-Request-clause-stand c = λ f all came n. set_stands f (c.in-Request.
 
 pub returns-in-Remake-clause-stand : goal.returns-in-Remake-clause-stand
 returns-in-Remake-clause-stand c = λ f all came n. set_stands f (c.in-Remake.name == n) c.args.came (block_named c.args.names.now n) (block_named c.set-in-Remake.new.self n) (c.set-in-Remake.ensures.names n) came (all n)
+
+pub returns-in-Guarded-clause-stand : goal.returns-in-Guarded-clause-stand
+returns-in-Guarded-clause-stand c = λ f all came n. set_stands f (c.in-Guarded.name == n) c.args.came (block_named c.args.names.now n) (block_named c.set-in-Guarded.new.self n) (c.set-in-Guarded.ensures.names n) came (all n)

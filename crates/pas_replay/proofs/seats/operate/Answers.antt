@@ -1,4 +1,4 @@
-use Rattle.std.proofs.Common.{◌-◌, ◌++◌, ◌∙◌, subst}
+use Rattle.std.proofs.Common.{◌-◌, ◌++◌, ◌∙◌, subst, arith}
 use Rattle.std.proofs.lemmas.List.{length-set}
 use Rattle.pas_trace.specs.declared.plan.What.{What}
 use Rattle.pas_profile.specs.declared.profile.Profile.{Profile}
@@ -12,7 +12,7 @@ use Rattle.pas_replay.proofs.Doors.{written_back}
 use Rattle.pas_replay.proofs.seats.operate.Goals as goal
 
 pub take_seat-requires : goal.take_seat-requires
-take_seat-requires g c = let so = c.requires.so_far.3.2 in may_take c.args.desk.now c.args.actors.now c.args.actor c.requires.thread so.0 so.1.1
+take_seat-requires g c = let so = c.requires.so_far.3.2 in may_take c.args.desk.now c.args.actors.now c.args.actor (let thread = c.requires.thread in omega (arith, thread)) so.0 so.1.1
 
 pub operate_by-came-requires : goal.operate_by-came-requires
 operate_by-came-requires g c =

@@ -18,5 +18,5 @@ pass-requires-clause-places c = let at = sat_down c.take_seat.ensures c.requires
 pub returns-clause-so_far : goal.returns-clause-so_far
 returns-clause-so_far c table r more (taken, (p, at)) =
     let did = c.pass.ensures.passes r.profile _ p (scavenger_now c.take_seat.ensures at) in
-    let so = scavenger_turn c.take_seat.ensures (λ j. refl) (λ limit asked fit. fit) (λ indexes p. (refl, λ q is. tt)) at did c.pass.ensures.places in
+    let so = scavenger_turn c.take_seat.ensures (λ limit asked fit. fit) (λ indexes p q is. (refl, tt)) at did c.pass.ensures.places in
     (so.0, (did.reached, so.1))

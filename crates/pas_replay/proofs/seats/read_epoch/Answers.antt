@@ -14,5 +14,5 @@ read_epoch-requires c =
 pub returns-clause-so_far : goal.returns-clause-so_far
 returns-clause-so_far c table out r more (taken, (p, at)) =
     let did = c.read_epoch.ensures.reads r.profile out _ p (scavenger_now c.take_seat.ensures at) in
-    let so = scavenger_turn c.take_seat.ensures (λ j. refl) (λ limit asked fit. fit) (λ indexes p. (refl, λ q is. tt)) at did.0 refl in
+    let so = scavenger_turn c.take_seat.ensures (λ limit asked fit. fit) (λ indexes p q is. (refl, tt)) at did.0 refl in
     (so.0, did.0.reached, so.1, did.1)

@@ -6,7 +6,7 @@ use Rattle.pas_replay.proofs.ByActors.{rests_now, act_turn}
 use Rattle.pas_replay.proofs.seats.stop_if_idle.Goals as goal
 
 pub take_seat-requires : goal.take_seat-requires
-take_seat-requires c = let so = c.requires.so_far.1.2 in may_take c.args.desk.now c.args.actors.now c.args.actor c.requires.thread so.0 so.2
+take_seat-requires c = let so = c.requires.so_far.1.2 in may_take c.args.desk.now c.args.actors.now c.args.actor (let thread = c.requires.thread in omega (arith, thread)) so.0 so.2
 
 pub stop_if_idle-requires : goal.stop_if_idle-requires
 stop_if_idle-requires c =
@@ -25,11 +25,11 @@ push-requires c =
 pub returns-then-stop_if_idle-clause-so_far : goal.returns-then-stop_if_idle-clause-so_far
 returns-then-stop_if_idle-clause-so_far c table r more (taken, p, at, read) =
     let did = c.if-stop_if_idle.ensures.stops r.profile c.args.actor _ p (rests_now c.args.actor 1 c.index_mut-cache.result.now c.requires.some c.requires.thread refl refl c.take_seat.ensures c.index_mut-cache.ensures.value at) read in
-    let so = act_turn c.args.actor c.index_mut-cache.result.now c.stop_if_idle.new.cache c.requires.some c.requires.thread (λ j. refl) refl (λ limit asked fit. fit) (λ indexes p. (refl, λ q is. tt)) c.take_seat.ensures c.index_mut-cache.ensures.value at did (omega arith) c.push.ensures.added c.push.ensures.size in
+    let so = act_turn c.args.actor c.index_mut-cache.result.now c.stop_if_idle.new.cache c.requires.some c.requires.thread (λ limit asked fit. fit) (λ indexes p q is. (refl, tt)) c.take_seat.ensures c.index_mut-cache.ensures.value at did (omega arith) c.push.ensures.added c.push.ensures.size in
     (so.0, did.reached, so.1, did.epoch ∙ read)
 
 pub returns-else-stop_if_idle-clause-so_far : goal.returns-else-stop_if_idle-clause-so_far
 returns-else-stop_if_idle-clause-so_far c table r more (taken, p, at, read) =
     let did = c.if-stop_if_idle.ensures.stops r.profile c.args.actor _ p (rests_now c.args.actor 1 c.index_mut-cache.result.now c.requires.some c.requires.thread refl refl c.take_seat.ensures c.index_mut-cache.ensures.value at) read in
-    let so = act_turn c.args.actor c.index_mut-cache.result.now c.stop_if_idle.new.cache c.requires.some c.requires.thread (λ j. refl) refl (λ limit asked fit. fit) (λ indexes p. (refl, λ q is. tt)) c.take_seat.ensures c.index_mut-cache.ensures.value at did (omega arith) (sym (append-nil (records_in c.stop_if_idle.new.out))) refl in
+    let so = act_turn c.args.actor c.index_mut-cache.result.now c.stop_if_idle.new.cache c.requires.some c.requires.thread (λ limit asked fit. fit) (λ indexes p q is. (refl, tt)) c.take_seat.ensures c.index_mut-cache.ensures.value at did (omega arith) (sym (append-nil (records_in c.stop_if_idle.new.out))) refl in
     (so.0, did.reached, so.1, did.epoch ∙ read)

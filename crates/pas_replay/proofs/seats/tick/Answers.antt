@@ -17,5 +17,5 @@ tick-requires-clause-stands c =
 pub returns-clause-so_far : goal.returns-clause-so_far
 returns-clause-so_far c table r more (taken, (p, at)) =
     let did = c.tick.ensures.ticks r.profile _ p (scavenger_now c.take_seat.ensures at) in
-    let so = scavenger_turn c.take_seat.ensures (λ j. refl) (λ limit asked fit. fit.1) (λ indexes p. (refl, λ q is. tt)) at did refl in
+    let so = scavenger_turn c.take_seat.ensures (λ limit asked fit. fit.1) (λ indexes p q is. (refl, tt)) at did refl in
     (so.0, (did.reached, so.1))

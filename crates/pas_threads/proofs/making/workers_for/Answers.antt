@@ -1,13 +1,15 @@
-use Rattle.std.proofs.Common.{◌≡◌, ◌+◌, ◌++◌, ◌∷◌, [], List, length, slice_index, Option, Some, IfSome, refl, ap, sym, subst, arith}
+use Rattle.std.proofs.Common.{◌≡◌, ◌+◌, ◌++◌, ◌∷◌, [], List, length, slice_index, Option, Some, None, IfSome, refl, ap, sym, subst, arith}
+use Rattle.std.specs.List.{AllByRecursion}
 use Rattle.std.proofs.lemmas.List.Elements.{All-pop}
 use Rattle.pas_cache.specs.Caches.{cached}
 use Rattle.pas_cache.specs.declared.cache.ThreadCache.{ThreadCache}
 use Rattle.pas_shared.specs.declared.pass.SharedPass.{SharedPass}
 use Rattle.pas_shared.proofs.Opened.{one_done}
 use Rattle.pas_answers.specs.Replays.{empty_cache}
-use Rattle.pas_threads.specs.Kits.{IsEquipped, AreEquipped}
+use Rattle.pas_threads.specs.Kits.{IsEquipped, AreEquipped, IsAlone}
 use Rattle.pas_threads.specs.declared.workers.Worker.{Worker}
-use Rattle.pas_threads.proofs.StartAndEnd.{equipped_more}
+use Rattle.pas_threads.proofs.MakingKeepers.{alone_more, all_alone}
+use Rattle.pas_threads.proofs.Start.{equipped_more}
 use Rattle.pas_threads.proofs.making.workers_for.Goals as goal
 
 pub loop-pass-preserved : goal.loop-pass-preserved
@@ -25,7 +27,7 @@ loop-pass-preserved c =
     let same = c.push_reserved.ensures.capacity in
     let unused = All-pop (λ (cache : ThreadCache). cached cache ≡ empty_cache) _ _ _ c.pop.ensures.items i.unused in
     let requests = c.in_ok-requests.ensures.room in
-    let worker : Worker = record { pass = Some c.in-Some.pass; cache = c.in-Some-pop.cache; requests = c.in_ok-requests.requests; out = c.in_ok-out.out } in
+    let worker : Worker = record { pass = Some c.in-Some.pass; cache = c.in-Some-pop.cache; requests = c.in_ok-requests.requests; out = c.in_ok-out.out; keeper = None } in
     let equipped : IsEquipped c.in-Some.pass (slice_index bounds (c.len-thread.result + 1)) worker = record {
       present = refl;
       cache = subst (λ (popped : Option ThreadCache). IfSome popped (λ cache. cached cache ≡ empty_cache)) c.in-Some-pop.is unused.1;
@@ -42,8 +44,12 @@ loop-pass-preserved c =
         subst (λ (ws : List Worker). AreEquipped bounds 1 more ws) (sym c.push_reserved.ensures.items)
             (equipped_more bounds 1 (c.len-thread.result + 1) i.some.0 c.loop-pass.workers.items c.in-Some.pass worker i.some.2 (omega (arith, len)) equipped),
       );
+      alone = subst (λ (ws : List Worker). AllByRecursion IsAlone ws) (sym c.push_reserved.ensures.items) (alone_more c.loop-pass.workers.items worker refl i.alone);
       unused = unused.0;
       caches = omega (arith, rest, popped, caches);
       many = omega (arith, rest, pushed, many);
       reserved = omega (arith, reserved, same);
     }
+
+pub returns-clause-alone : goal.returns-clause-alone
+returns-clause-alone c = all_alone c.loop-pass.workers.items c.loop-pass.invariant.alone

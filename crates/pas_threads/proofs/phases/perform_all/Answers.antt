@@ -11,23 +11,23 @@ use Rattle.pas_threads.proofs.phases.perform_all.Goals as goal
 
 pub act_with-scavenger-requires-clause-threads : goal.act_with-scavenger-requires-clause-threads
 act_with-scavenger-requires-clause-threads g c =
-    let may = own_may c.requires.ready.3 c.args.awake c.requires.awake in
+    let may = own_may c.requires.ready.4 c.args.awake c.requires.awake in
     λ here lives. (picked (is_in c.args.awake) 1 c.args.team.threads.items, c.deal.ensures.dealt.0, λ k d lt. may k d lt)
 
 pub act_with-scavenger-requires-clause-scavenger : goal.act_with-scavenger-requires-clause-scavenger
 act_with-scavenger-requires-clause-scavenger g c = λ here lives busy.
-    let ready = c.requires.ready.3 in
+    let ready = c.requires.ready.4 in
     record {
-      shift = shift_of (round c.requires.ready.0 c.args.team.book c.args.ops.now c.requires.ready.1 c.requires.ready.2);
+      shift = shift_of (round c.requires.ready.0 c.args.team.book c.args.ops.now c.requires.ready.1 c.requires.ready.2 c.requires.ready.3);
       asked = ready.asked;
-      progress = c.requires.ready.2;
+      progress = c.requires.ready.3;
       sound = ready.sound;
       stands = may_scavenge ready c.args.awake c.requires.awake _ refl refl refl c.deal.ensures.dealt.1;
     }
 
 pub act_with-scavenger-requires-clause-place : goal.act_with-scavenger-requires-clause-place
 act_with-scavenger-requires-clause-place g c =
-    let ready = c.requires.ready.3 in
+    let ready = c.requires.ready.4 in
     let inside = picked_many (is_in c.args.awake) 1 c.args.team.threads.items in
     let most = count_most (is_in c.args.awake) 1 (length c.args.team.threads.items) in
     let many = ready.many in
@@ -38,7 +38,7 @@ act_with-scavenger-requires-clause-place g c =
 
 pub take_back-requires-clause-sized : goal.take_back-requires-clause-sized
 take_back-requires-clause-sized g c =
-    let ready = c.requires.ready.3 in
+    let ready = c.requires.ready.4 in
     let dealt = c.deal.ensures.dealt in
     let ws = c.args.team.threads.items in
     let each = c.act_with-scavenger.ensures.threads (picked (is_in c.args.awake) 1 ws) dealt.0 in
@@ -53,7 +53,7 @@ take_back-requires-clause-sized g c =
 
 pub returns : goal.returns
 returns g c = record {
-  done = λ s later p ready.
+  done = λ s later more p ready.
       let dealt = c.deal.ensures.dealt in
       let each = c.act_with-scavenger.ensures.threads (picked (is_in c.args.awake) 1 c.args.team.threads.items) dealt.0 in
       let scavenger : Scavenger = record { pass = c.args.team.scavenger.pass; outcomes = c.args.team.scavenger.outcomes; out = c.args.team.scavenger.out; lent = c.deal.new.lent } in

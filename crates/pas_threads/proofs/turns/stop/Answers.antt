@@ -25,6 +25,7 @@ returns-clause-stopped c = λ f k later p at.
           (subst (λ (r : SharedRegion). IsPassOf r c.into_pass.result) (c.end.ensures.home ∙ c.desk-desk.ensures.region) c.into_pass.ensures.of)
           (c.end.ensures.ends f k later p (seated (λ σ. RestsAt f k σ (cached old.cache) old.out later p) pass is at.has at.rests));
       requests = refl;
+      keeper = refl;
     }
 
 pub returns-clause-empty : goal.returns-clause-empty

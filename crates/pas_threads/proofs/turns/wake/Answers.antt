@@ -25,7 +25,7 @@ returns c = record {
       (subst (λ (r : SharedRegion). IsPassOf r c.into_pass.result) (c.begin.ensures.home ∙ c.desk-desk.ensures.region) c.into_pass.ensures.of)
       (c.begin.ensures.begins f k old.out later p (seated (λ σ. RestsAt f k σ (cached old.cache) old.out later p) pass is at.has at.rests))
       in (
-        record { did = record { before = did.before; after = did.after; does = did.does.0 }; requests = refl },
+        record { did = record { before = did.before; after = did.after; does = did.does.0 }; requests = refl; keeper = refl },
         did.does.1,
       );
 }

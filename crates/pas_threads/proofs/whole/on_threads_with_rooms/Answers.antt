@@ -2,8 +2,10 @@ use Rattle.std.proofs.Common.{List, length, map, ap, arith}
 use Rattle.std.proofs.lemmas.List.{length-map}
 use Rattle.pas_trace.specs.Plans.{ops_of}
 use Rattle.pas_trace.specs.declared.plan.Phase.{Phase}
-use Rattle.pas_plans.proofs.PlanFacts.{plan_phases, plan_valid}
-use Rattle.pas_threads.proofs.StartAndEnd.{session_of, handed, all_back, all_of_region, shows, replayed_so}
+use Rattle.pas_trace.proofs.Keepers.{plan_actors}
+use Rattle.pas_plans.proofs.PlanFacts.{plan_phases, plan_valid, plan_operate}
+use Rattle.pas_threads.proofs.Start.{session_of, handed}
+use Rattle.pas_threads.proofs.End.{all_back, all_slots, all_of_region, shows, replayed_so}
 use Rattle.pas_threads.proofs.whole.on_threads_with_rooms.Goals as goal
 
 pub replay-team-requires-clause-phases : goal.replay-team-requires-clause-phases
@@ -22,9 +24,10 @@ replay-team-requires-clause-stands g c =
 pub passes_of-passes-requires-clause-places : goal.passes_of-passes-requires-clause-places
 passes_of-passes-requires-clause-places g c =
     let start = handed c.args.out.now c.as_slice.result.now c.requires.plan.2 c.requires.kit c.as_slice.ensures c.requires.empty c.requires.room in
-    let many = (c.replay-team.ensures.replayed (session_of c.args.plan.now) start.0 start.1).stands.many in
+    let many = all_slots (c.replay-team.ensures.replayed (session_of c.args.plan.now) start.0 start.1).stands in
+    let actors = plan_actors c.args.plan.now in
     let place = c.requires.kit.place in
-    omega (arith, many, place)
+    omega (arith, many, actors, place)
 
 pub passes_of-passes-requires-clause-back : goal.passes_of-passes-requires-clause-back
 passes_of-passes-requires-clause-back g c =
@@ -40,4 +43,4 @@ pub returns : goal.returns
 returns g c =
     let start = handed c.args.out.now c.as_slice.result.now c.requires.plan.2 c.requires.kit c.as_slice.ensures c.requires.empty c.requires.room in
     let replayed = replayed_so c.args.plan.now c.as_slice.result.now c.as_slice.ensures (c.replay-team.ensures.replayed (session_of c.args.plan.now) start.0 start.1) in
-    shows {plan = c.args.plan.now} c.passes_of-passes.result.items (plan_valid c.requires.plan.2) c.requires.kit.profile replayed c.passes_of-passes.ensures c.close.ensures
+    shows {plan = c.args.plan.now} c.passes_of-passes.result.items (plan_valid c.requires.plan.2) (plan_operate c.requires.plan.2) c.requires.kit.profile replayed c.passes_of-passes.ensures c.close.ensures

@@ -29,6 +29,7 @@ returns c = record {
               pass c.stop_and_tell.new.desk.pass c.into_pass.result is at.has c.into_pass.ensures.pass
               (subst (λ (r : SharedRegion). IsPassOf r c.into_pass.result) (c.stop_and_tell.ensures.home ∙ c.desk-desk.ensures.region) c.into_pass.ensures.of) did.1;
           requests = refl;
+          keeper = refl;
         };
         told = did.2;
       };

@@ -1,48 +1,68 @@
-use Rattle.std.proofs.Common.{◌+◌, List, Some, length, slice_index, ap, sym, ◌∙◌, subst, arith}
+use Rattle.std.proofs.Common.{◌+◌, List, [], Some, length, slice_index, ap, sym, ◌∙◌, subst, arith}
+use Rattle.std.specs.Prelude.{All}
 use Rattle.std.proofs.lemmas.List.{length-map}
 use Rattle.std.proofs.lemmas.Option.{same_Some}
+use Rattle.pas_profile.specs.declared.profile.Profile.{Profile}
+use Rattle.pas_plain.specs.Plain.{PassStands}
 use Rattle.pas_plain.specs.declared.pass.PlainPass.{PlainPass}
 use Rattle.pas_utility.specs.Pools.{room_of}
 use Rattle.pas_answers.specs.Fit.{AllBelow}
-use Rattle.pas_answers.specs.Replays.{phases_of, region_of}
+use Rattle.pas_answers.specs.Replays.{phases_of}
 use Rattle.pas_replay.proofs.Opening.{passes_count, fresh_actor}
-use Rattle.pas_plans.proofs.PlanFacts.{plan_valid, plan_bounds, plan_below}
+use Rattle.pas_plans.proofs.PlanFacts.{plan_bounds, plan_below, plan_threads}
 use Rattle.pas_replay.proofs.kit.PlainKit.try_new.Goals as goal
 
 pub try_new-requires : goal.try_new-requires
-try_new-requires c = record { bounds = ap (λ bs. length bs) c.as_slice.ensures ∙ plan_bounds c.requires.1 }
+try_new-requires c = record { bounds = ap (λ bs. length bs) c.as_slice.ensures ∙ plan_bounds c.requires.1 ∙ ap (λ (f : Profile). f.threads + 1) (sym c.region_of-profile.ensures.region) }
 
 pub rooms_of-requires-clause-few : goal.rooms_of-requires-clause-few
-rooms_of-requires-clause-few c = (plan_valid c.requires.1).threads
+rooms_of-requires-clause-few c = c.region_of-profile.ensures.valid.threads
 
 pub rooms_of-requires-clause-left : goal.rooms_of-requires-clause-left
 rooms_of-requires-clause-left c = λ k le. (slice_index c.as_slice.result.now k, c.in_ok-utility.ensures.rooms k le)
 
-pub try_new-requires-2-clause-valid : goal.try_new-requires-2-clause-valid
-try_new-requires-2-clause-valid c = plan_valid c.requires.1
-
 pub caches_for-requires-clause-few : goal.caches_for-requires-clause-few
-caches_for-requires-clause-few c = (plan_valid c.requires.1).threads
+caches_for-requires-clause-few c =
+    let valid = c.region_of-profile.ensures.valid.threads in
+    let same = ap (λ (f : Profile). f.threads) c.region_of-profile.ensures.region in
+    let among = plan_threads c.args.plan.now in
+    omega (arith, valid, same, among)
+
+pub caches_for-requires-clause-threads : goal.caches_for-requires-clause-threads
+caches_for-requires-clause-threads c =
+    let same = ap (λ (f : Profile). f.threads) c.region_of-profile.ensures.region in
+    let among = plan_threads c.args.plan.now in
+    let made = c.in_ok-utility.ensures.threads in
+    let left = c.rooms_of.ensures.threads in
+    omega (arith, same, among, made, left)
 
 pub caches_for-requires-clause-left : goal.caches_for-requires-clause-left
-caches_for-requires-clause-left c = λ k low high. c.rooms_of.ensures.seats k ∙ c.in_ok-utility.ensures.seats k low high
+caches_for-requires-clause-left c = λ k low high.
+    let same = ap (λ (f : Profile). f.threads) c.region_of-profile.ensures.region in
+    let among = plan_threads c.args.plan.now in
+    c.rooms_of.ensures.seats k ∙ c.in_ok-utility.ensures.seats k low (omega (arith, high, same, among))
 
 pub returns : goal.returns
 returns c =
     let plan = c.args.plan.now in
+    let profile = c.region_of-profile.result in
+    let region = c.region_of-profile.ensures.region in
+    let threads = ap (λ (f : Profile). f.threads) region in
     let rooms = c.in_ok-rooms.ensures.rooms in
     let many = rooms.many in
     let long = ap (λ (ps : List PlainPass). length ps) c.in_ok-region.ensures.passes ∙ passes_count 0 c.in_ok-rooms.rooms.items in
     let placed = ap (λ ps. length ps) c.in_ok-places.ensures.places ∙ length-map c.in_ok-region.passes.items (λ p. Some p) in
+    let stand = subst (λ (f : Profile). All (λ (pass : PlainPass). PassStands f pass []) c.in_ok-region.passes.items) region c.in_ok-region.ensures.stand in
     record {
-      profile = c.in_ok-region.ensures.profile;
+      profile = c.in_ok-region.ensures.profile ∙ region;
       opening = c.in_ok-region.ensures.opening;
-      actors = omega (arith, many, long, placed);
-      fresh = fresh_actor plan (room_of c.in_ok-utility.utility) ((region_of plan).threads + 1) c.in_ok-rooms.rooms.items c.in_ok-region.passes.items c.in_ok-places.places.items rooms
-          (λ k lt. c.in_ok-utility.ensures.rooms k (omega (arith, lt)) ∙ ap (λ bs. Some (slice_index bs k)) c.as_slice.ensures)
-          c.in_ok-region.ensures.passes c.in_ok-region.ensures.stand c.in_ok-places.ensures.places;
+      actors = omega (arith, many, long, placed, threads);
+      fresh = λ k less. fresh_actor plan (room_of c.in_ok-utility.utility) (profile.threads + 1) c.in_ok-rooms.rooms.items c.in_ok-region.passes.items c.in_ok-places.places.items rooms
+          (λ j lt. c.in_ok-utility.ensures.rooms j (omega (arith, lt)) ∙ ap (λ bs. Some (slice_index bs j)) c.as_slice.ensures)
+          c.in_ok-region.ensures.passes stand c.in_ok-places.ensures.places k (omega (arith, less, threads));
       unused = c.in_ok-caches.ensures.caches;
-      places = same_Some _ _ (sym c.outcomes_from.ensures ∙ c.caches_for.ensures.outcomes ∙ c.rooms_of.ensures.outcomes ∙ c.in_ok-utility.ensures.outcomes);
+      books = c.in_ok-books_for.ensures;
+      places = same_Some _ _ (sym c.outcomes_from.ensures ∙ c.caches_for.ensures.outcomes ∙ c.rooms_of.ensures.outcomes ∙ c.in_ok-utility.ensures.outcomes) ∙ ap (λ (f : Profile). f.pages) region;
       indexes = c.in_ok-indexes.ensures;
       no_name = c.in_ok-names.ensures.empty;
       names = subst (λ n. AllBelow n (phases_of plan)) (sym c.in_ok-names.ensures.room) (plan_below c.requires.1);

@@ -1,22 +1,19 @@
-use Rattle.std.proofs.Common.{ℕ, List, Some, length, slice_index, ap, sym, ◌∙◌, subst, arith}
+use Rattle.std.proofs.Common.{◌≡◌, ◌+◌, ◌++◌, ◌∷◌, ℕ, List, Some, length, slice_index, ap, sym, ◌∙◌, subst, arith}
 use Rattle.std.proofs.lemmas.Option.{same_Some}
 use Rattle.pas_profile.specs.declared.profile.Profile.{Profile}
 use Rattle.pas_trace.specs.Plans.{bounds_of}
+use Rattle.pas_trace.proofs.Keepers.{plan_actors}
 use Rattle.pas_shared.specs.declared.pass.SharedPass.{SharedPass}
 use Rattle.pas_shared.proofs.Opened.{fresh_many}
-use Rattle.pas_plans.proofs.PlanFacts.{plan_valid, plan_bounds}
+use Rattle.pas_plans.proofs.PlanFacts.{plan_bounds}
 use Rattle.pas_threads.specs.Kits.{AreNew}
-use Rattle.pas_threads.proofs.StartAndEnd.{fresh_new, first_taken}
+use Rattle.pas_threads.proofs.Start.{fresh_new, first_taken}
 use Rattle.pas_threads.proofs.kit.SharedKit.made_at.Goals as goal
 
 pub try_new-requires : goal.try_new-requires
-try_new-requires c = record { bounds = ap (λ (bs : List ℕ). length bs) c.as_slice-bounds.ensures ∙ plan_bounds c.requires.plan.1 }
-
-pub move_rooms-requires : goal.move_rooms-requires
-move_rooms-requires c = c.in_ok-rooms.ensures.rooms.empty
-
-pub rooms_of-requires-clause-few : goal.rooms_of-requires-clause-few
-rooms_of-requires-clause-few c = (plan_valid c.requires.plan.1).threads
+try_new-requires c = record {
+  bounds = ap (λ (bs : List ℕ). length bs) c.as_slice-bounds.ensures ∙ plan_bounds c.requires.plan.1 ∙ ap (λ (f : Profile). f.threads + 1) (sym c.region_of-profile.ensures.region);
+}
 
 pub rooms_of-requires-clause-left : goal.rooms_of-requires-clause-left
 rooms_of-requires-clause-left c = λ k le. (slice_index c.as_slice-bounds.result.now k, c.in_ok-utility.ensures.rooms k le)
@@ -26,7 +23,8 @@ try_new_at-requires-clause-actors c =
     let many = (c.move_rooms.ensures _ _ c.in_ok-rooms.ensures.rooms).many in
     let long = c.move_rooms.new.rooms.ok.0 in
     let threads = ap (λ (f : Profile). f.threads) c.requires.profile in
-    omega (arith, many, long, threads)
+    let same = ap (λ (f : Profile). f.threads) c.region_of-profile.ensures.region in
+    omega (arith, many, long, threads, same)
 
 pub try_new_at-requires-clause-empty : goal.try_new_at-requires-clause-empty
 try_new_at-requires-clause-empty c = (c.move_rooms.ensures _ _ c.in_ok-rooms.ensures.rooms).empty
@@ -45,7 +43,9 @@ team_for-requires-clause-passes c =
     let long = c.in_ok-region.others.ok.0 in
     let left = c.remove-first.ensures.len in
     let rest = c.remove-first.new.self.ok.0 in
-    omega (arith, many, same, long, left, rest)
+    let region = ap (λ (f : Profile). f.threads) c.region_of-profile.ensures.region in
+    let actors = plan_actors c.args.plan.now in
+    omega (arith, many, same, long, left, rest, region, actors)
 
 pub returns : goal.returns
 returns c =
@@ -56,21 +56,22 @@ returns c =
     let many = rooms.many in
     let fresh = c.in_ok-region.ensures.passes in
     let same = fresh_many _ _ _ _ _ fresh in
-    let long = c.in_ok-region.others.ok.0 in
-    let left = c.remove-first.ensures.len in
-    let rest = c.remove-first.new.self.ok.0 in
     let place = c.in-Ok.ensures.capacity in
+    let threads = ap (λ (f : Profile). f.threads) c.region_of-profile.ensures.region in
+    let team = c.in_ok-team.ensures in
+    let first = c.remove-first.result in
     record {
       profile = c.in_ok-region.ensures.profile ∙ c.requires.profile;
-      first = c.remove-first.result;
-      others = c.remove-first.new.self.items;
-      many = omega (arith, many, same, long, left, rest);
+      first = first;
+      others = team.0;
+      kept = team.1;
+      many = team.3;
       unused = subst (λ (ps : List SharedPass). AreNew region bounds 0 ps)
-          (first_taken c.in_ok-region.others.items c.remove-first.new.self.items c.remove-first.result (omega (arith, many, same)) c.remove-first.ensures.value c.remove-first.ensures.items)
+          (first_taken c.in_ok-region.others.items c.remove-first.new.self.items first (omega (arith, many, same)) c.remove-first.ensures.value c.remove-first.ensures.items ∙ ap (λ (ps : List SharedPass). first ∷ ps) team.2)
           (fresh_new region bounds 0 c.move_rooms.new.rooms.items c.in_ok-region.others.items fresh
           (λ i d lt. same_Some _ _ (sym (rooms.each i d (omega (arith, lt, many))) ∙ c.in_ok-utility.ensures.rooms i (omega (arith, lt, many)) ∙ ap (λ (bs : List ℕ). Some (slice_index bs i)) c.as_slice-bounds.ensures)
           ∙ ap (λ (n : ℕ). slice_index bounds n) (omega arith)));
-      team = c.in_ok-team.ensures;
+      team = team.4;
       none = c.in-Ok.ensures.items;
-      place = omega (arith, place);
+      place = omega (arith, place, threads);
     }

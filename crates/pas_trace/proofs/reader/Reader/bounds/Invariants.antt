@@ -4,5 +4,5 @@ use Rattle.pas_trace.specs.Told.{Tells}
 use Rattle.pas_trace.specs.declared.item.Item.{Item}
 use Rattle.pas_trace.proofs.reader.Reader.bounds.Given as goal
 
-abbrev pub invariant-loop-actor : goal.invariant-loop-actor
-invariant-loop-actor l = (items : List Item) → Tells l.self items → l.bounds.items ≡ bounds_upto l.self.header.profile items l.actor
+abbrev pub invariant-loop-thread : goal.invariant-loop-thread
+invariant-loop-thread l = (items : List Item) → Tells l.self items → l.bounds.items ≡ bounds_upto l.self.header.profile items l.thread

@@ -13,5 +13,5 @@ returns c =
     let heap : nat_lt q.heap r.header.profile.heaps ≡ true = lt-ltb _ _ (omega arith) in
     let free : ((owner_in r.names q.name).thread == 0) ≡ true = eq-eqb _ _ (ap (λ o. o.thread) (sym c.owner.ensures) ∙ c.if-owner-ne0.false) in
     let none : not (has_owner r q.name) ≡ true = ap (λ b. not (not b)) free in
-    let few = subst (λ (n : ℕ). IsChecked (first_failed (few_told r n)) n c.check_counts.result) c.cost_of_allocation.ensures.value c.check_counts.ensures in
+    let few = subst (λ (n : ℕ). IsChecked (first_failed (few_told r n)) n c.check_counts.result) c.cost_of_request.ensures.value c.check_counts.ensures in
     request-checked r c.args.thread q c.check_counts.result thread heap c.in_ok-check_sizing.ensures none few

@@ -1,11 +1,11 @@
-use Rattle.std.proofs.Common.{refl, sym, ap, subst}
+use Rattle.std.proofs.Common.{◌+◌, Some, None, if◌then◌else◌, refl, sym, ap, ◌∙◌, subst}
 use Rattle.std.proofs.lemmas.Result.{on_ok_weaker}
-use Rattle.pas_trace.specs.Plans.{name_at}
+use Rattle.pas_trace.specs.Plans.{name_at, request_kept}
 use Rattle.pas_trace.specs.Told.{IsOperated}
 use Rattle.pas_trace.specs.declared.item.Wish.{Wish}
 use Rattle.pas_trace.specs.declared.names.Owner.{Owner}
 use Rattle.pas_trace.specs.declared.plan.What.{What}
-use Rattle.pas_trace.proofs.Adding.{named, unnamed}
+use Rattle.pas_trace.proofs.Adding.{named, renamed, unnamed}
 use Rattle.pas_trace.proofs.reader.Reader.operate.Goals as goal
 
 pub returns-in_ok-give-in-Asks : goal.returns-in_ok-give-in-Asks
@@ -13,8 +13,12 @@ returns-in_ok-give-in-Asks c =
     let old = c.args.self.now in
     let new = c.count.new.self in
     let a = c.in-Asks in
+    let names = c.give.new.self in
+    let samples = c.sample-guarded.new.self in
+    let kept = c.request_kept-what.ensures ∙ ap (λ guarded. request_kept (if guarded then Some (old.header.profile.threads + c.args.thread) else None) a.name a.heap a.size a.align) c.sample-guarded.ensures.guarded in
     on_ok_weaker c.count.result (λ h. subst (λ (w : Wish). IsOperated old new c.args.thread w c.args.cost) (sym a.is)
-    (named old (record old { names = c.give.new.self }) new c.give.new.self c.args.thread a.name a.heap (Wish.Asks a.name a.heap a.size a.align) (What.Alloc a.name a.heap a.size a.align) c.args.cost refl refl refl refl c.in_ok-give-in-Asks.ensures h)) c.count.ensures
+    (named old (record old { names = names; samples = samples }) new names samples c.args.thread a.name a.heap (Wish.Asks a.name a.heap a.size a.align) c.request_kept-what.result c.args.cost refl refl kept refl
+    c.sample-guarded.ensures.sampled c.in_ok-give-in-Asks.ensures h)) c.count.ensures
 
 pub returns-in-Frees : goal.returns-in-Frees
 returns-in-Frees c =
@@ -22,7 +26,7 @@ returns-in-Frees c =
     let new = c.count-in-Frees.new.self in
     let a = c.in-Frees in
     on_ok_weaker c.count-in-Frees.result (λ h. subst (λ (w : Wish). IsOperated old new c.args.thread w c.args.cost) (sym a.is)
-    (unnamed old old new c.args.thread (Wish.Frees a.name) (What.Free a.name) c.args.cost refl refl refl h)) c.count-in-Frees.ensures
+    (unnamed old old new c.args.thread (Wish.Frees a.name) (What.Free a.name) c.args.cost refl refl refl refl h)) c.count-in-Frees.ensures
 
 pub returns-in-FreesSized : goal.returns-in-FreesSized
 returns-in-FreesSized c =
@@ -30,7 +34,7 @@ returns-in-FreesSized c =
     let new = c.count-in-FreesSized.new.self in
     let a = c.in-FreesSized in
     on_ok_weaker c.count-in-FreesSized.result (λ h. subst (λ (w : Wish). IsOperated old new c.args.thread w c.args.cost) (sym a.is)
-    (unnamed old old new c.args.thread (Wish.FreesSized a.name a.size a.align) (What.FreeSized a.name c.room_for-room.result) c.args.cost refl (ap (What.FreeSized a.name) c.room_for-room.ensures) refl h)) c.count-in-FreesSized.ensures
+    (unnamed old old new c.args.thread (Wish.FreesSized a.name a.size a.align) (What.FreeSized a.name c.room_for-room.result) c.args.cost refl refl (ap (What.FreeSized a.name) c.room_for-room.ensures) refl h)) c.count-in-FreesSized.ensures
 
 pub returns-in-FreesRaw : goal.returns-in-FreesRaw
 returns-in-FreesRaw c =
@@ -38,7 +42,7 @@ returns-in-FreesRaw c =
     let new = c.count-in-FreesRaw.new.self in
     let a = c.in-FreesRaw in
     on_ok_weaker c.count-in-FreesRaw.result (λ h. subst (λ (w : Wish). IsOperated old new c.args.thread w c.args.cost) (sym a.is)
-    (unnamed old old new c.args.thread (Wish.FreesRaw a.address a.turn) (What.Raw (name_at a.address a.turn)) c.args.cost refl refl refl h)) c.count-in-FreesRaw.ensures
+    (unnamed old old new c.args.thread (Wish.FreesRaw a.address a.turn) (What.Raw (name_at a.address a.turn)) c.args.cost refl refl refl refl h)) c.count-in-FreesRaw.ensures
 
 pub returns-in-FreesRawSized : goal.returns-in-FreesRawSized
 returns-in-FreesRawSized c =
@@ -46,7 +50,7 @@ returns-in-FreesRawSized c =
     let new = c.count-in-FreesRawSized.new.self in
     let a = c.in-FreesRawSized in
     on_ok_weaker c.count-in-FreesRawSized.result (λ h. subst (λ (w : Wish). IsOperated old new c.args.thread w c.args.cost) (sym a.is)
-    (unnamed old old new c.args.thread (Wish.FreesRawSized a.address a.turn a.size a.align) (What.RawSized c.room_for-room-in-FreesRawSized.result (name_at a.address a.turn)) c.args.cost refl (ap (λ room. What.RawSized room (name_at a.address a.turn)) c.room_for-room-in-FreesRawSized.ensures) refl h)) c.count-in-FreesRawSized.ensures
+    (unnamed old old new c.args.thread (Wish.FreesRawSized a.address a.turn a.size a.align) (What.RawSized c.room_for-room-in-FreesRawSized.result (name_at a.address a.turn)) c.args.cost refl refl (ap (λ room. What.RawSized room (name_at a.address a.turn)) c.room_for-room-in-FreesRawSized.ensures) refl h)) c.count-in-FreesRawSized.ensures
 
 pub returns-in_ok-give-in-Remakes : goal.returns-in_ok-give-in-Remakes
 returns-in_ok-give-in-Remakes c =
@@ -55,19 +59,19 @@ returns-in_ok-give-in-Remakes c =
     let a = c.in-Remakes in
     let home = ap (λ (o : Owner). o.heap) c.owner-heap.ensures in
     on_ok_weaker c.count-in-Remakes.result (λ h. subst (λ (w : Wish). IsOperated old new c.args.thread w c.args.cost) (sym a.is)
-    (named old (record old { names = c.give-in-Remakes.new.self }) new c.give-in-Remakes.new.self c.args.thread a.name c.owner-heap.result.heap (Wish.Remakes a.name a.old a.size a.align)
-    (What.Remake a.name a.old c.owner-heap.result.heap a.size a.align) c.args.cost refl home (ap (λ heap. What.Remake a.name a.old heap a.size a.align) home) refl c.in_ok-give-in-Remakes.ensures h)) c.count-in-Remakes.ensures
+    (renamed old (record old { names = c.give-in-Remakes.new.self }) new c.give-in-Remakes.new.self c.args.thread a.name c.owner-heap.result.heap (Wish.Remakes a.name a.old a.size a.align)
+    (What.Remake a.name a.old c.owner-heap.result.heap a.size a.align) c.args.cost refl home refl (ap (λ heap. What.Remake a.name a.old heap a.size a.align) home) refl c.in_ok-give-in-Remakes.ensures h)) c.count-in-Remakes.ensures
 
 pub returns-in-Flushes : goal.returns-in-Flushes
 returns-in-Flushes c =
     let old = c.args.self.now in
     let new = c.count-in-Flushes.new.self in
     on_ok_weaker c.count-in-Flushes.result (λ h. subst (λ (w : Wish). IsOperated old new c.args.thread w c.args.cost) (sym c.in-Flushes.is)
-    (unnamed old old new c.args.thread Wish.Flushes What.Flush c.args.cost refl refl refl h)) c.count-in-Flushes.ensures
+    (unnamed old old new c.args.thread Wish.Flushes What.Flush c.args.cost refl refl refl refl h)) c.count-in-Flushes.ensures
 
 pub returns-in-Stops : goal.returns-in-Stops
 returns-in-Stops c =
     let old = c.args.self.now in
     let new = c.count-in-Stops.new.self in
     on_ok_weaker c.count-in-Stops.result (λ h. subst (λ (w : Wish). IsOperated old new c.args.thread w c.args.cost) (sym c.in-Stops.is)
-    (unnamed old old new c.args.thread Wish.Stops What.Stop c.args.cost refl refl refl h)) c.count-in-Stops.ensures
+    (unnamed old old new c.args.thread Wish.Stops What.Stop c.args.cost refl refl refl refl h)) c.count-in-Stops.ensures

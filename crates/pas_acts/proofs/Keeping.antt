@@ -1,0 +1,214 @@
+-- A keeper at its desk: a guarded request that it tries, and the close.
+use Rattle.std.proofs.Common.{◌≡◌, ◌≢◌, ℕ, ◌+◌, ◌≤◌, Bool, true, false, if◌then◌else◌, List, [], ◌∷◌, ◌++◌, length, Option, None, Some, refl, ap, sym, ◌∙◌, subst, arith, length-append}
+use Rattle.std.proofs.lemmas.Bool.{eq-eqb, ne_eqb}
+use Rattle.pas_profile.specs.declared.event.Event.{Event}
+use Rattle.pas_profile.specs.declared.name.Block.{Block}
+use Rattle.pas_profile.specs.declared.profile.Profile.{Profile}
+use Rattle.pas_steps.specs.Agreement.{Agreed}
+use Rattle.pas_steps.specs.Calls.{Calls}
+use Rattle.pas_steps.specs.Desks.{Standing, CanCall}
+use Rattle.pas_steps.specs.Events.{events_of, events_by}
+use Rattle.pas_steps.specs.Lists.{part}
+use Rattle.pas_steps.specs.Unknown.{unknown_pages}
+use Rattle.pas_steps.specs.Views.{View}
+use Rattle.pas_steps.specs.declared.step.Made.{Made}
+use Rattle.pas_steps.proofs.Apart.{no_events}
+use Rattle.pas_steps.proofs.Parts.{part_of_own}
+use Rattle.pas_steps.proofs.SpareRoom.{Spares}
+use Rattle.pas_steps.proofs.Unknown.{unknown_stays}
+use Rattle.pas_trace.specs.Acts.{Guards}
+use Rattle.pas_trace.specs.Asked.{request_in}
+use Rattle.pas_trace.specs.Reasons.{cost_of_size}
+use Rattle.pas_trace.specs.declared.item.Request.{Request}
+use Rattle.pas_trace.specs.declared.plan.Op.{Op}
+use Rattle.pas_report.specs.Rooms.{records_in, room_of, Records}
+use Rattle.pas_report.specs.declared.record.Record.{Record}
+use Rattle.pas_guard.specs.Books.{FitsBook, guards_in}
+use Rattle.pas_guard.specs.Raises.{RaiseSteps, guard_of}
+use Rattle.pas_guard.specs.Sweeps.{sweeping}
+use Rattle.pas_guard.specs.declared.book.Guard.{Guard}
+use Rattle.pas_guard.specs.declared.book.GuardBook.{GuardBook}
+use Rattle.pas_answers.specs.Answers.{Books, with_book, Progress}
+use Rattle.pas_answers.specs.Calls.{MayStand}
+use Rattle.pas_answers.specs.Guarding.{Tried, IsTried, after_trying, after_giving, IsLowered, after_lowering}
+use Rattle.pas_answers.specs.Keeping.{owed_by_keeper, cost_of_try, MayTry, TriesRequest, MayLowerAll, LowersAll}
+use Rattle.pas_answers.specs.Reaching.{AnswersOp, AnswersTried, AnswersGuarded, Advances}
+use Rattle.pas_answers.proofs.OwnRecords.{swept_each, try_each}
+use Rattle.pas_answers.proofs.Tries.{swept_count}
+use Rattle.pas_acts.specs.Keepers.{keeper_has, KeeperHas, LaterKept, and_try, KeeperAt, KeeperTries, KeeperLowers}
+use Rattle.pas_acts.specs.Works.{Sits}
+use Rattle.pas_acts.proofs.Alone.{of_seat, sits_after}
+
+-- ---- books of which that of one keeper became another
+pub its_book : (books : Books) (k : ℕ) (guards : List Guard) → with_book books k guards k ≡ guards
+its_book books k guards = ap (λ (b : Bool). if b then guards else books k) (eq-eqb k k refl)
+
+pub other_book : (books : Books) (k j : ℕ) (guards : List Guard) → j ≢ k → with_book books k guards j ≡ books j
+other_book books k j guards ne = ap (λ (b : Bool). if b then guards else books j) (ne_eqb j k ne)
+
+-- ---- a guarded request is answered
+-- by its keeper, which gave a block
+pub guarded_by_keeper : (f : Profile) (keeper : ℕ) (op : Op) (r : Request) (block : Block) (p : Progress) (t : Tried) → request_in op.what ≡ Some r → IsTried f keeper r (part keeper p.list) (p.books keeper) t → t.block ≡ Some block
+    → Advances f (Guards keeper op) p (after_giving (after_trying p keeper t) r.name block)
+guarded_by_keeper f keeper op r block p t asks is given =
+    let q = after_giving (after_trying p keeper t) r.name block in
+    subst (λ (o : Option Request). AnswersGuarded f keeper op o p q) (sym asks) (t, is, subst (λ (b : Option Block). AnswersTried f op r b (after_trying p keeper t) q) (sym given) refl)
+
+-- by its thread, where the keeper gave none
+pub guarded_by_thread : (f : Profile) (keeper : ℕ) (op : Op) (r : Request) (p q : Progress) (t : Tried) → request_in op.what ≡ Some r → IsTried f keeper r (part keeper p.list) (p.books keeper) t → t.block ≡ None
+    → AnswersOp f op (after_trying p keeper t) q → Advances f (Guards keeper op) p q
+guarded_by_thread f keeper op r p q t asks is given did =
+    subst (λ (o : Option Request). AnswersGuarded f keeper op o p q) (sym asks) (t, is, subst (λ (b : Option Block). AnswersTried f op r b (after_trying p keeper t) q) (sym given) did)
+
+-- ---- at the desk
+abbrev At : Profile → ℕ → Standing → GuardBook → Records → LaterKept → Progress → Type 0
+At f k σ book out later p = KeeperAt f k (keeper_has σ book out) later p
+
+-- what the keeper has in hand is said of its desk's seat
+fits_seat : {f : Profile} {k : ℕ} {σ : Standing} {book : GuardBook} {out : Records} {later : LaterKept} {p : Progress} → At f k σ book out later p → FitsBook σ.seat.profile (guards_in book) (part k p.list)
+fits_seat {k = k} {book = book} {p = p} at = subst (λ (g : Profile). FitsBook g (guards_in book) (part k p.list)) (sym at.sits.profile) at.sits.rest
+
+-- the keeper is there still, at each progress at which it has the same in hand
+pub keeper_still : {f : Profile} {k : ℕ} {has : KeeperHas} {later : LaterKept} {p q : Progress} → part k q.list ≡ part k p.list → q.books k ≡ p.books k → KeeperAt f k has later p → KeeperAt f k has later q
+keeper_still {f} {k} {has} {later} parts books at = record {
+  sits = subst (λ (w : View). Sits f k (FitsBook f (guards_in has.book)) has.desk w (unknown_pages f w + later.events)) (sym parts) at.sits;
+  book = books ∙ at.book;
+  spare = subst (λ (w : View). length (records_in has.out) + (owed_by_keeper f (guards_in has.book) w + later.records) ≤ room_of has.out) (sym parts) at.spare;
+  places = at.places;
+}
+
+-- ---- a request is tried
+pub may_try : {f : Profile} {k : ℕ} {σ : Standing} {book : GuardBook} {out : Records} {p : Progress} (later : LaterKept) (size spare : ℕ) → Spares σ spare → At f k σ book out (and_try size later) p → CanCall σ (MayTry σ.seat.profile book size spare out)
+may_try {f} {k} {σ} {book} {out} {p} later size spare fits at =
+    let v = part k p.list in
+    let s = at.sits in
+    let is = subst (λ (j : ℕ). spare + length (events_of j v) ≡ σ.seat.room) s.actor (fits v s.beside s.stood) in
+    let room = s.room in
+    let records = at.spare in
+    let places = at.places in
+    record {
+      view = v;
+      whole = s.beside;
+      stood = s.stood;
+      met = subst (λ (g : Profile). MayTry g book size spare out v) (sym s.profile) record {
+        fits = s.rest;
+        place = omega (arith, places);
+        room = omega (arith, is, room);
+        records = omega (arith, records);
+      };
+    }
+
+few_cost : (size : ℕ) (block : Option Block) → cost_of_try size block ≤ cost_of_size size + 2
+few_cost size None = omega arith
+few_cost size (Some block) = omega arith
+
+-- the book has one guard more at most
+one_more : (f : Profile) (heap k : ℕ) (guards guards' : List Guard) (answer : Option Block) (steps : List Made) → RaiseSteps f heap k guards guards' answer steps → length guards' ≤ length guards + 1
+one_more f heap k guards guards' None steps is = let same = ap (λ (gs : List Guard). length gs) is.outcome.same in omega (arith, same)
+one_more f heap k guards guards' (Some block) steps is = let same = ap (λ (gs : List Guard). length gs) is.outcome.raised ∙ length-append guards (guard_of is.outcome.first k block ∷ []) in omega (arith, same)
+
+few_guards : (f : Profile) (keeper : ℕ) (r : Request) (v : View) (guards : List Guard) (t : Tried) → IsTried f keeper r v guards t → length t.guards ≤ length guards + 1
+few_guards f keeper r v guards t is =
+    let swept = swept_count false keeper guards is.left is.lowered is.swept is.sweep.swept in
+    let more = one_more f r.heap _ is.left t.guards t.block is.raised is.raise in
+    omega (arith, swept, more)
+
+pub has_tried : {f : Profile} {k : ℕ} {σ σ' : Standing} {book book' : GuardBook} {out out' : Records} {p : Progress} {block : Option Block} (later : LaterKept) (r : Request) → At f k σ book out (and_try r.size later) p → TriesRequest r book book' out out' σ σ' block → MayStand σ.seat.profile block
+    → KeeperTries f k r block (keeper_has σ book out) (keeper_has σ' book' out') later p
+has_tried {f} {k} {σ} {σ'} {book} {book'} {out} {out'} {p} {block} later r at did given =
+    let v = part k p.list in
+    let s = at.sits in
+    let fits = fits_seat at in
+    let steps = did.steps in
+    let got = of_seat s (λ (j : ℕ) (g : Profile). (said : List Record)
+    × IsTried g j r v (guards_in book) (record { steps = steps; records = said; block = block; guards = guards_in book' })
+    × (records_in out' ≡ records_in out ++ said)
+    × (length said + owed_by_keeper g (guards_in book') (steps ++ v) ≤ cost_of_try r.size block + owed_by_keeper g (guards_in book) v)) (did.tried v s.beside s.stood fits) in
+    let few = of_seat s (λ (j : ℕ) (g : Profile). length (events_by j v steps) + unknown_pages g (steps ++ v) ≤ cost_of_size r.size + unknown_pages g v) (did.few v fits (did.calls.adds.agreed v s.beside s.stood fits)) in
+    let calls : Calls σ σ' (FitsBook f (guards_in book)) (λ u w. FitsBook f (guards_in book') w) steps = subst (λ (g : Profile). Calls σ σ' (FitsBook g (guards_in book)) (λ u w. FitsBook g (guards_in book') w) steps) s.profile did.calls in
+    let tried : Tried = record { steps = steps; records = got.0; block = block; guards = guards_in book' } in
+    let q = after_trying p k tried in
+    let mine : part k q.list ≡ steps ++ v = part_of_own k steps p.list in
+    let owed = ap (λ (w : View). owed_by_keeper f (guards_in book') w) mine in
+    let longer = ap (λ (rs : List Record). length rs) got.2 ∙ length-append (records_in out) got.0 in
+    let paid = got.3 in
+    let cost = few_cost r.size block in
+    let spare = at.spare in
+    let room = did.room in
+    let places = at.places in
+    let size = did.size in
+    let guards = few_guards f k r v (guards_in book) tried got.1 in
+    record {
+      tried = tried;
+      is = subst (λ (gs : List Guard). IsTried f k r v gs tried) (sym at.book) got.1;
+      block_is = refl;
+      given = subst (λ (g : Profile). MayStand g block) s.profile given;
+      stands = record {
+        sits = subst (λ (w : View). Sits f k (FitsBook f (guards_in book')) σ' w (unknown_pages f w + later.events)) (sym mine) (sits_after s calls (omega (arith, few)));
+        book = its_book p.books k (guards_in book');
+        spare = omega (arith, longer, spare, room, owed, paid, cost);
+        places = omega (arith, places, size, guards);
+      };
+      moves = record { steps = steps; list_is = refl; calls = calls };
+      pushed = got.2;
+      room = room;
+      size = size;
+      each = try_each f k r v (guards_in book) tried got.1;
+      paid = omega (arith, paid, owed);
+    }
+
+-- ---- the close
+pub may_lower : {f : Profile} {k : ℕ} {σ : Standing} {book : GuardBook} {out : Records} {later : LaterKept} {p : Progress} → At f k σ book out later p → CanCall σ (MayLowerAll σ.seat.profile book out)
+may_lower {f} {k} {σ} {book} {out} {later} {p} at =
+    let records = at.spare in
+    record {
+      view = part k p.list;
+      whole = at.sits.beside;
+      stood = at.sits.stood;
+      met = record { fits = fits_seat at; records = omega (arith, records) };
+    }
+
+pub has_lowered : {f : Profile} {k : ℕ} {σ σ' : Standing} {book book' : GuardBook} {out out' : Records} {later : LaterKept} {p : Progress} → At f k σ book out later p → LowersAll book book' out out' σ σ'
+    → KeeperLowers f k (keeper_has σ book out) (keeper_has σ' book' out') later p
+has_lowered {f} {k} {σ} {σ'} {book} {book'} {out} {out'} {later} {p} at did =
+    let v = part k p.list in
+    let s = at.sits in
+    let fits = fits_seat at in
+    let steps = did.steps in
+    let lowered = of_seat s (λ (j : ℕ) (g : Profile). IsLowered g j v (guards_in book) steps did.said) (did.lowered v fits) in
+    let calls : Calls σ σ' (FitsBook f (guards_in book)) (λ u w. FitsBook f (guards_in book') w) steps = subst (λ (g : Profile). Calls σ σ' (FitsBook g (guards_in book)) (λ u w. FitsBook g (guards_in book') w) steps) s.profile did.calls in
+    let agreed : Agreed f v steps = subst (λ (g : Profile). Agreed g v steps) s.profile (did.calls.adds.agreed v s.beside s.stood fits) in
+    let silent = ap (λ (es : List Event). length es) (no_events sweeping refl k v steps lowered.sweep.kinds) in
+    let unknown = unknown_stays f steps v agreed in
+    let q = after_lowering p k steps did.said in
+    let mine : part k q.list ≡ steps ++ v = part_of_own k steps p.list in
+    let left = ap (λ (w : View). unknown_pages f w) mine in
+    let none = ap (λ (gs : List Guard). length gs) did.none in
+    let longer = ap (λ (rs : List Record). length rs) did.added ∙ length-append (records_in out) did.said in
+    let few = did.few in
+    let spare = at.spare in
+    let room = did.room in
+    let places = at.places in
+    let size = did.size in
+    record {
+      reached = q;
+      reaches = (q, (steps, did.said, subst (λ (gs : List Guard). IsLowered f k v gs steps did.said) (sym at.book) lowered, refl), refl);
+      stands = record {
+        sits = subst (λ (w : View). Sits f k (FitsBook f (guards_in book')) σ' w (unknown_pages f w + later.events)) (sym mine) (sits_after s calls (omega (arith, silent, unknown)));
+        book = its_book p.books k [] ∙ sym did.none;
+        spare = omega (arith, longer, spare, room, left, unknown, none, few);
+        places = omega (arith, none, places, size);
+      };
+      none = did.none;
+      moves = record { steps = steps; list_is = refl; calls = subst (λ (gs : List Guard). Calls σ σ' (FitsBook f (guards_in book)) (λ u w. FitsBook f gs w) steps) did.none calls };
+      said = did.said;
+      records_are = refl;
+      pushed = did.added;
+      room = room;
+      size = size;
+      each = swept_each true k (guards_in book) [] did.said steps lowered.sweep.swept;
+      few = few;
+      caches = refl;
+      names = refl;
+      books = λ j ne. other_book p.books k j [] ne;
+    }

@@ -1,0 +1,280 @@
+-- A thread and its keeper: what an operation of the thread comes to for both.
+use Rattle.std.proofs.Common.{◌≡◌, ◌≢◌, ℕ, ◌+◌, ◌==◌, ◌⊎◌, Bool, true, false, if◌then◌else◌, inl, inr, List, [], ◌∷◌, ◌++◌, length, Option, None, Some, refl, ap, sym, ◌∙◌, subst, arith, length-append, append_assoc}
+use Rattle.std.proofs.lemmas.List.{append-nil}
+use Rattle.std.proofs.lemmas.Bool.{eq-eqb, ne_eqb}
+use Rattle.pas_profile.specs.declared.name.Block.{Block}
+use Rattle.pas_profile.specs.declared.profile.Profile.{Profile}
+use Rattle.pas_profile.proofs.Lists.{all_both, all_map}
+use Rattle.pas_steps.specs.Desks.{Standing}
+use Rattle.pas_steps.specs.Lists.{Whole, part}
+use Rattle.pas_steps.specs.Views.{View}
+use Rattle.pas_steps.proofs.Parts.{part_of_others}
+use Rattle.pas_trace.specs.Acts.{Act, Operates, Guards, Settles, act_kept}
+use Rattle.pas_trace.specs.Asked.{of_task, request_in, keeper_of, keeper_in}
+use Rattle.pas_trace.specs.Reasons.{cost_of_size}
+use Rattle.pas_trace.specs.declared.item.Request.{Request}
+use Rattle.pas_trace.specs.declared.plan.Op.{Op}
+use Rattle.pas_trace.specs.declared.plan.Task.{Task}
+use Rattle.pas_trace.specs.declared.plan.What.{What}
+use Rattle.pas_trace.specs.declared.plan.Work.{Work}
+use Rattle.pas_report.specs.Rooms.{records_in, Records}
+use Rattle.pas_report.specs.declared.record.Record.{Record}
+use Rattle.pas_cache.specs.Caches.{Cached}
+use Rattle.pas_guard.specs.Books.{guards_in}
+use Rattle.pas_answers.specs.Answers.{Named, Books, Progress, settled, after_settling}
+use Rattle.pas_answers.specs.Calls.{what_of, MayStand, IsKnown, IsMeant, named_by, named_with, owed_events}
+use Rattle.pas_answers.specs.Fit.{IsFitWhat, cost_of_what, own_cost_of, own_cost_of_act, own_costs_of}
+use Rattle.pas_answers.specs.Guarding.{after_trying, after_giving}
+use Rattle.pas_answers.specs.Keeping.{owed_by_keeper, cost_of_try}
+use Rattle.pas_answers.specs.Ways.{is_of, AreSpoken, EachOf, records_by}
+use Rattle.pas_answers.proofs.Kept.{task_of}
+use Rattle.pas_answers.proofs.OwnRecords.{all_by, none_by, records_both}
+use Rattle.pas_answers.proofs.SingleActs.{its_cache}
+use Rattle.pas_acts.specs.AtDesks.{Here, here, and_for, MayOperate, ThreadActs}
+use Rattle.pas_acts.specs.Keepers.{KeeperHas, LaterKept, KeeperAt, KeeperTries, Keeping, NoKeeper, OneKeeper}
+use Rattle.pas_acts.specs.Pairs.{head_acts, MayTryTask, TriesTask, for_request, for_guard, for_guards, IsTriedBy, IsUnguarded, KeeperWaits, IsOfTwo, EachOfTwo, KeptPushed, KeptStill, owed_of, PairActs}
+use Rattle.pas_acts.specs.Turns.{RestsAt}
+use Rattle.pas_acts.specs.Works.{Later}
+use Rattle.pas_acts.proofs.Alone.{rests_still}
+use Rattle.pas_acts.proofs.AtDesk.{own_cost, rests_for, settled_rest}
+use Rattle.pas_acts.proofs.Keeping.{keeper_still, guarded_by_keeper, guarded_by_thread}
+
+-- ---- records of two actors
+of_one : (j k : ℕ) (rs : List Record) → EachOf j rs → EachOfTwo j k rs
+of_one j k rs each = all_map (λ r. (n : ℕ) → is_of n r ≡ (j == n)) (IsOfTwo j k) rs (λ r is. inl is) each
+
+of_other : (j k : ℕ) (rs : List Record) → EachOf k rs → EachOfTwo j k rs
+of_other j k rs each = all_map (λ r. (n : ℕ) → is_of n r ≡ (k == n)) (IsOfTwo j k) rs (λ r is. inr is) each
+
+pub two_both : (j k : ℕ) (xs ys : List Record) → EachOfTwo j k xs → EachOfTwo j k ys → EachOfTwo j k (xs ++ ys)
+two_both j k xs ys a b = all_both (IsOfTwo j k) xs ys a b
+
+-- none is a mark
+pub two_spoken : (j k : ℕ) (rs : List Record) → EachOfTwo j k rs → AreSpoken rs
+two_spoken j k rs each = all_map (IsOfTwo j k) (λ r. (n : ℕ) × (is_of n r ≡ true)) rs
+    (λ r of. elim of [ inl is ↦ (j, is j ∙ eq-eqb j j refl) | inr is ↦ (k, is k ∙ eq-eqb k k refl) ]) each
+
+-- none is another's
+pub two_none : (j k n : ℕ) (rs : List Record) → j ≢ n → k ≢ n → EachOfTwo j k rs → records_by n rs ≡ []
+two_none j k n [] one two each = refl
+two_none j k n (r ∷ rs) one two each =
+    let away : is_of n r ≡ false = elim each.0 [ inl is ↦ is n ∙ ne_eqb j n one | inr is ↦ is n ∙ ne_eqb k n two ] in
+    ap (λ (t : Bool). if t then r ∷ records_by n rs else records_by n rs) away ∙ two_none j k n rs one two each.1
+
+-- each is one's or the other's
+either_one : (s t : Bool) (r : Record) (xs ys : List Record) (n : ℕ) → (s ≡ true) × (t ≡ false) ⊎ (s ≡ false) × (t ≡ true) → n ≡ length xs + length ys → n + 1 ≡ length (if s then r ∷ xs else xs) + length (if t then r ∷ ys else ys)
+either_one true false r xs ys n one count = omega (arith, count)
+either_one false true r xs ys n one count = omega (arith, count)
+either_one true true r xs ys n one count = elim one [ inl is ↦ absurd (let bad : true ≡ false = is.1 in cc) | inr is ↦ absurd (let bad : true ≡ false = is.0 in cc) ]
+either_one false false r xs ys n one count = elim one [ inl is ↦ absurd (let bad : false ≡ true = is.0 in cc) | inr is ↦ absurd (let bad : false ≡ true = is.1 in cc) ]
+
+pub two_count : (j k : ℕ) (rs : List Record) → j ≢ k → EachOfTwo j k rs → length rs ≡ length (records_by j rs) + length (records_by k rs)
+two_count j k [] apart each = omega arith
+two_count j k (r ∷ rs) apart each =
+    let rest = two_count j k rs apart each.1 in
+    let here : (is_of j r ≡ true) × (is_of k r ≡ false) ⊎ (is_of j r ≡ false) × (is_of k r ≡ true) = elim each.0 [
+      | inl is ↦ inl (is j ∙ eq-eqb j j refl, is k ∙ ne_eqb j k apart)
+      | inr is ↦ inr (is j ∙ ne_eqb k j (λ e. apart (sym e)), is k ∙ eq-eqb k k refl)
+    ] in
+    let one = either_one (is_of j r) (is_of k r) r (records_by j rs) (records_by k rs) (length rs) here rest in
+    omega (arith, one)
+
+-- ---- what an operation's first act asks and costs, whether it is guarded or not
+pub kept_cost : (k : ℕ) (o : Option ℕ) (op : Op) → own_cost_of_act k (act_kept o op) ≡ own_cost_of k (Some op)
+kept_cost k None op = refl
+kept_cost k (Some keeper) op = refl
+
+-- the acts of an operation cost its thread what the operation does
+pub head_cost : (op : Op) → own_costs_of op.actor (head_acts op) ≡ cost_of_what op.what
+head_cost op =
+    let first = kept_cost op.actor (keeper_in op.what) op in
+    let own = own_cost op in
+    omega (arith, first, own)
+
+-- ---- the keeper, where the thread alone acts
+-- it waits still, where its part and its book are as they were
+waits_still : (f : Profile) (keeper : ℕ) (kept : Keeping) (later : LaterKept) (p q : Progress) → part keeper q.list ≡ part keeper p.list → q.books keeper ≡ p.books keeper → KeeperWaits f keeper [] kept later p → KeeperWaits f keeper [] kept later q
+waits_still f keeper NoKeeper later p q parts books waits = tt
+waits_still f keeper (OneKeeper has) later p q parts books waits = (tt, keeper_still parts books waits.1)
+
+pub nothing_kept : (keeper : ℕ) (kept : Keeping) (said : List Record) → records_by keeper said ≡ [] → KeptPushed keeper said kept kept
+nothing_kept keeper NoKeeper said none = none
+nothing_kept keeper (OneKeeper has) said none = (sym (ap (λ (rs : List Record). records_in has.out ++ rs) none ∙ append-nil (records_in has.out)), refl, refl)
+
+pub nobody_still : (keeper : ℕ) (kept : Keeping) (p q : Progress) → part keeper q.list ≡ part keeper p.list → KeptStill keeper kept p q
+nobody_still keeper NoKeeper p q parts = parts
+nobody_still keeper (OneKeeper has) p q parts = tt
+
+-- an act of the thread alone
+pub alone_acts : {f : Profile} {k : ℕ} {acts : List Act} {came : List Named} {old new : Here} {later : Later} {p : Progress} (keeper : ℕ) (kept : Keeping) (more : LaterKept) → k ≢ keeper → KeeperWaits f keeper [] kept more p
+    → ThreadActs f k acts came [] old new later p → PairActs f k keeper acts came old new kept kept later more p
+alone_acts {f} {k} {acts} {came} {old} {new} {later} {p} keeper kept more apart waits did =
+    let parts : part keeper did.reached.list ≡ part keeper p.list = ap (λ (l : Whole). part keeper l) did.moves.list_is ∙ part_of_others keeper k did.moves.steps p.list apart in
+    let owed = ap (λ (w : View). owed_of f kept w) parts in
+    let paid = did.paid in
+    record {
+      reached = did.reached;
+      reaches = did.reaches;
+      stands = did.stands;
+      waits = waits_still f keeper kept more p did.reached parts (ap (λ (books : Books). books keeper) did.books) waits;
+      said = did.own;
+      records_are = did.records_are ∙ ap (λ (rs : List Record). p.records ++ rs) (append-nil did.own);
+      pushed = did.pushed ∙ ap (λ (rs : List Record). records_in old.out ++ rs) (sym (all_by k did.own did.each));
+      room = did.room;
+      kept_pushed = nothing_kept keeper kept did.own (none_by keeper k did.own did.each apart);
+      still = nobody_still keeper kept p did.reached parts;
+      each = of_one k keeper did.own did.each;
+      names = did.names;
+      paid = omega (arith, paid, owed);
+    }
+
+-- ---- the keeper first
+module _ {f : Profile} {keeper : ℕ} {r : Request} {block : Option Block} {h h' : KeeperHas} {more : LaterKept} {p : Progress} (op : Op) (apart : op.actor ≢ keeper) (asks : request_in op.what ≡ Some r) (kept : keeper_in op.what ≡ Some keeper)
+    (tries : KeeperTries f keeper r block h h' more p) where
+  abbrev k : ℕ
+  k = op.actor
+
+  -- how far the replay is then, and what the keeper said
+  abbrev after : Progress
+  after = after_trying p keeper tries.tried
+
+  abbrev told : List Record
+  told = tries.tried.records
+
+  -- the thread has what it had
+  thread_same : part k after.list ≡ part k p.list
+  thread_same = part_of_others k keeper tries.tried.steps p.list (λ e. apart (sym e))
+
+  no_own : records_by k told ≡ []
+  no_own = none_by k keeper told tries.each (λ e. apart (sym e))
+
+  of_guard : {came : List Named} {old new : Here} {later : Later} → PairActs f k keeper (Guards keeper op ∷ (Settles k ∷ [])) came old new (OneKeeper h) (OneKeeper h') later more p → PairActs f k keeper (head_acts op) came old new (OneKeeper h) (OneKeeper h') later more p
+  of_guard {came} {old} {new} {later} acts = subst (λ (o : Option ℕ). PairActs f k keeper (act_kept o op ∷ (Settles k ∷ [])) came old new (OneKeeper h) (OneKeeper h') later more p) (sym kept) acts
+
+  -- The keeper gave a block. Of the thread only the runs that its cache noted are handed on.
+  pub given_acts : {σ : Standing} {c c' : Cached} {out : Records} {later : Later} (b : Block) → block ≡ Some b → cost_of_what op.what ≡ cost_of_size r.size + 2 → RestsAt f k σ c out (and_for (cost_of_what op.what) later) p → c' ≡ settled c
+      → PairActs f k keeper (head_acts op) (named_by op.what (Some b)) (here σ c out) (here σ c' out) (OneKeeper h) (OneKeeper h') later more p
+  given_acts {σ} {c} {c'} {out} {later} b given cost at done =
+      let midway = after_giving after r.name b in
+      let q = after_settling midway k in
+      let rests : RestsAt f k σ c out later after = rests_for (rests_still thread_same refl at) (omega arith) (omega arith) in
+      let room = rests.sits.room in
+      let spare = rests.spare in
+      let log = ap (λ (d : Cached). length d.log) done in
+      let mine = ap (λ (w : View). owed_events f c w) thread_same in
+      let paid = tries.paid in
+      let pays = ap (λ (o : Option Block). cost_of_try r.size o) given in
+      let own = own_cost op in
+      of_guard record {
+        reached = q;
+        reaches = (midway, guarded_by_keeper f keeper op r b p tries.tried asks tries.is (tries.block_is ∙ given), (q, refl, refl));
+        stands = record {
+          sits = record { actor = rests.sits.actor; profile = rests.sits.profile; beside = rests.sits.beside; stood = rests.sits.stood; rest = settled_rest (part k q.list) done rests.sits.rest; room = omega (arith, room, log) };
+          cache = its_cache midway.caches k (settled (midway.caches k)) ∙ ap settled at.cache ∙ sym done;
+          spare = omega (arith, spare, log);
+        };
+        waits = (tt, keeper_still refl refl tries.stands);
+        said = told;
+        records_are = refl;
+        pushed = sym (ap (λ (rs : List Record). records_in out ++ rs) no_own ∙ append-nil (records_in out));
+        room = refl;
+        kept_pushed = (tries.pushed ∙ ap (λ (rs : List Record). records_in h.out ++ rs) (sym (all_by keeper told tries.each)), tries.room, tries.size);
+        still = tt;
+        each = of_other k keeper told tries.each;
+        names = ap (λ (o : Option Request). named_with o (Some b) ++ p.names) (sym asks);
+        paid = omega (arith, paid, pays, log, mine, own, cost);
+      }
+
+  -- It gave none. The thread makes the request from there on.
+  pub left_acts : {old new : Here} {later : Later} (came : Option Block) → block ≡ None → ThreadActs f k (Operates op ∷ (Settles k ∷ [])) (named_by op.what came) [] old new later after
+      → PairActs f k keeper (head_acts op) (named_by op.what came) old new (OneKeeper h) (OneKeeper h') later more p
+  left_acts {old} {new} {later} came none did =
+      let parts : part keeper did.reached.list ≡ part keeper after.list = ap (λ (l : Whole). part keeper l) did.moves.list_is ∙ part_of_others keeper k did.moves.steps after.list apart in
+      let owed = ap (λ (w : View). owed_by_keeper f (guards_in h'.book) w) parts in
+      let mine = ap (λ (w : View). owed_events f old.cache w) thread_same in
+      let both = length-append told did.own in
+      let pays = ap (λ (o : Option Block). cost_of_try r.size o) none in
+      let paid = tries.paid in
+      let own_paid = did.paid in
+      of_guard record {
+        reached = did.reached;
+        reaches = (did.reaches.0, guarded_by_thread f keeper op r p did.reaches.0 tries.tried asks tries.is (tries.block_is ∙ none) did.reaches.1, did.reaches.2);
+        stands = did.stands;
+        waits = (tt, keeper_still parts (ap (λ (books : Books). books keeper) did.books) tries.stands);
+        said = told ++ did.own;
+        records_are = did.records_are ∙ ap (λ (rs : List Record). after.records ++ rs) (append-nil did.own) ∙ append_assoc p.records told did.own;
+        pushed = did.pushed ∙ ap (λ (rs : List Record). records_in old.out ++ rs) (sym (records_both k told did.own ∙ ap (λ (rs : List Record). rs ++ records_by k did.own) no_own ∙ all_by k did.own did.each));
+        room = did.room;
+        kept_pushed = (
+          tries.pushed ∙ ap (λ (rs : List Record). records_in h.out ++ rs)
+              (sym (records_both keeper told did.own ∙ ap (λ (rs : List Record). records_by keeper told ++ rs) (none_by keeper k did.own did.each apart) ∙ append-nil (records_by keeper told) ∙ all_by keeper told tries.each)),
+          tries.room,
+          tries.size,
+        );
+        still = tt;
+        each = two_both k keeper told did.own (of_other k keeper told tries.each) (of_one k keeper did.own did.each);
+        names = did.names;
+        paid = omega (arith, paid, own_paid, pays, owed, mine, both);
+      }
+
+-- ---- by the task
+-- who keeps its guard, and the request that it makes
+kept_by : (op : Op) (task : Task) → op.what ≡ what_of task → keeper_in op.what ≡ keeper_of task
+kept_by op task asks = ap (λ (w : What). keeper_in w) asks ∙ ap (λ (w : Work). of_task keeper_of w) (task_of task)
+
+-- the keeper that waits is the one that keeps the guard
+its_keeper : {f : Profile} {keeper : ℕ} {p : Progress} {has : KeeperHas} (more : LaterKept) (op : Op) (rest : List Act) (k : ℕ) → keeper_in op.what ≡ Some k → KeeperWaits f keeper (act_kept (keeper_in op.what) op ∷ rest) (OneKeeper has) more p → keeper_in op.what ≡ Some keeper
+its_keeper {keeper = keeper} more op rest k is waits = let same : k ≡ keeper = subst (λ (o : Option ℕ). IsTriedBy keeper (act_kept o op)) is waits.0.0 in is ∙ ap (λ (j : ℕ). Some j) same
+
+-- before it
+pub may_try_task : (f : Profile) (keeper limit : ℕ) (asked : List ℕ) (more : LaterKept) (p : Progress) (task : Task) (op : Op) (rest : List Act) (kept : Keeping) → op.what ≡ what_of task → IsFitWhat f limit asked op.what
+    → KeeperWaits f keeper (act_kept (keeper_in op.what) op ∷ rest) kept more p → MayTryTask f keeper task kept (for_guards rest more) p
+may_try_task f keeper limit asked more p (Task.Guarded k name heap size align) op rest NoKeeper asks fit waits = absurd (subst (λ (o : Option ℕ). IsUnguarded (act_kept o op)) (kept_by op (Task.Guarded k name heap size align) asks) waits.0)
+may_try_task f keeper limit asked more p (Task.Guarded k name heap size align) op rest (OneKeeper has) asks fit waits =
+    let fits = subst (λ (w : What). IsFitWhat f limit asked w) asks fit in
+    let guarded = subst (λ (o : Option ℕ). KeeperAt f keeper has (for_guard (act_kept o op) (for_guards rest more)) p) (kept_by op (Task.Guarded k name heap size align) asks) waits.1 in
+    (fits.1.0, fits.1.2, subst (λ (w : What). KeeperAt f keeper has (for_request (request_in w) (for_guards rest more)) p) asks guarded)
+may_try_task f keeper limit asked more p task op rest kept asks fit waits = tt
+
+-- after it, where the keeper gave a block
+pub pair_given : {f : Profile} {keeper : ℕ} {p : Progress} {σ : Standing} {c c' : Cached} {out : Records} {later : Later} (b : Block) (more : LaterKept) (task : Task) (op : Op) (rest : List Act) (kept kept' : Keeping) → op.what ≡ what_of task → (keeper_of task ≡ None → Some b ≡ None)
+    → op.actor ≢ keeper → KeeperWaits f keeper (act_kept (keeper_in op.what) op ∷ rest) kept more p → TriesTask f keeper task (Some b) kept kept' (for_guards rest more) p → RestsAt f op.actor σ c out (and_for (cost_of_what op.what) later) p → c' ≡ settled c
+    → PairActs f op.actor keeper (head_acts op) (named_by op.what (Some b)) (here σ c out) (here σ c' out) kept kept' later (for_guards rest more) p × MayStand f (Some b)
+pair_given b more (Task.Guarded k name heap size align) op rest NoKeeper kept' asks guarded apart waits tries at done = absurd tries
+pair_given b more (Task.Guarded k name heap size align) op rest (OneKeeper h) NoKeeper asks guarded apart waits tries at done = absurd tries
+pair_given b more (Task.Guarded k name heap size align) op rest (OneKeeper h) (OneKeeper h') asks guarded apart waits tries at done =
+    (given_acts op apart (ap (λ (w : What). request_in w) asks) (its_keeper more op rest k (kept_by op (Task.Guarded k name heap size align) asks) waits) tries b refl (ap (λ (w : What). cost_of_what w) asks) at done, tries.given)
+pair_given b more task op rest kept kept' asks guarded apart waits tries at done = absurd (let bad = guarded refl in cc)
+
+-- .. and where it gave none, or the task is no guarded request: the thread does it
+waits_past : (f : Profile) (keeper : ℕ) (more : LaterKept) (p : Progress) (op : Op) (rest : List Act) (kept : Keeping) → KeeperWaits f keeper (act_kept None op ∷ rest) kept more p → KeeperWaits f keeper [] kept (for_guards rest more) p
+waits_past f keeper more p op rest NoKeeper waits = tt
+waits_past f keeper more p op rest (OneKeeper has) waits = (tt, waits.1)
+
+may_still : {f : Profile} {k : ℕ} {what : What} {meant : Option Block} {old : Here} {later : Later} {p : Progress} (q : Progress) → part k q.list ≡ part k p.list → q.caches k ≡ p.caches k → q.names ≡ p.names → MayOperate f k what meant old later p → MayOperate f k what meant old later q
+may_still {what = what} {meant = meant} q parts caches names may = record {
+  rests = rests_still parts caches may.rests;
+  limit = may.limit;
+  asked = may.asked;
+  fit = may.fit;
+  known = subst (λ (ns : List Named). IsKnown ns what) (sym names) may.known;
+  means = subst (λ (ns : List Named). IsMeant ns what meant) (sym names) may.means;
+  stands = may.stands;
+}
+
+pub pair_left : {f : Profile} {keeper : ℕ} {p : Progress} {old new : Here} {later : Later} {meant : Option Block} (came : Option Block) (more : LaterKept) (task : Task) (op : Op) (rest : List Act) (kept kept' : Keeping) → op.what ≡ what_of task → (keeper_of task ≡ None → kept' ≡ kept)
+    → op.actor ≢ keeper → KeeperWaits f keeper (act_kept (keeper_in op.what) op ∷ rest) kept more p → TriesTask f keeper task None kept kept' (for_guards rest more) p → MayOperate f op.actor op.what meant old later p
+    → ((q : Progress) → MayOperate f op.actor op.what meant old later q → ThreadActs f op.actor (Operates op ∷ (Settles op.actor ∷ [])) (named_by op.what came) [] old new later q)
+    → PairActs f op.actor keeper (head_acts op) (named_by op.what came) old new kept kept' later (for_guards rest more) p
+pair_left came more (Task.Guarded k name heap size align) op rest NoKeeper kept' asks same apart waits tries may does = absurd tries
+pair_left came more (Task.Guarded k name heap size align) op rest (OneKeeper h) NoKeeper asks same apart waits tries may does = absurd tries
+pair_left {keeper = keeper} {p = p} came more (Task.Guarded k name heap size align) op rest (OneKeeper h) (OneKeeper h') asks same apart waits tries may does =
+    let q = after_trying p keeper tries.tried in
+    left_acts op apart (ap (λ (w : What). request_in w) asks) (its_keeper more op rest k (kept_by op (Task.Guarded k name heap size align) asks) waits) tries came refl
+    (does q (may_still q (part_of_others op.actor keeper tries.tried.steps p.list (λ e. apart (sym e))) refl refl may))
+pair_left {f} {keeper} {p} {old} {new} {later} {meant} came more task op rest kept kept' asks same apart waits tries may does =
+    let none = kept_by op task asks in
+    let waits_so = waits_past f keeper more p op rest kept (subst (λ (o : Option ℕ). KeeperWaits f keeper (act_kept o op ∷ rest) kept more p) none waits) in
+    let did = alone_acts keeper kept (for_guards rest more) apart waits_so (does p may) in
+    subst (λ (o : Keeping). PairActs f op.actor keeper (head_acts op) (named_by op.what came) old new kept o later (for_guards rest more) p) (sym (same refl))
+    (subst (λ (o : Option ℕ). PairActs f op.actor keeper (act_kept o op ∷ (Settles op.actor ∷ [])) (named_by op.what came) old new kept kept later (for_guards rest more) p) (sym none) did)

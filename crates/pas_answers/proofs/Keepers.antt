@@ -1,0 +1,67 @@
+-- What a keeper's steps and records keep: they are tidy, and each record can be shown.
+use Rattle.std.proofs.Common.{ℕ, ◌+◌, Bool, true, false, ◌||◌, List, [], ◌∷◌, ◌++◌, Option, Some, None, refl, sym, subst, append_assoc}
+use Rattle.std.specs.Prelude.{MatchOption}
+use Rattle.pas_profile.specs.declared.name.Block.{Block}
+use Rattle.pas_profile.specs.declared.profile.Profile.{Profile}
+use Rattle.pas_steps.specs.Events.{events_by}
+use Rattle.pas_steps.specs.Kinds.{Backing, Giving, LookLife, returning}
+use Rattle.pas_steps.specs.Views.{View}
+use Rattle.pas_steps.specs.declared.step.Made.{Made}
+use Rattle.pas_trace.specs.declared.item.Request.{Request}
+use Rattle.pas_report.specs.declared.record.Record.{Record}
+use Rattle.pas_report.proofs.Showable.{AreOfRegion}
+use Rattle.pas_cache.specs.Serves.{pages_of}
+use Rattle.pas_rights.specs.Gives.{give_steps}
+use Rattle.pas_scan.specs.Runs.{large_directory}
+use Rattle.pas_guard.specs.Seeks.{seeking}
+use Rattle.pas_guard.specs.Raises.{IsRaised, IsNotRaised, RaiseSteps}
+use Rattle.pas_guard.specs.Sweeps.{is_over, sweeping, SweptOne, Swept, SweepSteps}
+use Rattle.pas_guard.specs.declared.book.Guard.{Guard}
+use Rattle.pas_answers.specs.Answers.{wanted_by, records_of}
+use Rattle.pas_answers.specs.Guarding.{said_of_guard, Tried, IsTried}
+use Rattle.pas_answers.proofs.Parts.{of_front}
+use Rattle.pas_answers.proofs.Shown.{EachShown, each_both, records_shown}
+use Rattle.pas_answers.proofs.Tidy.{Tidy, tidy_over, tidy_none, tidy_both}
+
+-- ---- tidy
+pub sweep_tidy : (f : Profile) (k : ℕ) (all : Bool) (guards left : List Guard) (said : List Record) (steps : List Made) (v : View) → SweepSteps f k all guards left said steps → Tidy v → Tidy (steps ++ v)
+sweep_tidy f k all guards left said steps v is tidy = tidy_over sweeping refl steps v is.kinds tidy
+
+given_tidy : (f : Profile) (heap k : ℕ) (guards left : List Guard) (answer : Option Block) (searched after : List Made) (v : View)
+    → MatchOption answer (IsNotRaised f (large_directory heap) k guards left searched after) (IsRaised f (large_directory heap) k guards left searched after) → Tidy v → Tidy (after ++ v)
+given_tidy f heap k guards left None searched after v is tidy = tidy_none after v is.nothing tidy
+given_tidy f heap k guards left (Some block) searched after v is tidy =
+    let give = give_steps (is.first + 1) 0 block is.word is.answer in
+    let backed = tidy_over (Backing ∷ []) refl is.backs v is.back_kinds tidy in
+    let given = tidy_over (Giving ∷ (LookLife ∷ [])) refl give (is.backs ++ v) (refl, (refl, tt)) backed in
+    tidy_both after is.left (give ++ is.backs) v is.after_is (tidy_over returning refl is.left ((give ++ is.backs) ++ v) is.left_kinds (subst Tidy (sym (append_assoc give is.backs v)) given))
+
+pub raise_tidy : (f : Profile) (heap k : ℕ) (guards left : List Guard) (answer : Option Block) (steps : List Made) (v : View) → RaiseSteps f heap k guards left answer steps → Tidy v → Tidy (steps ++ v)
+raise_tidy f heap k guards left answer steps v is tidy =
+    tidy_both steps is.after is.searched v is.steps_are (given_tidy f heap k guards left answer is.searched is.after (is.searched ++ v) is.outcome (tidy_over seeking refl is.searched v is.kinds tidy))
+
+pub try_tidy : (f : Profile) (keeper : ℕ) (r : Request) (v : View) (guards : List Guard) (t : Tried) → IsTried f keeper r v guards t → Tidy v → Tidy (t.steps ++ v)
+try_tidy f keeper r v guards t is tidy =
+    tidy_both t.steps is.raised is.swept v is.steps_are
+    (raise_tidy f r.heap (pages_of (wanted_by f r)) is.left t.guards t.block is.raised (is.swept ++ v) is.raise (sweep_tidy f keeper false guards is.left is.lowered is.swept v is.sweep tidy))
+
+-- ---- shown
+one_shown : (down : Bool) (k : ℕ) (guard : Guard) (first : List Made) (kept after : List Guard) (said more : List Record) → SweptOne down k guard first kept after said more → EachShown more → EachShown said
+one_shown true k guard first kept after said more is rest = subst EachShown (sym is.2) (tt, rest)
+one_shown false k guard first kept after said more is rest = subst EachShown (sym is.2) rest
+
+pub swept_shown : (all : Bool) (k : ℕ) (guards kept : List Guard) (said : List Record) (steps : List Made) → Swept all k guards kept said steps → EachShown said
+swept_shown all k [] kept said steps is = subst EachShown (sym is.1) tt
+swept_shown all k (guard ∷ guards) kept said steps is = one_shown (all || is_over guard is.0) k guard is.1 kept is.3 said is.4 is.5 (swept_shown all k guards is.3 is.4 is.2 is.6)
+
+guard_shown : (keeper name k : ℕ) (block : Option Block) → EachShown (said_of_guard keeper name k block)
+guard_shown keeper name k None = tt
+guard_shown keeper name k (Some block) = (tt, tt)
+
+pub try_shown : (f : Profile) (keeper : ℕ) (r : Request) (v : View) (guards : List Guard) (t : Tried) → IsTried f keeper r v guards t → AreOfRegion f t.steps → EachShown t.records
+try_shown f keeper r v guards t is of =
+    let raised = of_front f is.raised is.swept (subst (AreOfRegion f) is.steps_are of) in
+    let events = records_of (events_by keeper (is.swept ++ v) is.raised) in
+    let said = said_of_guard keeper r.name (pages_of (wanted_by f r)) t.block in
+    subst EachShown (sym is.records_are) (each_both is.lowered (events ++ said) (swept_shown false keeper guards is.left is.lowered is.swept is.sweep.swept)
+    (each_both events said (records_shown f keeper is.raised (is.swept ++ v) raised) (guard_shown keeper r.name (pages_of (wanted_by f r)) t.block)))

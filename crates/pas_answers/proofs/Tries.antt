@@ -1,0 +1,472 @@
+-- What a keeper's two calls come to for a request that it tries, and at the close.
+use Rattle.std.proofs.Common.{◌≡◌, ℕ, ◌+◌, ◌*◌, ◌/◌, ◌%◌, ◌<◌, ◌≤◌, ◌++◌, Bool, true, false, ◌||◌, List, [], ◌∷◌, length, drop, Option, Some, None, refl, ap, sym, ◌∙◌, subst, arith, append_assoc, append-nil, length-append, true≢false}
+use Rattle.std.specs.Prelude.{◌-◌, ◌^◌, map, reverse, max}
+use Rattle.std.specs.List.{AllByRecursion}
+use Rattle.std.proofs.lemmas.List.{length-map, length-reverse}
+use Rattle.std.proofs.lemmas.Option.{same_Some}
+use Rattle.std.proofs.Math.Nat.{zero-mod}
+use Rattle.pas_bits.specs.Runs.{in_run}
+use Rattle.pas_bitfit.proofs.Aligned.{stands_aligned}
+use Rattle.pas_profile.specs.Blocks.{address_of, grain_of, length_of}
+use Rattle.pas_profile.specs.Classes.{IsAlignment}
+use Rattle.pas_profile.specs.Requests.{is_shared, kind_of_route, route_in, room_in}
+use Rattle.pas_profile.specs.Routes.{room_by}
+use Rattle.pas_profile.specs.declared.directory.Directory.{Directory}
+use Rattle.pas_profile.specs.declared.directory.Route.{Route}
+use Rattle.pas_profile.specs.declared.event.Event.{Event}
+use Rattle.pas_profile.specs.declared.name.Block.{Block}
+use Rattle.pas_profile.specs.declared.profile.Profile.{Profile}
+use Rattle.pas_profile.proofs.Lists.{all_both, all_map}
+use Rattle.pas_scan.specs.Runs.{large_directory}
+use Rattle.pas_steps.specs.Agreement.{Agreed}
+use Rattle.pas_steps.specs.Calls.{Calls}
+use Rattle.pas_steps.specs.Desks.{Seat, Standing, CanCall, triples}
+use Rattle.pas_steps.specs.Events.{events_by}
+use Rattle.pas_steps.specs.Kinds.{Backing, Only, returning, kind_of, is_in}
+use Rattle.pas_steps.specs.Lists.{Whole}
+use Rattle.pas_steps.specs.Unknown.{unknown_pages}
+use Rattle.pas_steps.specs.Views.{View, KnowsDeed}
+use Rattle.pas_steps.specs.declared.step.Made.{Made}
+use Rattle.pas_steps.specs.declared.step.Step.{Step}
+use Rattle.pas_steps.specs.declared.step.Step.TheVariants.{Deed}
+use Rattle.pas_steps.proofs.Adding.{agreed_first, agreed_later}
+use Rattle.pas_steps.proofs.Apart.{no_events, events_same}
+use Rattle.pas_steps.proofs.Called.{call_then, next_call}
+use Rattle.pas_steps.proofs.Events.{ComesOf, comes_of, each_event}
+use Rattle.pas_steps.proofs.Frames.{events_append}
+use Rattle.pas_steps.proofs.Kept.{knows_still}
+use Rattle.pas_steps.proofs.Past.{always_map, always_pair}
+use Rattle.pas_steps.proofs.SpareRoom.{Spares, spare_falls}
+use Rattle.pas_steps.proofs.Unknown.{unknown_stays}
+use Rattle.pas_rights.specs.Gives.{give_steps}
+use Rattle.pas_large.specs.Claims.{in_span}
+use Rattle.pas_large.specs.Evidence.{DeedsOf}
+use Rattle.pas_large.specs.Finds.{MayFind}
+use Rattle.pas_large.proofs.Claims.{in_parts, span_in}
+use Rattle.pas_large.proofs.Gives.{run_is, back_events}
+use Rattle.pas_large.proofs.Outcomes.{MadeOf}
+use Rattle.pas_trace.specs.Reasons.{cost_of_size}
+use Rattle.pas_trace.specs.declared.item.Request.{Request}
+use Rattle.pas_trace.proofs.Costs.{large_cost}
+use Rattle.pas_report.specs.Rooms.{records_in, room_of, Records}
+use Rattle.pas_report.specs.declared.record.Record.{Record}
+use Rattle.pas_report.specs.declared.record.Said.{Said}
+use Rattle.pas_cache.specs.Serves.{Wanted, wanted_for, pages_of, IsPreparing, IsDeedOf}
+use Rattle.pas_cache.proofs.Routes.{is_large, pages_asked}
+use Rattle.pas_guard.specs.Books.{FitsBook, guards_in, size_of_book}
+use Rattle.pas_guard.specs.Raises.{RaiseRoom, RaiseSteps, Raises, IsRaised, guard_of}
+use Rattle.pas_guard.specs.Seeks.{seeking}
+use Rattle.pas_guard.specs.Sweeps.{is_over, sweeping, SweptOne, Swept, SweepSteps, Sweeps}
+use Rattle.pas_guard.specs.declared.book.Guard.{Guard}
+use Rattle.pas_guard.specs.declared.book.GuardBook.{GuardBook}
+use Rattle.pas_answers.specs.Answers.{wanted_by, records_of, IsGiven}
+use Rattle.pas_answers.specs.Calls.{IsBlockOf, MayStand}
+use Rattle.pas_answers.specs.Guarding.{said_of_guard, TryEnds, IsTried}
+use Rattle.pas_answers.specs.Keeping.{owed_by_keeper, MayTry, cost_of_try, TriesRequest, MayLowerAll, LowersAll}
+use Rattle.pas_answers.proofs.Records.{IsShown, shown_new, shown_longer}
+
+-- ---- a sweep
+one_count : (t : Bool) (k : ℕ) (guard : Guard) (first : List Made) (kept after : List Guard) (said more : List Record) → SweptOne t k guard first kept after said more → length said + length kept ≡ length more + length after + 1
+one_count true k guard first kept after said more h = let kept_is = ap (λ (gs : List Guard). length gs) h.1 in let said_is = ap (λ (rs : List Record). length rs) h.2 in omega (arith, kept_is, said_is)
+one_count false k guard first kept after said more h = let kept_is = ap (λ (gs : List Guard). length gs) h.1 in let said_is = ap (λ (rs : List Record). length rs) h.2 in omega (arith, kept_is, said_is)
+
+-- each guard stays up, or is said to be lowered
+pub swept_count : (all : Bool) (k : ℕ) (guards kept : List Guard) (said : List Record) (steps : List Made) → Swept all k guards kept said steps → length said + length kept ≡ length guards
+swept_count all k [] kept said steps h = let kept_is = ap (λ (gs : List Guard). length gs) h.0 in let said_is = ap (λ (rs : List Record). length rs) h.1 in omega (arith, kept_is, said_is)
+swept_count all k (guard ∷ guards) kept said steps h =
+    let one = one_count (all || is_over guard h.0) k guard h.1 kept h.3 said h.4 h.5 in
+    let rest = swept_count all k guards h.3 h.4 h.2 h.6 in
+    omega (arith, one, rest)
+
+-- .. and none where all are to go
+all_gone : (k : ℕ) (guards kept : List Guard) (said : List Record) (steps : List Made) → Swept true k guards kept said steps → kept ≡ []
+all_gone k [] kept said steps h = h.0
+all_gone k (guard ∷ guards) kept said steps h = h.5.1 ∙ all_gone k guards h.3 h.4 h.2 h.6
+
+sweep_call : {σ σ' : Standing} {all : Bool} {guards guards' : List Guard} {said said' : List Record} → (s : Sweeps all guards guards' said said' σ σ') → Calls σ σ' (FitsBook σ.seat.profile guards) (λ v w. FitsBook σ.seat.profile guards' w) s.steps
+sweep_call s = record { adds = s.adds; leads = s.sweep.fits }
+
+sweep_silent : {σ σ' : Standing} {all : Bool} {guards guards' : List Guard} {said said' : List Record} → (s : Sweeps all guards guards' said said' σ σ') → (k : ℕ) (v : View) → events_by k v s.steps ≡ []
+sweep_silent s k v = no_events sweeping refl k v s.steps s.sweep.kinds
+
+pub fewer_up : {σ σ' : Standing} {all : Bool} {guards guards' : List Guard} {said said' : List Record} → Sweeps all guards guards' said said' σ σ' → length guards' ≤ length guards
+fewer_up {σ} {all = all} {guards = guards} {guards' = guards'} s = let count = swept_count all σ.seat.actor guards guards' s.more s.steps s.sweep.swept in omega (arith, count)
+
+-- ---- the close
+pub can_lower : {σ : Standing} {book : GuardBook} {out : Records} → CanCall σ (MayLowerAll σ.seat.profile book out) → CanCall σ (FitsBook σ.seat.profile (guards_in book))
+can_lower can = record { view = can.view; whole = can.whole; stood = can.stood; met = can.met.fits }
+
+pub lowers_all : {σ σ' : Standing} {book book' : GuardBook} {out out' : Records} → Sweeps true (guards_in book) (guards_in book') (records_in out) (records_in out') σ σ' → room_of out' ≡ room_of out → size_of_book book' ≡ size_of_book book → LowersAll book book' out out' σ σ'
+lowers_all {σ} {book = book} {book' = book'} s room size =
+    let gone = all_gone σ.seat.actor (guards_in book) (guards_in book') s.more s.steps s.sweep.swept in
+    let count = swept_count true σ.seat.actor (guards_in book) (guards_in book') s.more s.steps s.sweep.swept in
+    record {
+      steps = s.steps;
+      said = s.more;
+      calls = sweep_call s;
+      lowered = λ v met. record { fits = met; sweep = subst (λ (gs : List Guard). SweepSteps σ.seat.profile σ.seat.actor true (guards_in book) gs s.more s.steps) gone s.sweep };
+      none = gone;
+      added = s.added;
+      few = omega (arith, count);
+      room = room;
+      size = size;
+    }
+
+-- ---- what a raise made
+may_find : (f : Profile) (d : Directory) (guards : List Guard) (v : View) → FitsBook f guards v → MayFind d v
+may_find f d guards v fits = record { lacks = λ p of. fits.rights p; clear = fits.clear }
+
+made_of : (d : Directory) (n : ℕ) (P : ℕ → Type 0) (steps : List Made) → DeedsOf d n P steps → MadeOf d steps
+made_of d n P steps deeds = always_map _ (λ m before. (p : ℕ) (e : Directory) → m.step ≡ Deed p e → m.answer ≡ 0 → e ≡ d) steps (λ m before h p e same z. (h p e same z).0) deeds
+
+deed_sought : (d : Directory) (k : ℕ) (s : Step) (a : ℕ) (e : Event) → is_in seeking (kind_of s) ≡ true → ((p : ℕ) (x : Directory) → s ≡ Deed p x → a ≡ 0 → x ≡ d) → ComesOf k s a e → IsDeedOf d e
+deed_sought d k s a (Event.Deed j p x) is made comes = subst (λ y. IsDeedOf d (Event.Deed j p y)) (sym (made p x comes.step.0 comes.step.1)) (IsDeedOf.Deeds j p)
+deed_sought d k s a e is made comes = absurd (true≢false (sym is ∙ ap (is_in seeking) comes.kind))
+
+deeds_sought : (d : Directory) (steps : List Made) → Only seeking steps → MadeOf d steps → (k : ℕ) (v : View) → AllByRecursion (IsDeedOf d) (events_by k v steps)
+deeds_sought d steps kinds deeds k v = each_event (IsDeedOf d) (λ m before. (is_in seeking (kind_of m.step) ≡ true) × ((p : ℕ) (x : Directory) → m.step ≡ Deed p x → m.answer ≡ 0 → x ≡ d)) k v
+    (λ m before epoch e h is. deed_sought d k m.step m.answer e h.0 h.1 (comes_of k epoch m.step m.answer e is)) steps
+    (always_pair (λ m before. is_in seeking (kind_of m.step) ≡ true) (λ m before. (p : ℕ) (x : Directory) → m.step ≡ Deed p x → m.answer ≡ 0 → x ≡ d) steps kinds deeds)
+
+back_made : (d : Directory) (k : ℕ) (s : Step) (a : ℕ) (e : Event) → is_in (Backing ∷ []) (kind_of s) ≡ true → ComesOf k s a e → IsPreparing d e
+back_made d k s a (Event.Back j p) is comes = IsPreparing.Backs j p
+back_made d k s a e is comes = absurd (true≢false (sym is ∙ ap (is_in (Backing ∷ [])) comes.kind))
+
+backs_only : (d : Directory) (steps : List Made) → Only (Backing ∷ []) steps → (k : ℕ) (v : View) → AllByRecursion (IsPreparing d) (events_by k v steps)
+backs_only d steps kinds k v = each_event (IsPreparing d) (λ m before. is_in (Backing ∷ []) (kind_of m.step) ≡ true) k v (λ m before epoch e h is. back_made d k m.step m.answer e h (comes_of k epoch m.step m.answer e is)) steps kinds
+
+deed_prepares : (d : Directory) (e : Event) → IsDeedOf d e → IsPreparing d e
+deed_prepares d e (IsDeedOf.Deeds k page) = IsPreparing.Deeds k page
+
+-- how many events it makes at most, beside deeds that weren't known
+abbrev cost_of_raise : ℕ → Option Block → ℕ
+cost_of_raise n None = 0
+cost_of_raise n (Some block) = n + 1
+
+-- the guards are those before it, and one more where it gave a block
+abbrev more_guards : Option Block → ℕ
+more_guards None = 0
+more_guards (Some block) = 1
+
+module _ (f : Profile) (heap n : ℕ) (guards guards' : List Guard) (steps : List Made) where
+  abbrev d : Directory
+  d = large_directory heap
+
+  abbrev Raised : Option Block → Type 0
+  Raised answer = RaiseSteps f heap n guards guards' answer steps
+
+  guards_more : (answer : Option Block) → Raised answer → length guards' ≡ length guards + more_guards answer
+  guards_more None is = let same = ap (λ (gs : List Guard). length gs) is.outcome.same in omega (arith, same)
+  guards_more (Some block) is =
+      let raised = ap (λ (gs : List Guard). length gs) is.outcome.raised in
+      let both = length-append guards (guard_of is.outcome.first n block ∷ []) in
+      omega (arith, raised, both)
+
+  -- ---- where it gave none
+  none_is : (is : Raised None) → steps ≡ is.searched
+  none_is is = is.steps_are ∙ ap (λ (xs : List Made). xs ++ is.searched) is.outcome.nothing
+
+  none_ends : Raised None → (k : ℕ) (v : View) → FitsBook f guards v → Agreed f v steps → AllByRecursion (IsDeedOf d) (events_by k v steps)
+  none_ends is k v fits agreed =
+      let deeds = is.outcome.found.deeds v (may_find f d guards v fits) (subst (Agreed f v) (none_is is) agreed) in
+      subst (λ (xs : List Made). AllByRecursion (IsDeedOf d) (events_by k v xs)) (sym (none_is is)) (deeds_sought d is.searched is.kinds (made_of d (n + 2) _ is.searched deeds) k v)
+
+  -- ---- where it gave a block
+  module _ (block : Block) (is : Raised (Some block)) where
+    abbrev up : IsRaised f d n guards guards' is.searched is.after block
+    up = is.outcome
+
+    -- those steps of the give and of the backs before it
+    abbrev given : List Made
+    given = give_steps (up.first + 1) 0 block up.word up.answer ++ up.backs
+
+    some_is : steps ≡ up.left ++ (given ++ is.searched)
+    some_is = is.steps_are ∙ ap (λ (xs : List Made). xs ++ is.searched) up.after_is ∙ append_assoc up.left given is.searched
+
+    before_give : (v : View) → Agreed f v steps → Agreed f v (given ++ is.searched)
+    before_give v agreed = agreed_later f v up.left (given ++ is.searched) (subst (Agreed f v) some_is agreed)
+
+    events_are : (k : ℕ) (v : View) → events_by k v steps ≡ Event.Give k block ∷ (events_by k (is.searched ++ v) up.backs ++ events_by k v is.searched)
+    events_are k v = ap (events_by k v) some_is ∙ events_same returning refl k v up.left (given ++ is.searched) up.left_kinds ∙ ap (λ (es : List Event). Event.Give k block ∷ es) (events_append k up.backs is.searched v)
+
+    turn_small : (v : View) → Agreed f v steps → block.name.turn < 2 ^ 37
+    turn_small v agreed =
+        let here = agreed_first f v given is.searched (before_give v agreed) in
+        let turn = ap (λ (b : Block). b.name.turn) up.block_is in
+        let small = here.1.0.turn in
+        omega (arith, turn, small)
+
+    page_is : address_of block.name ≡ (up.first + 1) * 4096
+    page_is = ap (λ (b : Block). address_of b.name) up.block_is
+
+    block_of_region : (v : View) → heap < f.heaps → Agreed f v steps → IsBlockOf f block
+    block_of_region v of agreed =
+        let at = page_is in
+        let region = up.found.of_region in
+        let low = region.0 in
+        let high = region.1 in
+        let of_heap = ap (λ (b : Block). b.heap) up.block_is in
+        let turn = turn_small v agreed in
+        record {
+          region = record { page = (omega (arith, at, low), omega (arith, at, high)); aligned = omega (arith, at) };
+          heap = omega (arith, of_heap, of);
+          turn = omega (arith, turn);
+        }
+
+    -- the pages of the block are known to have the directory as their deed
+    deeds_known : (v : View) → FitsBook f guards v → Agreed f v steps → (g : ℕ) → in_run (grain_of block.name) (length_of block) g ≡ true → KnowsDeed (g / 256) d (steps ++ v)
+    deeds_known v fits agreed g inside =
+        let all = subst (Agreed f v) is.steps_are agreed in
+        let span = up.found.got.from v (may_find f d guards v fits) (agreed_later f v is.after is.searched all) in
+        let page : in_span (up.first + 1) (up.first + 1 + n) (g / 256) ≡ true = sym (run_is d (up.first + 1) n up.word g) ∙ ap (λ (b : Block). in_run (grain_of b.name) (length_of b) g) (sym up.block_is) ∙ inside in
+        let at = in_parts (up.first + 1) (up.first + 1 + n) (g / 256) page in
+        let low = at.0 in
+        let high = at.1 in
+        let before = span.got.deeds (g / 256) (span_in up.first (up.first + (n + 2)) (g / 256) (omega (arith, low)) (omega (arith, high))) in
+        subst (λ (w : View). KnowsDeed (g / 256) d w) (sym (append_assoc is.after is.searched v) ∙ ap (λ (xs : List Made). xs ++ v) (sym is.steps_are))
+        (knows_still f d (g / 256) is.after (is.searched ++ v) (agreed_first f v is.after is.searched all) before)
+
+    some_ends : (k align : ℕ) (v : View) → FitsBook f guards v → Agreed f v steps → address_of block.name % align ≡ 0 → IsGiven k (record { directory = d; route = Route.Large; room = n * 4096; align = align }) v steps block
+    some_ends k align v fits agreed aligned =
+        let at = page_is in
+        record {
+          of_heap = ap (λ (b : Block). b.heap) up.block_is;
+          room = ap (λ (b : Block). b.room) up.block_is;
+          placed = omega (arith, at);
+          aligned = aligned;
+          of_directory = deeds_known v fits agreed;
+          before = events_by k (is.searched ++ v) up.backs ++ events_by k v is.searched;
+          events = events_are k v;
+          prepared = all_both (IsPreparing d) (events_by k (is.searched ++ v) up.backs) (events_by k v is.searched) (backs_only d up.backs up.back_kinds k (is.searched ++ v))
+              (all_map (IsDeedOf d) (IsPreparing d) (events_by k v is.searched) (deed_prepares d)
+              (deeds_sought d is.searched is.kinds (made_of d (n + 2) _ is.searched (up.found.deeds v (may_find f d guards v fits) (agreed_later f v is.after is.searched (subst (Agreed f v) is.steps_are agreed)))) k v));
+        }
+
+    stands_so : (align : ℕ) → IsAlignment align → address_of block.name % align ≡ 0
+    stands_so align alignment = ap (λ (a : ℕ). a % align) page_is ∙ ap (λ a. a % align) (omega arith) ∙ stands_aligned (up.first + 1) 0 align alignment (zero-mod (align / 16))
+
+  -- ---- how many events
+  raise_few : (answer : Option Block) → Raised answer → (k : ℕ) (v : View) → Agreed f v steps → length (events_by k v steps) + unknown_pages f (steps ++ v) ≤ cost_of_raise n answer + unknown_pages f v
+  raise_few None is k v agreed =
+      let few = is.shows k v (subst (Agreed f v) (none_is is) agreed) in
+      let events = ap (λ (xs : List Made). length (events_by k v xs)) (none_is is) in
+      let left = ap (λ (xs : List Made). unknown_pages f (xs ++ v)) (none_is is) in
+      omega (arith, few, events, left)
+  raise_few (Some block) is k v agreed =
+      let all = subst (Agreed f v) is.steps_are agreed in
+      let few = is.shows k v (agreed_later f v is.after is.searched all) in
+      let stays = unknown_stays f is.after (is.searched ++ v) (agreed_first f v is.after is.searched all) in
+      let left = ap (λ (xs : List Made). unknown_pages f (xs ++ v)) is.steps_are ∙ ap (λ (w : View). unknown_pages f w) (append_assoc is.after is.searched v) in
+      let events = ap (λ (es : List Event). length es) (events_are block is k v) in
+      let both = length-append (events_by k (is.searched ++ v) is.outcome.backs) (events_by k v is.searched) in
+      let backs = back_events k (is.searched ++ v) is.outcome.backs in
+      let most = is.outcome.back_few in
+      omega (arith, few, stays, left, events, both, backs, most)
+
+-- ---- what is asked for
+-- a request for whole pages, by how many
+pages_wanted : (f : Profile) (heap size align n : ℕ) → n ≡ (size + 4096 - 1) / 4096 → 2048 < size → record { directory = large_directory heap; route = Route.Large; room = n * 4096; align = align } ≡ wanted_for f heap size align
+pages_wanted f heap size align n is large =
+    let route : route_in f size align ≡ Route.Large = is_large f.classes size align large in
+    let whole : max size 1 ≡ size = omega (arith, large) in
+    let room : n * 4096 ≡ room_in f size align = ap (λ x. x * 4096) (is ∙ ap (λ x. (x + 4096 - 1) / 4096) (sym whole)) ∙ ap (λ (r : Route). room_by r (max size 1)) (sym route) in
+    ap (λ (r : Route). record { directory = record { heap = heap; kind = kind_of_route (is_shared f heap) r }; route = r; room = n * 4096; align = align }) (sym route)
+    ∙ ap (λ x. record { directory = record { heap = heap; kind = kind_of_route (is_shared f heap) (route_in f size align) }; route = route_in f size align; room = x; align = align }) room
+
+count_wanted : (f : Profile) (r : Request) (n : ℕ) → n ≡ (r.size + 4096 - 1) / 4096 → 2048 < r.size → n ≡ pages_of (wanted_by f r)
+count_wanted f r n is large = is ∙ sym (pages_asked f r.size r.align (is_large f.classes r.size r.align large))
+
+-- its cost
+cost_wanted : (size n : ℕ) → n ≡ (size + 4096 - 1) / 4096 → 2048 < size → n + 1 ≡ cost_of_size size
+cost_wanted size n is large = let cost = large_cost size large in omega (arith, is, cost)
+
+ends_by : (f : Profile) (k n : ℕ) (r : Request) (guards guards' : List Guard) (steps : List Made) (v : View) (answer : Option Block) → n ≡ (r.size + 4096 - 1) / 4096 → 2048 < r.size → IsAlignment r.align → RaiseSteps f r.heap n guards guards' answer steps
+    → FitsBook f guards v → Agreed f v steps → TryEnds f k r v steps answer
+ends_by f k n r guards guards' steps v None is large alignment raise fits agreed =
+    subst (λ (w : Wanted). AllByRecursion (IsDeedOf w.directory) (events_by k v steps)) (pages_wanted f r.heap r.size r.align n is large) (none_ends f r.heap n guards guards' steps raise k v fits agreed)
+ends_by f k n r guards guards' steps v (Some block) is large alignment raise fits agreed =
+    subst (λ (w : Wanted). IsGiven k w v steps block) (pages_wanted f r.heap r.size r.align n is large)
+    (some_ends f r.heap n guards guards' steps block raise k r.align v fits agreed (stands_so f r.heap n guards guards' steps block raise r.align alignment))
+
+-- ---- what may come after the sweep
+pub can_sweep : {σ : Standing} {book : GuardBook} {size spare : ℕ} {out : Records} → CanCall σ (MayTry σ.seat.profile book size spare out) → CanCall σ (FitsBook σ.seat.profile (guards_in book))
+can_sweep can = record { view = can.view; whole = can.whole; stood = can.stood; met = can.met.fits }
+
+module _ {σ σ1 : Standing} {said said' : List Record} {guards1 : List Guard} (book : GuardBook) (size spare spare1 : ℕ) (out : Records) (can : CanCall σ (MayTry σ.seat.profile book size spare out)) (s : Sweeps false (guards_in book) guards1 said said' σ σ1) where
+  abbrev fit : CanCall σ (FitsBook σ.seat.profile (guards_in book))
+  fit = record { view = can.view; whole = can.whole; stood = can.stood; met = can.met.fits }
+
+  pub can_raise : (n : ℕ) → n ≡ (size + 4096 - 1) / 4096 → 2048 < size → Spares σ spare → Spares σ1 spare1 → CanCall σ1 (RaiseRoom σ1.seat.profile guards1 (n + 1) spare1)
+  can_raise n is large law law1 =
+      let agreed = s.adds.agreed can.view can.whole can.stood can.met.fits in
+      let none = ap (λ (es : List Event). length es) (sweep_silent s σ.seat.actor can.view) in
+      let left = spare_falls {C = FitsBook σ.seat.profile (guards_in book)} spare spare1 0 s.adds fit law law1 none in
+      let unknown = unknown_stays σ.seat.profile s.steps can.view agreed in
+      let room = can.met.room in
+      let cost = cost_wanted size n is large in
+      record {
+        view = s.steps ++ can.view;
+        whole = triples σ.seat.actor s.steps ++ can.whole;
+        stood = s.adds.added can.view can.whole can.stood can.met.fits;
+        met = subst (λ (x : Seat). RaiseRoom x.profile guards1 (n + 1) spare1 (s.steps ++ can.view)) (sym s.adds.seat_is) (record { fits = s.sweep.fits.from can.view can.met.fits agreed; room = omega (arith, left, unknown, room, cost) });
+      }
+
+-- ---- what both calls come to
+module _ {σ σ1 σ2 : Standing} (r : Request) (book book1 book2 : GuardBook) (out out1 : Records) (answer : Option Block) (n : ℕ) (is : n ≡ (r.size + 4096 - 1) / 4096) (large : 2048 < r.size)
+    (s : Sweeps false (guards_in book) (guards_in book1) (records_in out) (records_in out1) σ σ1) (u : Raises r.heap n (guards_in book1) (guards_in book2) σ1 σ2 answer) where
+  abbrev guards1 : List Guard
+  guards1 = guards_in book1
+
+  abbrev guards2 : List Guard
+  guards2 = guards_in book2
+
+  abbrev f : Profile
+  f = σ.seat.profile
+
+  abbrev k : ℕ
+  k = σ.seat.actor
+
+  abbrev steps : List Made
+  steps = u.steps ++ s.steps
+
+  raise_so : RaiseSteps f r.heap n guards1 guards2 answer u.steps
+  raise_so = subst (λ (x : Seat). RaiseSteps x.profile r.heap n guards1 guards2 answer u.steps) s.adds.seat_is u.raise
+
+  raise_call : Calls σ1 σ2 (FitsBook f guards1) (λ v w. FitsBook f guards2 w) u.steps
+  raise_call = subst (λ (x : Seat). Calls σ1 σ2 (FitsBook x.profile guards1) (λ v w. FitsBook x.profile guards2 w) u.steps) s.adds.seat_is (record { adds = u.adds; leads = u.raise.fits })
+
+  both_call : Calls σ σ2 (FitsBook f (guards_in book)) (λ v w. FitsBook f guards2 w) steps
+  both_call = call_then (λ v w. FitsBook f guards2 w) (sweep_call s) raise_call (λ v met here. here) (λ v met here later. later)
+
+  -- after the sweep
+  fits_then : (v : View) → FitsBook f (guards_in book) v → Agreed f v s.steps → FitsBook f guards1 (s.steps ++ v)
+  fits_then v met agreed = s.sweep.fits.from v met agreed
+
+  events_then : (v : View) → events_by k v steps ≡ events_by k (s.steps ++ v) u.steps
+  events_then v = events_append k u.steps s.steps v ∙ ap (λ (es : List Event). events_by k (s.steps ++ v) u.steps ++ es) (sweep_silent s k v) ∙ append-nil (events_by k (s.steps ++ v) u.steps)
+
+  -- the events and the deeds that aren't known then
+  few_then : (v : View) → Agreed f v steps → length (events_by k (s.steps ++ v) u.steps) + unknown_pages f (steps ++ v) ≤ cost_of_raise n answer + unknown_pages f v
+  few_then v agreed =
+      let few = raise_few f r.heap n guards1 guards2 u.steps answer raise_so k (s.steps ++ v) (agreed_first f v u.steps s.steps agreed) in
+      let stays = unknown_stays f s.steps v (agreed_later f v u.steps s.steps agreed) in
+      let left = ap (λ (w : View). unknown_pages f w) (append_assoc u.steps s.steps v) in
+      omega (arith, few, stays, left)
+
+  most_cost : (a : Option Block) → cost_of_raise n a ≤ cost_of_size r.size
+  most_cost None = omega arith
+  most_cost (Some block) = let cost = cost_wanted r.size n is large in omega (arith, cost)
+
+  few_both : (v : View) → Agreed f v steps → length (events_by k v steps) + unknown_pages f (steps ++ v) ≤ cost_of_size r.size + unknown_pages f v
+  few_both v agreed =
+      let few = few_then v agreed in
+      let events = ap (λ (es : List Event). length es) (events_then v) in
+      let most = most_cost answer in
+      omega (arith, few, events, most)
+
+  -- what is said
+  abbrev told : View → List Record
+  told v = s.more ++ (records_of (events_by k (s.steps ++ v) u.steps) ++ said_of_guard k r.name (pages_of (wanted_by f r)) answer)
+
+  one_told : (a : Option Block) (m : ℕ) → length (said_of_guard k r.name m a) + more_guards a + cost_of_raise n a ≤ cost_of_try r.size a
+  one_told None m = omega arith
+  one_told (Some block) m = let cost = cost_wanted r.size n is large in omega (arith, cost)
+
+  paid : (v : View) → Agreed f v steps → length (told v) + owed_by_keeper f guards2 (steps ++ v) ≤ cost_of_try r.size answer + owed_by_keeper f (guards_in book) v
+  paid v agreed =
+      let es = events_by k (s.steps ++ v) u.steps in
+      let guard = said_of_guard k r.name (pages_of (wanted_by f r)) answer in
+      let few = few_then v agreed in
+      let count = swept_count false k (guards_in book) guards1 s.more s.steps s.sweep.swept in
+      let more = guards_more f r.heap n guards1 guards2 u.steps answer raise_so in
+      let one = one_told answer (pages_of (wanted_by f r)) in
+      let a = length-append s.more (records_of es ++ guard) in
+      let b = length-append (records_of es) guard in
+      let c : length (records_of es) ≡ length es = length-map (reverse es) Record.Event ∙ length-reverse es in
+      omega (arith, few, count, more, one, a, b, c)
+
+  is_tried : (v : View) → IsAlignment r.align → FitsBook f (guards_in book) v → Agreed f v steps → IsTried f k r v (guards_in book) (record { steps = steps; records = told v; block = answer; guards = guards2 })
+  is_tried v alignment met agreed =
+      let first = agreed_later f v u.steps s.steps agreed in
+      record {
+        fits = met;
+        swept = s.steps;
+        left = guards1;
+        lowered = s.more;
+        sweep = s.sweep;
+        raised = u.steps;
+        raise = subst (λ (m : ℕ). RaiseSteps f r.heap m guards1 guards2 answer u.steps) (count_wanted f r n is large) raise_so;
+        ends = ends_by f k n r guards1 guards2 u.steps (s.steps ++ v) answer is large alignment raise_so (fits_then v met first) (agreed_first f v u.steps s.steps agreed);
+        steps_are = refl;
+        records_are = refl;
+      }
+
+  -- ---- the next calls
+  after_sweep : CanCall σ (FitsBook f (guards_in book)) → CanCall σ1 (FitsBook σ1.seat.profile guards1)
+  after_sweep can = next_call (sweep_call s) can (λ v met here. subst (λ (x : Seat). FitsBook x.profile guards1 (s.steps ++ v)) (sym s.adds.seat_is) here)
+
+  pub more_shown : (old new : List Event) → IsShown σ1 old → IsShown σ2 new → CanCall σ (FitsBook f (guards_in book)) → length old ≤ length new
+  more_shown old new before after can = shown_longer u.adds old new before after (after_sweep can)
+
+  -- the events that are shown more are those of the raise
+  shown_of : (old new : List Event) → IsShown σ1 old → IsShown σ2 new → (v : View) (l : Whole) → σ.stands v l → FitsBook f (guards_in book) v → drop (length old) new ≡ reverse (events_by k (s.steps ++ v) u.steps)
+  shown_of old new before after v l stood met =
+      let here = fits_then v met (s.adds.agreed v l stood met) in
+      shown_new u.adds old new before after (s.steps ++ v) (triples k s.steps ++ l) (s.adds.added v l stood met) (subst (λ (x : Seat). FitsBook x.profile guards1 (s.steps ++ v)) (sym s.adds.seat_is) here)
+      ∙ ap (λ (x : Seat). reverse (events_by x.actor (s.steps ++ v) u.steps)) s.adds.seat_is
+
+  both_agreed : (v : View) (l : Whole) → σ.stands v l → FitsBook f (guards_in book) v → Agreed f v steps
+  both_agreed v l stood met = both_call.adds.agreed v l stood met
+
+  -- there is room for what is said
+  pub told_fits : (spare : ℕ) (old new : List Event) → IsShown σ1 old → IsShown σ2 new → CanCall σ (MayTry f book r.size spare out) → length (records_in out1) + length (drop (length old) new) + 1 ≤ room_of out
+  told_fits spare old new before after can =
+      let v = can.view in
+      let es = events_by k (s.steps ++ v) u.steps in
+      let shown = ap (λ (xs : List Event). length xs) (shown_of old new before after v can.whole can.stood can.met.fits) ∙ length-reverse es in
+      let few = few_then v (both_agreed v can.whole can.stood can.met.fits) in
+      let most = most_cost answer in
+      let count = swept_count false k (guards_in book) guards1 s.more s.steps s.sweep.swept in
+      let swept = ap (λ (rs : List Record). length rs) s.added ∙ length-append (records_in out) s.more in
+      let room = can.met.records in
+      omega (arith, shown, few, most, count, swept, room)
+
+  -- ---- the answer
+  -- the block that was given may be freed
+  stands_by : (a : Option Block) (v : View) → r.heap < f.heaps → RaiseSteps f r.heap n guards1 guards2 a u.steps → Agreed f v u.steps → MayStand f a
+  stands_by None v of raise agreed = λ block same. absurd (let bad : None ≡ Some block = same in cc)
+  stands_by (Some block) v of raise agreed = λ b same. subst (IsBlockOf f) (same_Some _ _ same) (block_of_region f r.heap n guards1 guards2 u.steps block raise v of agreed)
+
+  pub given_stands : r.heap < f.heaps → CanCall σ (FitsBook f (guards_in book)) → MayStand f answer
+  given_stands of can = stands_by answer (s.steps ++ can.view) of raise_so (agreed_first f can.view u.steps s.steps (both_agreed can.view can.whole can.stood can.met))
+
+  -- what is said of the guard that went up, if any
+  pub said_some : (block : Block) (actor : ℕ) (message : Said) → actor ≡ σ2.seat.actor → message ≡ Said.Guarded (address_of block.name / 4096 - 1) (address_of block.name / 4096 + n) r.name → Record.Said actor message ∷ [] ≡ said_of_guard k r.name (pages_of (wanted_by f r)) (Some block)
+  said_some block actor message actor_is message_is =
+      ap (λ (j : ℕ). Record.Said j message ∷ []) (actor_is ∙ ap (λ (x : Seat). x.actor) (u.adds.seat_is ∙ s.adds.seat_is))
+      ∙ ap (λ (m : Said). Record.Said k m ∷ []) message_is
+      ∙ ap (λ (m : ℕ). Record.Said k (Said.Guarded (address_of block.name / 4096 - 1) (address_of block.name / 4096 + m) r.name) ∷ []) (count_wanted f r n is large)
+
+  pub said_none : (rs : List Record) → answer ≡ None → rs ≡ rs ++ said_of_guard k r.name (pages_of (wanted_by f r)) answer
+  said_none rs none = sym (ap (λ (a : Option Block). rs ++ said_of_guard k r.name (pages_of (wanted_by f r)) a) none ∙ append-nil rs)
+
+  -- the keeper's records, in the order in which they came
+  told_are : (out2 out3 : Records) (old new : List Event) → IsShown σ1 old → IsShown σ2 new → records_in out2 ≡ records_in out1 ++ map Record.Event (drop (length old) new)
+      → records_in out3 ≡ records_in out2 ++ said_of_guard k r.name (pages_of (wanted_by f r)) answer → (v : View) (l : Whole) → σ.stands v l → FitsBook f (guards_in book) v → records_in out3 ≡ records_in out ++ told v
+  told_are out2 out3 old new before after events last v l stood met =
+      let es = events_by k (s.steps ++ v) u.steps in
+      let guard = said_of_guard k r.name (pages_of (wanted_by f r)) answer in
+      let own : map Record.Event (drop (length old) new) ≡ records_of es = ap (λ (xs : List Event). map Record.Event xs) (shown_of old new before after v l stood met) in
+      last ∙ ap (λ (rs : List Record). rs ++ guard) (events ∙ ap (λ (rs : List Record). records_in out1 ++ rs) own ∙ ap (λ (rs : List Record). rs ++ records_of es) s.added ∙ append_assoc (records_in out) s.more (records_of es))
+      ∙ append_assoc (records_in out) (s.more ++ records_of es) guard ∙ ap (λ (rs : List Record). records_in out ++ rs) (append_assoc s.more (records_of es) guard)
+
+  pub tries : (out2 out3 : Records) (old new : List Event) → IsAlignment r.align → IsShown σ1 old → IsShown σ2 new → records_in out2 ≡ records_in out1 ++ map Record.Event (drop (length old) new)
+      → records_in out3 ≡ records_in out2 ++ said_of_guard k r.name (pages_of (wanted_by f r)) answer → room_of out3 ≡ room_of out → size_of_book book2 ≡ size_of_book book → TriesRequest r book book2 out out3 σ σ2 answer
+  tries out2 out3 old new alignment before after events last room size = record {
+    steps = steps;
+    calls = both_call;
+    few = λ v met agreed. few_both v agreed;
+    tried = λ v l stood met. let agreed = both_agreed v l stood met in (told v, is_tried v alignment met agreed, told_are out2 out3 old new before after events last v l stood met, paid v agreed);
+    room = room;
+    size = size;
+  }

@@ -1,0 +1,61 @@
+use Rattle.std.proofs.Common.{◌≡◌, ℕ, ◌+◌, ◌-◌, ◌++◌, ◌∷◌, [], true, false, map, refl, ap, sym, ◌∙◌, arith}
+use Rattle.pas_profile.specs.declared.profile.Profile.{Profile}
+use Rattle.pas_trace.specs.Acts.{Lowers, numbers_from}
+use Rattle.pas_check.specs.Checks.{threads_in}
+use Rattle.pas_check.proofs.Chains.{act_taken, nothing_taken, sized_on, taken_as, then_taken}
+use Rattle.pas_trace.proofs.ThreadsInOrder.{next_number, no_number}
+use Rattle.pas_check.proofs.checking.lower_all.Goals as goal
+
+pub loop-index-init : goal.loop-index-init
+loop-index-init c = record {
+  sized = record { profile = refl; logs = refl; awake = refl; names = refl };
+  within = c.requires.within;
+  after = (let count = ap (λ (f : Profile). f.threads) c.profile-threads.ensures in omega (arith, count));
+  far = λ more.
+      let t = threads_in c.args.judge.now in
+      let n = t + c.args.keepers in
+      let i = c.profile-threads.result.threads in
+      let count : i ≡ t = ap (λ (f : Profile). f.threads) c.profile-threads.ensures in
+      let left : c.args.keepers ≡ n - i = omega (arith, count) in
+      taken_as c.args.text.now c.args.judge.now c.args.judge.now c.args.cursor.now c.args.cursor.now true _ _ (map Lowers (numbers_from (t + 1) c.args.keepers) ++ more) (map Lowers (numbers_from (i + 1) (n - i)) ++ more) refl
+      (ap (λ (k : ℕ). map Lowers (numbers_from (k + 1) c.args.keepers) ++ more) (sym count) ∙ ap (λ (m : ℕ). map Lowers (numbers_from (i + 1) m) ++ more) left)
+      (nothing_taken c.args.text.now c.args.judge.now c.args.cursor.now (map Lowers (numbers_from (t + 1) c.args.keepers) ++ more));
+}
+
+pub lower-requires-clause-within : goal.lower-requires-clause-within
+lower-requires-clause-within c = c.loop-index.invariant.within
+
+pub returns-in-Ok-false-clause-taken : goal.returns-in-Ok-false-clause-taken
+returns-in-Ok-false-clause-taken c = λ more.
+    let test = c.loop-index-test.true in
+    let count = ap (λ (f : Profile). f.threads) c.profile-threads.ensures in
+    let i = c.loop-index.index in
+    let n = threads_in c.args.judge.now + c.args.keepers in
+    then_taken c.args.text.now c.args.judge.now c.loop-index.judge c.lower.new.judge c.args.cursor.now c.loop-index.cursor c.lower.new.cursor _ _ (Lowers (i + 1) ∷ [])
+    (map Lowers (numbers_from (i + 1 + 1) (n - (i + 1))) ++ more) false (next_number Lowers i n more (omega (arith, test, count))) (c.loop-index.invariant.far more)
+    (act_taken c.args.text.now c.loop-index.judge c.lower.new.judge c.loop-index.cursor c.lower.new.cursor (Lowers (i + 1)) false
+    (rw c.in-Ok-false.field-0-test at c.in-Ok-false.ensures.taken))
+
+pub loop-index-preserved : goal.loop-index-preserved
+loop-index-preserved c =
+    let test = c.loop-index-test.true in
+    let count = ap (λ (f : Profile). f.threads) c.profile-threads.ensures in
+    let i = c.loop-index.index in
+    let n = threads_in c.args.judge.now + c.args.keepers in
+    let within = rw c.in-Ok-true.field-0-test at c.in-Ok-true.ensures.within in
+    record {
+      sized = sized_on c.loop-index.invariant.sized c.in-Ok-true.ensures.sized;
+      within = within;
+      after = (let after = c.loop-index.invariant.after in omega (arith, after));
+      far = λ more. then_taken c.args.text.now c.args.judge.now c.loop-index.judge c.lower.new.judge c.args.cursor.now c.loop-index.cursor c.lower.new.cursor _ _ (Lowers (i + 1) ∷ [])
+          (map Lowers (numbers_from (i + 1 + 1) (n - (i + 1))) ++ more) true (next_number Lowers i n more (omega (arith, test, count))) (c.loop-index.invariant.far more)
+          (act_taken c.args.text.now c.loop-index.judge c.lower.new.judge c.loop-index.cursor c.lower.new.cursor (Lowers (i + 1)) true
+          (rw c.in-Ok-true.field-0-test at c.in-Ok-true.ensures.taken));
+    }
+
+pub returns-clause-taken : goal.returns-clause-taken
+returns-clause-taken c = λ more.
+    let test = c.loop-index-test.false in
+    let count = ap (λ (f : Profile). f.threads) c.profile-threads.ensures in
+    taken_as c.args.text.now c.args.judge.now c.loop-index.judge c.args.cursor.now c.loop-index.cursor true _ _ _ more refl
+    (no_number Lowers c.loop-index.index (threads_in c.args.judge.now + c.args.keepers) more (omega (arith, test, count))) (c.loop-index.invariant.far more)

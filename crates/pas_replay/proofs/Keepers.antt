@@ -1,0 +1,425 @@
+-- The turn of a keeper, and what is left of a guarded request after it.
+use Rattle.std.proofs.Common.{◌≡◌, ◌≢◌, ℕ, zero, suc, ◌+◌, ◌-◌, ◌<◌, ◌≤◌, ◌==◌, nat_le, Bool, true, false, inl, inr, List, [], ◌∷◌, ◌++◌, length, set, get_or, Option, Some, None, refl, ap, sym, ◌∙◌, subst, arith, length-append}
+use Rattle.std.proofs.lemmas.Bool.{cases_eq, eq-eqb, lt-leb}
+use Rattle.std.proofs.lemmas.List.{length-set}
+use Rattle.pas_profile.specs.declared.profile.Profile.{Profile}
+use Rattle.pas_profile.specs.declared.name.Block.{Block}
+use Rattle.pas_steps.specs.Lists.{part}
+use Rattle.pas_steps.specs.Unknown.{unknown_pages}
+use Rattle.pas_steps.specs.Views.{View}
+use Rattle.pas_plain.specs.Seats.{standing_of}
+use Rattle.pas_plain.specs.declared.desk.PlainDesk.{PlainDesk}
+use Rattle.pas_plain.specs.declared.pass.PlainPass.{PlainPass}
+use Rattle.pas_report.specs.Rooms.{records_in, room_of, Records}
+use Rattle.pas_report.specs.declared.record.Record.{Record}
+use Rattle.pas_guard.specs.Books.{FitsBook, guards_in, size_of_book}
+use Rattle.pas_guard.specs.declared.book.Guard.{Guard}
+use Rattle.pas_guard.specs.declared.book.GuardBook.{GuardBook}
+use Rattle.pas_free_log.specs.declared.noting.EndedRun.{EndedRun}
+use Rattle.pas_cache.specs.Caches.{Cached, cached}
+use Rattle.pas_cache.specs.declared.cache.ThreadCache.{ThreadCache}
+use Rattle.pas_large.specs.Doors.{Indexes}
+use Rattle.pas_trace.specs.Acts.{Act, Operates, Guards, Settles, Lowers}
+use Rattle.pas_trace.specs.Asked.{request_in}
+use Rattle.pas_trace.specs.EveryPlan.{asked_after}
+use Rattle.pas_trace.specs.Reasons.{cost_of_size}
+use Rattle.pas_trace.specs.declared.item.Request.{Request}
+use Rattle.pas_trace.specs.declared.plan.Op.{Op}
+use Rattle.pas_answers.specs.Answers.{Named, Progress, Caches, settled, after_settling}
+use Rattle.pas_answers.specs.Calls.{Tells, MayStand, AreKnown, what_of, named_with}
+use Rattle.pas_answers.specs.Fit.{AreFit, AreOfThreads, cost_of_what, costs_of, own_costs_of, kept_cost_of, kept_costs_of}
+use Rattle.pas_answers.specs.Guarding.{Tried, IsTried, after_trying, after_giving}
+use Rattle.pas_answers.specs.Indexes.{request_by, with_noted, after_operation, after_tried, after_guarded, TriedIsNamedBy, GuardedIsNamedBy, AllAreNamedBy}
+use Rattle.pas_answers.specs.Keeping.{owed_by_keeper, cost_of_try}
+use Rattle.pas_answers.specs.Reaching.{AnswersTried, AnswersGuarded}
+use Rattle.pas_answers.specs.Rests.{AreAtRest}
+use Rattle.pas_answers.specs.declared.names.Names.{Names}
+use Rattle.pas_answers.proofs.KnownNames.{known_more}
+use Rattle.pas_answers.proofs.SingleActs.{its_cache, other_cache, if_same}
+use Rattle.pas_plans.specs.Tries.{tries_of, AreKeptFor}
+use Rattle.pas_acts.specs.Keepers.{keeper_has, LaterKept, and_try, KeeperAt, KeeperTries, KeeperLowers}
+use Rattle.pas_acts.specs.Works.{Sits}
+use Rattle.pas_acts.specs.Turns.{Moves}
+use Rattle.pas_acts.proofs.AtDesk.{sits_for, settled_rest}
+use Rattle.pas_acts.proofs.Keeping.{other_book}
+use Rattle.pas_replay.specs.declared.seats.Guarded.{Guarded}
+use Rattle.pas_replay.specs.Sessions.{Slots, IsTaken, TakesSeat, task_of, asked_by, Session, session, SoFarAt, HasTried, rests_as, rests, owes_as, owes, own_events, ActorStands, records_owed_as, owed_of, owed_by, AreCaches, Replay, Hand, HasNames, IsAt, GoesBy, HasNamed}
+use Rattle.pas_replay.proofs.Going.{all_rest, rest_first, rest_one, goes_both}
+use Rattle.pas_replay.proofs.Threads.{OthersKept, there_is, set_caches, book_is, place_is, set_books, set_places, still_places, owed_moves, owed_at, keeper_owes}
+use Rattle.pas_replay.proofs.Turning.{hand, SitsAs, MovesAs, sits_now, turn, kept_by_moves, either_less, less_events, less_tries}
+
+-- for how much there is room besides, when keeper k has its turn: for what the acts that are left ask of it, what the others owe, and what all of them cost
+abbrev pub later_kept : Replay → ℕ → Progress → List Act → LaterKept
+later_kept r k p more = record {
+  events = kept_costs_of k more;
+  records = (owed_by r.threads r.profile p (r.threads + r.keepers) - owed_of r.threads r.profile p k) + costs_of r.profile more;
+  guards = tries_of k more;
+}
+
+-- .. and for so much more
+abbrev and_kept : ℕ → ℕ → ℕ → LaterKept → LaterKept
+and_kept events records guards later = record { events = events + later.events; records = records + later.records; guards = guards + later.guards }
+
+-- ---- the keeper of the thread at place i sits at the desk
+-- where the acts cost it so much, and all records so many, and it tries so many requests among them
+keeper_now : {r : Replay} {acts : List Act} {desk0 desk : PlainDesk} {passes0 passes : Slots} {caches : List ThreadCache} {books : List GuardBook} {places : ℕ} {indexes : Indexes} {table : Names} {out : Records} {p : Progress} (k i : ℕ) (there : GuardBook) (events records guards : ℕ) (more : List Act)
+    → k ≡ r.threads + i → 1 ≤ i → i ≤ length books → TakesSeat desk0 desk passes0 passes k → there ≡ get_or books (i - 1) there → kept_costs_of k acts ≡ events + kept_costs_of k more → costs_of r.profile acts ≡ records + costs_of r.profile more → tries_of k acts ≡ guards + tries_of k more
+    → IsAt r acts (hand desk0 passes0 caches books places indexes table out) p → KeeperAt r.profile k (keeper_has (standing_of desk) there out) (and_kept events records guards (later_kept r k p more)) p
+keeper_now zero i there events records guards more place some most seat is own all tried at = absurd (omega (arith, place, some))
+keeper_now {r} {acts} {desk0} {desk} {passes0} {passes} {caches} {books} {places} {indexes} {table} {out} {p} (suc j) i there events records guards more place some most seat is own all tried at =
+    let f = r.profile in
+    let k = suc j in
+    let v = part k p.list in
+    let kept = at.kept in
+    let within : k ≤ r.threads + r.keepers = omega (arith, place, most, kept) in
+    let past : r.threads < k = omega (arith, place, some) in
+    let sits = subst (λ (kind : Bool). SitsAs kind r k desk acts p) (lt-leb k r.threads past) (sits_now k within seat at) in
+    let book : p.books k ≡ guards_in there = ap p.books place ∙ book_is r.threads p.books books i there some most at.books_are is in
+    let least = owed_at r.threads f p k (r.threads + r.keepers) (omega (arith, past)) within in
+    let mine = keeper_owes r.threads f p k past ∙ ap (λ (gs : List Guard). owed_by_keeper f gs v) book in
+    let spare = at.spare in
+    let room = place_is r.threads books acts i there some most at.books_have is in
+    let tries = ap (λ (m : ℕ). tries_of m acts) place in
+    record {
+      sits = subst (λ (gs : List Guard). Sits f k (FitsBook f gs) (standing_of desk) v (unknown_pages f v + (events + kept_costs_of k more))) book (sits_for sits (omega (arith, own)));
+      book = book;
+      spare = omega (arith, least, mine, spare, all);
+      places = omega (arith, room, tries, tried);
+    }
+
+-- .. where its last sweep comes next, which costs nothing
+pub keeper_closes : {r : Replay} {more : List Act} {desk0 desk : PlainDesk} {passes0 passes : Slots} {caches : List ThreadCache} {books : List GuardBook} {places : ℕ} {indexes : Indexes} {table : Names} {out : Records} {p : Progress} (k i : ℕ) (there : GuardBook) → k ≡ r.threads + i → 1 ≤ i → i ≤ length books → TakesSeat desk0 desk passes0 passes k
+    → there ≡ get_or books (i - 1) there → IsAt r (Lowers k ∷ more) (hand desk0 passes0 caches books places indexes table out) p → KeeperAt r.profile k (keeper_has (standing_of desk) there out) (later_kept r k p more) p
+keeper_closes {r} {more} {p = p} k i there place some most seat is at =
+    let now = keeper_now k i there 0 0 0 more place some most seat is (omega arith) (omega arith) (omega arith) at in
+    let spare = now.spare in
+    let places = now.places in
+    record { sits = sits_for now.sits (omega arith); book = now.book; spare = omega (arith, spare); places = omega (arith, places) }
+
+-- ---- its turn
+-- what it came to: where it sits, its book, and its room
+pub record KeeperTurned (r : Replay) (k : ℕ) (acts more : List Act) (there book : GuardBook) (desk desk' : PlainDesk) (p q : Progress) : Type 0 where
+  pub moves : Moves k (FitsBook r.profile (guards_in there)) (FitsBook r.profile (guards_in book)) (standing_of desk) (standing_of desk') p q
+  pub sits : Sits r.profile k (FitsBook r.profile (guards_in book)) (standing_of desk') (part k q.list) (unknown_pages r.profile (part k q.list) + kept_costs_of k more)
+  pub book_is : q.books k ≡ guards_in book
+  pub place : length (guards_in book) + tries_of k more ≤ size_of_book book
+  pub caches : q.caches ≡ p.caches
+  pub books : (j : ℕ) → j ≢ k → q.books j ≡ p.books j
+  pub free : (j : ℕ) → own_events r.threads r.profile j more ≤ own_events r.threads r.profile j acts
+  pub tries : (j : ℕ) → tries_of j more ≤ tries_of j acts
+
+module _ {r : Replay} {acts more : List Act} {desk0 desk desk' : PlainDesk} {passes0 passes : Slots} {caches : List ThreadCache} {books : List GuardBook} {places : ℕ} {indexes : Indexes} {table : Names} {out : Records} {p q : Progress} (k i : ℕ) (there book : GuardBook) (place : k ≡ r.threads + i) (some : 1 ≤ i) (most : i ≤ length books)
+    (seat : TakesSeat desk0 desk passes0 passes k) (is : there ≡ get_or books (i - 1) there) (at : IsAt r acts (hand desk0 passes0 caches books places indexes table out) p) (x : KeeperTurned r k acts more there book desk desk' p q) where
+  past : r.threads < k
+  past = omega (arith, place, some)
+
+  pub within : k ≤ r.threads + r.keepers
+  within = let kept = at.kept in omega (arith, place, most, kept)
+
+  was : p.books k ≡ guards_in there
+  was = ap p.books place ∙ book_is r.threads p.books books i there some most at.books_are is
+
+  pub kept_so : OthersKept k p q
+  kept_so = kept_by_moves x.moves (λ j ne. ap (λ (cs : Caches). cs j) x.caches) x.books
+
+  pub keeper_was : owed_of r.threads r.profile p k ≡ owed_by_keeper r.profile (guards_in there) (part k p.list)
+  keeper_was = keeper_owes r.threads r.profile p k past ∙ ap (λ (gs : List Guard). owed_by_keeper r.profile gs (part k p.list)) was
+
+  -- what is owed then, and what it owed itself
+  pub owed_then : owed_by r.threads r.profile q (r.threads + r.keepers) + owed_by_keeper r.profile (guards_in there) (part k p.list) ≡ owed_by r.threads r.profile p (r.threads + r.keepers) + owed_by_keeper r.profile (guards_in book) (part k q.list)
+  owed_then =
+      let change = owed_moves r.threads r.profile p q k kept_so (r.threads + r.keepers) (omega (arith, past)) within in
+      let old = keeper_was in
+      let new = keeper_owes r.threads r.profile q k past ∙ ap (λ (gs : List Guard). owed_by_keeper r.profile gs (part k q.list)) x.book_is in
+      omega (arith, change, old, new)
+
+  -- .. and no more than all owed before
+  pub owed_least : owed_by_keeper r.profile (guards_in there) (part k p.list) ≤ owed_by r.threads r.profile p (r.threads + r.keepers)
+  owed_least =
+      let least = owed_at r.threads r.profile p k (r.threads + r.keepers) (omega (arith, past)) within in
+      let old = keeper_was in
+      omega (arith, least, old)
+
+  pub moves_so : MovesAs (nat_le k r.threads) r k desk desk' p q
+  moves_so =
+      let kind : false ≡ nat_le k r.threads = sym (lt-leb k r.threads past) in
+      subst (λ (b : Bool). MovesAs b r k desk desk' p q) kind
+      (subst (λ (gs : List Guard). Moves k (FitsBook r.profile (p.books k)) (FitsBook r.profile gs) (standing_of desk) (standing_of desk') p q) (sym x.book_is)
+      (subst (λ (gs : List Guard). Moves k (FitsBook r.profile gs) (FitsBook r.profile (guards_in book)) (standing_of desk) (standing_of desk') p q) (sym was) x.moves))
+
+  pub sits_so : SitsAs (nat_le k r.threads) r k desk' more q
+  sits_so =
+      let kind : false ≡ nat_le k r.threads = sym (lt-leb k r.threads past) in
+      subst (λ (b : Bool). SitsAs b r k desk' more q) kind
+      (subst (λ (gs : List Guard). Sits r.profile k (FitsBook r.profile gs) (standing_of desk') (part k q.list) (unknown_pages r.profile (part k q.list) + kept_costs_of k more)) (sym x.book_is) x.sits)
+
+-- the keeper had its turn, after which `more` acts are left
+keeper_turn : {r : Replay} {acts more : List Act} {desk0 desk desk' : PlainDesk} {passes0 passes : Slots} {caches : List ThreadCache} {books : List GuardBook} {places : ℕ} {indexes indexes' : Indexes} {table table' : Names} {out out' : Records} {p q : Progress} (k i : ℕ) (there book : GuardBook) → k ≡ r.threads + i → 1 ≤ i → i ≤ length books
+    → TakesSeat desk0 desk passes0 passes k → there ≡ get_or books (i - 1) there → IsAt r acts (hand desk0 passes0 caches books places indexes table out) p → KeeperTurned r k acts more there book desk desk' p q
+    → ((s : Progress) → GoesBy r.threads r.profile indexes' more q s → GoesBy r.threads r.profile indexes acts p s) → HasNames r.profile more table' q.names → AreOfThreads r.threads more → AreKeptFor r.threads r.keepers more → records_in out' ≡ q.records
+    → length (records_in out') + (owed_by r.threads r.profile q (r.threads + r.keepers) + costs_of r.profile more) ≤ room_of out' → IsTaken desk' passes × IsAt r more (hand desk' passes caches (set books (i - 1) book) places indexes' table' out') q
+keeper_turn zero i there book place some most seat is at x reaches names operate keep written spare = absurd (omega (arith, place, some))
+keeper_turn {r} {acts} {more} {caches = caches} {books} {p = p} {q} (suc j) i there book place some most seat is at x reaches names operate keep written spare =
+    let f = r.profile in
+    let k = suc j in
+    turn k (within k i there book place some most seat is at x) seat at record {
+      reaches = reaches;
+      moves = moves_so k i there book place some most seat is at x;
+      sits = sits_so k i there book place some most seat is at x;
+      kept = kept_so k i there book place some most seat is at x;
+      free = λ m ne. x.free m;
+    }
+    record {
+      many = at.many;
+      kept = length-set books (i - 1) book ∙ at.kept;
+      operate = operate;
+      keep = keep;
+      room = at.places;
+      names = names;
+      caches_are = subst (λ (cs : Caches). AreCaches cs caches) (sym x.caches) at.caches_are;
+      books_are = set_books r.threads books i book some most (ap q.books (sym place) ∙ x.book_is) (λ m ne. x.books m (λ e. ne (e ∙ place))) at.books_are;
+      books_have = set_places r.threads books i book acts more some most (subst (λ (m : ℕ). length (guards_in book) + tries_of m more ≤ size_of_book book) place x.place) x.tries at.books_have;
+      records_are = written;
+      spare = spare;
+    }
+
+-- ---- it lowers all its guards, as the replay closes
+pub lower_turn : {r : Replay} {more : List Act} {desk0 desk desk' : PlainDesk} {passes0 passes : Slots} {caches : List ThreadCache} {books : List GuardBook} {places : ℕ} {indexes : Indexes} {table : Names} {out out' : Records} {p : Progress} (k i : ℕ) (there book : GuardBook) → k ≡ r.threads + i → 1 ≤ i → i ≤ length books → TakesSeat desk0 desk passes0 passes k
+    → there ≡ get_or books (i - 1) there → IsAt r (Lowers k ∷ more) (hand desk0 passes0 caches books places indexes table out) p
+    → (did : KeeperLowers r.profile k (keeper_has (standing_of desk) there out) (keeper_has (standing_of desk') book out') (later_kept r k p more) p) → IsTaken desk' passes × IsAt r more (hand desk' passes caches (set books (i - 1) book) places indexes table out') did.reached
+lower_turn {r} {more} {desk0} {desk} {desk'} {indexes = indexes} {table} {out} {out'} {p} k i there book place some most seat is at did =
+    let f = r.profile in
+    let q = did.reached in
+    let names = at.names in
+    let turned : KeeperTurned r k (Lowers k ∷ more) more there book desk desk' p q = record {
+      moves = subst (λ (gs : List Guard). Moves k (FitsBook f (guards_in there)) (FitsBook f gs) (standing_of desk) (standing_of desk') p q) (sym did.none) did.moves;
+      sits = did.stands.sits;
+      book_is = did.stands.book;
+      place = did.stands.places;
+      caches = did.caches;
+      books = did.books;
+      free = less_events r.threads f (Lowers k ∷ []) more;
+      tries = less_tries (Lowers k ∷ []) more;
+    } in
+    let then_owed = owed_then k i there book place some most seat is at turned in
+    let least = owed_least k i there book place some most seat is at turned in
+    let mine = keeper_was k i there book place some most seat is at turned in
+    let spare = did.stands.spare in
+    keeper_turn k i there book place some most seat is at turned (λ s rest. goes_both r.threads f indexes (Lowers k ∷ []) more p q s did.reaches (tt, tt) (rest_one r.threads f (Lowers k) p q did.reaches (all_rest at) (rest_first r.threads f more q s rest.0.0 rest.1)) rest)
+    (subst (λ (ns : List Named). HasNames f more table ns) (sym did.names) record { asked = names.asked; fit = names.fit; tells = names.tells; stand = names.stand; known = names.known }) at.operate.1 at.keep.1
+    (did.pushed ∙ ap (λ (rs : List Record). rs ++ did.said) at.records_are ∙ sym did.records_are) (omega (arith, then_owed, least, mine, spare))
+
+-- ---- it tries a guarded request
+-- where its keeper gave no block, its thread answers it from there on as any request
+left_to_thread : (threads : ℕ) (f : Profile) (keeper : ℕ) (op : Op) (request : Request) (p : Progress) (indexes : Indexes) (more : List Act) (t : Tried) → AreAtRest threads f p.caches p.books p.list → IsTried f keeper request (part keeper p.list) (p.books keeper) t → request_in op.what ≡ Some request → t.block ≡ None
+    → (s : Progress) → GoesBy threads f indexes (Operates op ∷ more) (after_trying p keeper t) s → GoesBy threads f indexes (Guards keeper op ∷ more) p s
+left_to_thread threads f keeper op request p indexes more t before tried asks none s ((is, named), rested) =
+    let midway = after_trying p keeper t in
+    let next = is.0 in
+    let cut = after_operation f (request_by p.names op.what) indexes in
+    let one : (a : AnswersTried f op request t.block midway next) × TriedIsNamedBy f indexes op request t.block midway next a × (after_tried f op request t.block midway next a indexes ≡ cut) =
+    subst (λ (b : Option Block). (a : AnswersTried f op request b midway next) × TriedIsNamedBy f indexes op request b midway next a × (after_tried f op request b midway next a indexes ≡ cut)) (sym none) (is.1, named.0, refl) in
+    let all : (a : AnswersGuarded f keeper op (request_in op.what) p next) × GuardedIsNamedBy f indexes keeper op (request_in op.what) p next a × (after_guarded f keeper op (request_in op.what) p next a indexes ≡ cut) =
+    subst (λ (o : Option Request). (a : AnswersGuarded f keeper op o p next) × GuardedIsNamedBy f indexes keeper op o p next a × (after_guarded f keeper op o p next a indexes ≡ cut)) (sym asks) ((t, tried, one.0), one.1, one.2) in
+    (((next, all.0, is.2), (all.1, subst (λ (ix : Indexes). AllAreNamedBy f ix more next s is.2) (sym all.2) named.1)), (before, rested.1))
+
+-- .. and where it gave one, its name stands for the block
+done_by_keeper : (threads : ℕ) (f : Profile) (keeper : ℕ) (op : Op) (request : Request) (p : Progress) (block : Block) (indexes : Indexes) (more : List Act) (t : Tried) → AreAtRest threads f p.caches p.books p.list → IsTried f keeper request (part keeper p.list) (p.books keeper) t → request_in op.what ≡ Some request → t.block ≡ Some block
+    → (s : Progress) → GoesBy threads f indexes more (after_giving (after_trying p keeper t) request.name block) s → GoesBy threads f indexes (Guards keeper op ∷ more) p s
+done_by_keeper threads f keeper op request p block indexes more t before tried asks gave s ((is, named), rested) =
+    let midway = after_trying p keeper t in
+    let next = after_giving midway request.name block in
+    let one : (a : AnswersTried f op request t.block midway next) × TriedIsNamedBy f indexes op request t.block midway next a × (after_tried f op request t.block midway next a indexes ≡ indexes) =
+    subst (λ (b : Option Block). (a : AnswersTried f op request b midway next) × TriedIsNamedBy f indexes op request b midway next a × (after_tried f op request b midway next a indexes ≡ indexes)) (sym gave) (refl, tt, refl) in
+    let all : (a : AnswersGuarded f keeper op (request_in op.what) p next) × GuardedIsNamedBy f indexes keeper op (request_in op.what) p next a × (after_guarded f keeper op (request_in op.what) p next a indexes ≡ indexes) =
+    subst (λ (o : Option Request). (a : AnswersGuarded f keeper op o p next) × GuardedIsNamedBy f indexes keeper op o p next a × (after_guarded f keeper op o p next a indexes ≡ indexes)) (sym asks) ((t, tried, one.0), one.1, one.2) in
+    (((next, all.0, is), (all.1, subst (λ (ix : Indexes). AllAreNamedBy f ix more next s is) (sym all.2) named)), (before, rested))
+
+-- what it costs is the same where its thread answers it
+thread_events : (threads : ℕ) (f : Profile) (keeper : ℕ) (op : Op) (more : List Act) (j : ℕ) → own_events threads f j (Operates op ∷ more) ≤ own_events threads f j (Guards keeper op ∷ more)
+thread_events threads f keeper op more zero = omega arith
+thread_events threads f keeper op more (suc i) =
+    either_less (nat_le (suc i) threads) (own_costs_of (suc i) (Operates op ∷ more)) (kept_costs_of (suc i) (Operates op ∷ more)) (own_costs_of (suc i) (Guards keeper op ∷ more)) (kept_costs_of (suc i) (Guards keeper op ∷ more)) (omega arith) (omega arith)
+
+-- the operation asks for this, is of the thread at place i, and keeper k tries it
+pub record AsksKeeper (k i : ℕ) (op : Op) (request : Request) : Type 0 where
+  pub request_is : request_in op.what ≡ Some request
+  pub cost : cost_of_what op.what ≡ cost_of_size request.size + 2
+  pub actor : op.actor ≡ i
+
+pub asks_keeper : {op : Op} (request : Guarded) (i : ℕ) → op.actor ≡ i → op.what ≡ what_of (task_of request) → AsksKeeper request.keeper i op (asked_by request)
+asks_keeper request i mine is = record { request_is = ap request_in is; cost = ap cost_of_what is; actor = mine }
+
+-- it is the one of the keepers that has the thread's place
+pub its_place : {r : Replay} {more : List Act} {op : Op} {h : Hand} {p : Progress} (k i : ℕ) → op.actor ≡ i → IsAt r (Guards k op ∷ more) h p → (k ≡ r.threads + i) × (1 ≤ i) × (i ≤ length h.books)
+its_place k i mine at =
+    let keeper = at.keep.0.0 in
+    let within = at.keep.0.1 in
+    let kept = at.kept in
+    let some = at.names.fit.2.0 in
+    (omega (arith, keeper, mine), omega (arith, mine, some), omega (arith, mine, within, kept))
+
+-- what it came to, by whether it gave a block
+pub has_tried_by : (op : Op) (k : ℕ) (before after : Session) (result : Option Block)
+    → (result ≡ None → (r : Replay) (more : List Act) → SoFarAt r (Guards k op ∷ (Settles op.actor ∷ more)) before → SoFarAt r (Operates op ∷ (Settles op.actor ∷ more)) after)
+    → ((block : Block) → result ≡ Some block → (r : Replay) (more : List Act) (table : Names) → HasNamed op (Some block) before.table table → SoFarAt r (Guards k op ∷ (Settles op.actor ∷ more)) before → SoFarAt r (Settles op.actor ∷ more) (session after.desk after.actors table after.out))
+    → HasTried op k result before after
+has_tried_by op k before after None left gave = left refl
+has_tried_by op k before after (Some block) left gave = gave block refl
+
+-- before it does
+pub keeper_may : {r : Replay} {more : List Act} {op : Op} {request : Request} {desk0 desk : PlainDesk} {passes0 passes : Slots} {caches : List ThreadCache} {books : List GuardBook} {places : ℕ} {indexes : Indexes} {table : Names} {out : Records} {p : Progress} (k i : ℕ) (there : GuardBook) → AsksKeeper k i op request → k ≡ r.threads + i → 1 ≤ i
+    → i ≤ length books → TakesSeat desk0 desk passes0 passes k → there ≡ get_or books (i - 1) there → IsAt r (Guards k op ∷ more) (hand desk0 passes0 caches books places indexes table out) p
+    → KeeperAt r.profile k (keeper_has (standing_of desk) there out) (and_try request.size (later_kept r k p more)) p
+keeper_may {r} {more} {op} {request} {p = p} k i there asks place some most seat is at =
+    let cost = asks.cost in
+    let own = if_same (k == k) (kept_cost_of (request_in op.what)) (eq-eqb k k refl) ∙ ap kept_cost_of asks.request_is in
+    let one = if_same (k == k) 1 (eq-eqb k k refl) in
+    keeper_now k i there (cost_of_size request.size) (cost_of_size request.size + 2) 1 more place some most seat is (omega (arith, own)) (omega (arith, cost)) (omega (arith, one)) at
+
+-- where it gave no block
+pub left_turn : {r : Replay} {more : List Act} {op : Op} {request : Request} {desk0 desk desk' : PlainDesk} {passes0 passes : Slots} {caches : List ThreadCache} {books : List GuardBook} {places : ℕ} {indexes : Indexes} {table : Names} {out out' : Records} {p : Progress} {result : Option Block} (k i : ℕ) (there book : GuardBook) → result ≡ None → AsksKeeper k i op request → k ≡ r.threads + i
+    → 1 ≤ i → i ≤ length books → TakesSeat desk0 desk passes0 passes k → there ≡ get_or books (i - 1) there → IsAt r (Guards k op ∷ more) (hand desk0 passes0 caches books places indexes table out) p
+    → (did : KeeperTries r.profile k request result (keeper_has (standing_of desk) there out) (keeper_has (standing_of desk') book out') (later_kept r k p more) p)
+    → IsTaken desk' passes × IsAt r (Operates op ∷ more) (hand desk' passes caches (set books (i - 1) book) places indexes table out') (after_trying p k did.tried)
+left_turn {r} {more} {op} {request} {desk0} {desk} {desk'} {indexes = indexes} {table} {out} {out'} {p} {result} k i there book none asks place some most seat is at did =
+    let f = r.profile in
+    let q = after_trying p k did.tried in
+    let names = at.names in
+    let room = did.stands.places in
+    let turned : KeeperTurned r k (Guards k op ∷ more) (Operates op ∷ more) there book desk desk' p q = record {
+      moves = did.moves;
+      sits = sits_for did.stands.sits (omega arith);
+      book_is = did.stands.book;
+      place = omega (arith, room);
+      caches = refl;
+      books = λ j ne. other_book p.books k j did.tried.guards ne;
+      free = thread_events r.threads f k op more;
+      tries = λ j. omega arith;
+    } in
+    let change = owed_then k i there book place some most seat is at turned in
+    let paid = did.paid in
+    let cost = ap (λ (b : Option Block). cost_of_try request.size b) none in
+    let longer = ap (λ (rs : List Record). length rs) did.pushed ∙ length-append (records_in out) did.tried.records in
+    let same = did.room in
+    let spare = at.spare in
+    keeper_turn k i there book place some most seat is at turned (λ s rest. left_to_thread r.threads f k op request p indexes more did.tried (all_rest at) did.is asks.request_is (did.block_is ∙ none) s rest)
+    (record { asked = names.asked; fit = (names.fit.2, names.fit.3, names.fit.4); tells = names.tells; stand = names.stand; known = names.known }) at.operate (tt, at.keep.1)
+    (did.pushed ∙ ap (λ (rs : List Record). rs ++ did.tried.records) at.records_are) (omega (arith, change, paid, cost, longer, same, spare))
+
+-- where it gave this block, once the table has it
+pub gave_turn : {r : Replay} {more : List Act} {op : Op} {request : Request} {desk0 desk desk' : PlainDesk} {passes0 passes : Slots} {caches : List ThreadCache} {books : List GuardBook} {places : ℕ} {indexes : Indexes} {table : Names} {out out' : Records} {p : Progress} {result : Option Block} {block : Block} (k i : ℕ) (there book : GuardBook) (table' : Names)
+    → result ≡ Some block → AsksKeeper k i op request → k ≡ r.threads + i → 1 ≤ i → i ≤ length books → TakesSeat desk0 desk passes0 passes k → there ≡ get_or books (i - 1) there → IsAt r (Guards k op ∷ more) (hand desk0 passes0 caches books places indexes table out) p
+    → (did : KeeperTries r.profile k request result (keeper_has (standing_of desk) there out) (keeper_has (standing_of desk') book out') (later_kept r k p more) p) → HasNamed op (Some block) table table'
+    → IsTaken desk' passes × IsAt r more (hand desk' passes caches (set books (i - 1) book) places indexes table' out') (after_giving (after_trying p k did.tried) request.name block)
+gave_turn {r} {more} {op} {request} {desk0} {desk} {desk'} {indexes = indexes} {table} {out} {out'} {p} {result} {block} k i there book table' gave asks place some most seat is at did named =
+    let f = r.profile in
+    let midway = after_trying p k did.tried in
+    let q = after_giving midway request.name block in
+    let names = at.names in
+    let turned : KeeperTurned r k (Guards k op ∷ more) more there book desk desk' p q = record {
+      moves = record { steps = did.moves.steps; list_is = did.moves.list_is; calls = did.moves.calls };
+      sits = did.stands.sits;
+      book_is = did.stands.book;
+      place = did.stands.places;
+      caches = refl;
+      books = λ j ne. other_book p.books k j did.tried.guards ne;
+      free = less_events r.threads f (Guards k op ∷ []) more;
+      tries = less_tries (Guards k op ∷ []) more;
+    } in
+    let change = owed_then k i there book place some most seat is at turned in
+    let least = owed_least k i there book place some most seat is at turned in
+    let mine = keeper_was k i there book place some most seat is at turned in
+    let spare = did.stands.spare in
+    keeper_turn k i there book place some most seat is at turned (λ s rest. done_by_keeper r.threads f k op request p block indexes more did.tried (all_rest at) did.is asks.request_is (did.block_is ∙ gave) s rest)
+    (record {
+      asked = asked_after op.what names.asked;
+      fit = subst (λ (limit : ℕ). AreFit f limit (asked_after op.what names.asked) more) (sym named.held) names.fit.4;
+      tells = subst (λ (o : Option Request). Tells table' (named_with o (Some block) ++ p.names)) asks.request_is (named.tells p.names names.tells);
+      stand = named.stand f names.stand (subst (λ (b : Option Block). MayStand f b) gave did.given);
+      known = subst (λ (o : Option Request). AreKnown (asked_after op.what names.asked) (named_with o (Some block) ++ p.names)) asks.request_is (known_more op.what (Some block) names.asked p.names names.known);
+    }) at.operate.1 at.keep.1
+    (did.pushed ∙ ap (λ (rs : List Record). rs ++ did.tried.records) at.records_are) (omega (arith, change, least, mine, spare))
+
+-- ---- what is left then: the runs that its thread's cache noted are handed on, whoever sits at the desk
+settled_as : (f : Profile) (kind : Bool) (c : Cached) (guards : List Guard) (v : View) → rests_as kind f c guards v → rests_as kind f (settled c) guards v
+settled_as f true c guards v rest = settled_rest v refl rest
+settled_as f false c guards v rest = rest
+
+owes_settled : (f : Profile) (kind : Bool) (c : Cached) (v : View) → owes_as kind f (settled c) v ≡ owes_as kind f c v
+owes_settled f true c v = refl
+owes_settled f false c v = refl
+
+owed_settled : (f : Profile) (kind : Bool) (c : Cached) (guards : List Guard) (v : View) → records_owed_as kind f (settled c) guards v ≡ records_owed_as kind f c guards v
+owed_settled f true c guards v = refl
+owed_settled f false c guards v = refl
+
+module _ (threads : ℕ) (f : Profile) (p : Progress) (k : ℕ) where
+  abbrev then : Progress
+  then = after_settling p k
+
+  rests_then : (j : ℕ) (v : View) → rests threads f p j v → rests threads f then j v
+  rests_then zero v rest = rest
+  rests_then (suc i) v rest =
+      let kind = nat_le (suc i) threads in
+      elim (cases_eq (suc i) k) [
+        | inl same ↦ subst (λ (c : Cached). rests_as kind f c (p.books (suc i)) v) (sym (ap (λ (j : ℕ). then.caches j) same ∙ its_cache p.caches k (settled (p.caches k)) ∙ ap (λ (j : ℕ). settled (p.caches j)) (sym same))) (settled_as f kind (p.caches (suc i)) (p.books (suc i)) v rest)
+        | inr other ↦ subst (λ (c : Cached). rests_as kind f c (p.books (suc i)) v) (sym (other_cache p.caches k (suc i) (settled (p.caches k)) other)) rest
+      ]
+
+  -- what is the same of a settled cache is the same of each
+  same_of : {A : Type 0} (of : ℕ → Cached → A) → ((c : Cached) (j : ℕ) → of j (settled c) ≡ of j c) → (j : ℕ) → of j (then.caches j) ≡ of j (p.caches j)
+  same_of of same j = elim (cases_eq j k) [
+    | inl here ↦ ap (of j) (ap (λ (i : ℕ). then.caches i) here ∙ its_cache p.caches k (settled (p.caches k)) ∙ ap (λ (i : ℕ). settled (p.caches i)) (sym here)) ∙ same (p.caches j) j
+    | inr other ↦ ap (of j) (other_cache p.caches k j (settled (p.caches k)) other)
+  ]
+
+  owes_then : (j : ℕ) (v : View) → owes threads f then j v ≡ owes threads f p j v
+  owes_then zero v = refl
+  owes_then (suc i) v = same_of (λ j c. owes_as (nat_le (suc i) threads) f c v) (λ c j. owes_settled f (nat_le (suc i) threads) c v) (suc i)
+
+  pub owed_then_by : (n : ℕ) → owed_by threads f then n ≡ owed_by threads f p n
+  owed_then_by zero = refl
+  owed_then_by (suc n) =
+      let this = same_of (λ j c. records_owed_as (nat_le (suc n) threads) f c (p.books (suc n)) (part (suc n) p.list)) (λ c j. owed_settled f (nat_le (suc n) threads) c (p.books (suc n)) (part (suc n) p.list)) (suc n) in
+      let rest = owed_then_by n in
+      omega (arith, this, rest)
+
+  pub stands_then : {j : ℕ} {slot : Option PlainPass} (more : List Act) → ActorStands threads f j p slot (Settles k ∷ more) → ActorStands threads f j then slot more
+  stands_then {j} more st =
+      let room = st.room in
+      let owed = owes_then j (part j p.list) in
+      let free = less_events threads f (Settles k ∷ []) more j in
+      record { pass = st.pass; present = st.present; actor = st.actor; stands = st.stands; rest = rests_then j (part j p.list) st.rest; room = omega (arith, room, owed, free) }
+
+pub settle_turn : {r : Replay} {more : List Act} {h : Hand} {p : Progress} (k : ℕ) (there cache : ThreadCache) → 1 ≤ k → k ≤ length h.caches → there ≡ get_or h.caches (k - 1) there → cached cache ≡ settled (cached there) → IsAt r (Settles k ∷ more) h p
+    → IsAt r more (record h { caches = set h.caches (k - 1) cache; indexes = with_noted h.indexes (cached there).noted }) (after_settling p k)
+settle_turn {r} {more} {h} {p} k there cache some most is now at =
+    let f = r.profile in
+    let q = after_settling p k in
+    let names = at.names in
+    let was = there_is p.caches h.caches k there some most at.caches_are is in
+    let owed = owed_then_by r.threads f p k (r.threads + r.keepers) in
+    let spare = at.spare in
+    record {
+      profile_is = at.profile_is;
+      actors = at.actors;
+      many = length-set h.caches (k - 1) cache ∙ at.many;
+      kept = at.kept;
+      threads = at.threads;
+      operate = at.operate.1;
+      keep = at.keep.1;
+      places = at.places;
+      stands = at.stands;
+      each = λ j le. stands_then r.threads f p k more (at.each j le);
+      nobody = at.nobody;
+      names = record { asked = names.asked; fit = names.fit; tells = names.tells; stand = names.stand; known = names.known };
+      caches_are = set_caches h.caches k cache some most (its_cache p.caches k (settled (p.caches k)) ∙ ap settled was ∙ sym now) (λ j ne. other_cache p.caches k j (settled (p.caches k)) ne) at.caches_are;
+      books_are = at.books_are;
+      books_have = still_places r.threads h.books (Settles k ∷ more) more (less_tries (Settles k ∷ []) more) at.books_have;
+      records_are = at.records_are;
+      spare = omega (arith, spare, owed);
+      answers = λ s rest.
+          let left = subst (λ (runs : List EndedRun). GoesBy r.threads f (with_noted h.indexes runs) more q s) (ap (λ (c : Cached). c.noted) (sym was)) rest in
+          at.answers s (((q, refl, left.0.0), (tt, left.0.1)), (all_rest at, left.1));
+    }

@@ -1,0 +1,52 @@
+use Rattle.std.proofs.Common.{◌≡◌, ◌∙◌, ◌+◌, ◌-◌, set, ap, arith}
+use Rattle.pas_replay.proofs.ActsInOrder.{next_keeper, no_keeper}
+use Rattle.pas_replay.proofs.Threads.{lowered_next}
+use Rattle.pas_replay.proofs.order.lower_all.Goals as goal
+
+pub lower-requires-clause-thread : goal.lower-requires-clause-thread
+lower-requires-clause-thread c =
+    let test = c.loop-index-test.true in
+    let so0 = c.requires.so_far in
+    let kept = so0.3.1.1.kept in
+    let now = (c.loop-index.invariant.far so0.0 so0.1 so0.2 so0.3).1.1.kept in
+    omega (arith, test, kept, now)
+
+pub lower-requires-clause-so_far : goal.lower-requires-clause-so_far
+lower-requires-clause-so_far c =
+    let test = c.loop-index-test.true in
+    let so0 = c.requires.so_far in
+    let kept = so0.3.1.1.kept in
+    let many = so0.3.1.1.many in
+    (so0.0, (so0.1, _, next_keeper c.loop-index.index so0.2 _ (omega (arith, many)) (omega (arith, test, kept)) (c.loop-index.invariant.far so0.0 so0.1 so0.2 so0.3)))
+
+pub loop-index-preserved : goal.loop-index-preserved
+loop-index-preserved c =
+    let test = c.loop-index-test.true in
+    let i = c.loop-index.index in
+    let now = c.loop-index.actors.books.items in
+    let ended = c.lower.ensures.book in
+    let so0 = c.requires.so_far in
+    let was = so0.3.1.1.kept in
+    let far = (c.loop-index.invariant.far so0.0 so0.1 so0.2 so0.3).1.1.kept in
+    record {
+      far = λ table r more so.
+          let kept = so.1.1.kept in
+          let many = so.1.1.many in
+          c.lower.ensures.so_far table r _ (next_keeper i more _ (omega (arith, many)) (omega (arith, test, kept)) (c.loop-index.invariant.far table r more so));
+      caches = c.lower.ensures.caches ∙ c.loop-index.invariant.caches;
+      lowered = lowered_next now c.lower.new.actors.books.items i ended.0 (ended.1 ∙ ap (λ j. set now j ended.0) (let at : i + 1 - 1 ≡ i = omega arith in at)) (omega (arith, test, was, far)) c.loop-index.invariant.lowered ended.2;
+    }
+
+pub returns-clause-so_far : goal.returns-clause-so_far
+returns-clause-so_far c table r more so =
+    let test = c.loop-index-test.false in
+    let kept = so.1.1.kept in
+    no_keeper c.loop-index.index more (omega (arith, test, kept)) (c.loop-index.invariant.far table r more so)
+
+pub returns-clause-lowered : goal.returns-clause-lowered
+returns-clause-lowered c i d less =
+    let test = c.loop-index-test.false in
+    let so0 = c.requires.so_far in
+    let was = so0.3.1.1.kept in
+    let now = (c.loop-index.invariant.far so0.0 so0.1 so0.2 so0.3).1.1.kept in
+    c.loop-index.invariant.lowered i d (omega (arith, less, test, was, now))

@@ -1,0 +1,25 @@
+use Rattle.std.proofs.Common.{◌∙◌, ap}
+use Rattle.pas_trace.specs.Asked.{keeper_of}
+use Rattle.pas_answers.specs.Calls.{what_of}
+use Rattle.pas_replay.proofs.ActsInOrder.{as_first}
+use Rattle.pas_replay.proofs.ByActors.{kept_as}
+use Rattle.pas_replay.proofs.order.own.Goals as goal
+
+pub guard-requires-clause-so_far : goal.guard-requires-clause-so_far
+guard-requires-clause-so_far g c =
+    let so0 = c.requires.so_far in
+    let is = c.in-Some.ensures in
+    (so0.0, so0.1, so0.2 ∙ ap what_of is, (so0.3.0, so0.3.1, as_first so0.3.1 (kept_as so0.0 (ap keeper_of is)) so0.3.2))
+
+pub operate-requires-clause-so_far : goal.operate-requires-clause-so_far
+operate-requires-clause-so_far g c =
+    let so0 = c.requires.so_far in
+    (so0.0, so0.1, so0.2, (so0.3.0, so0.3.1, as_first so0.3.1 (kept_as so0.0 c.in-None.ensures) so0.3.2))
+
+pub returns-in-Some-clause-so_far : goal.returns-in-Some-clause-so_far
+returns-in-Some-clause-so_far g c op mine asks r more so =
+    let is = c.in-Some.ensures in
+    c.guard.ensures.so_far op mine (asks ∙ ap what_of is) r more (as_first more (kept_as op (ap keeper_of is)) so)
+
+pub returns-in-None-clause-so_far : goal.returns-in-None-clause-so_far
+returns-in-None-clause-so_far g c op mine asks r more so = c.operate.ensures.so_far op mine asks r more (as_first more (kept_as op c.in-None.ensures) so)

@@ -1,0 +1,153 @@
+-- WHAT STAYS IN THE TEXT: what changes no index and no guard.
+use Rattle.std.proofs.Common.{◌≡◌, ℕ, ◌+◌, ◌*◌, ◌%◌, ◌/◌, ◌==◌, nat_le, nat_lt, Bool, true, false, ◌&&◌, if◌then◌else◌, List, [], ◌∷◌, length, Option, None, Some, Result, Ok, Err, refl, ap, ◌∙◌}
+use Rattle.pas_profile.specs.Blocks.{address_of}
+use Rattle.pas_profile.specs.Requests.{class_home, is_shared}
+use Rattle.pas_profile.specs.declared.directory.Directory.{Directory}
+use Rattle.pas_profile.specs.declared.event.Event.{Event}
+use Rattle.pas_profile.specs.declared.event.FreeFault.{FreeFault}
+use Rattle.pas_profile.specs.declared.event.NoRoom.{NoRoom}
+use Rattle.pas_profile.specs.declared.event.Outcome.{Outcome}
+use Rattle.pas_profile.specs.declared.event.Why.{Why}
+use Rattle.pas_profile.specs.declared.name.Block.{Block}
+use Rattle.pas_profile.specs.declared.name.Name.{Name}
+use Rattle.pas_profile.specs.declared.profile.Profile.{Profile}
+use Rattle.pas_machine.specs.State.{backed_in}
+use Rattle.pas_large_index.specs.declared.span.Span.{Span}
+use Rattle.pas_free_log.specs.Logs.{sized_entry}
+use Rattle.pas_free_log.specs.declared.log.Entry.{Entry}
+use Rattle.pas_report.specs.declared.record.Record.{Record}
+use Rattle.pas_report.specs.declared.record.Said.{Said}
+use Rattle.pas_trace.specs.Acts.{numbers_from}
+use Rattle.pas_one_text.specs.State.{World, Guard, Local, each, shows, says, block_at, locals_of, log_of, set_log, set_locals}
+use Rattle.pas_one_text.specs.Pages.{page_numbers, is_empty, is_unowned, is_hinted, hints, minds}
+use Rattle.pas_one_text.specs.Searches.{some_of, searched, deeds, backs, readies}
+use Rattle.pas_one_text.specs.Indexes.{notes}
+use Rattle.pas_one_text.specs.Classes.{slots_for, gives_up, gives_up_first, gives_first, local_on, takes_page, fetches, makes_place, serves_class_by, others}
+use Rattle.pas_one_text.specs.Runs.{bitfit_of, large_of, lowest_place, gives_place, places, serves_run}
+use Rattle.pas_one_text.specs.Frees.{pages_of, reason, is_other_room, ends_block, rejects, ends_if, takes_effect, ends, flushes, stops, logs, refuses_free, frees, frees_what}
+use Rattle.pas_one_text.specs.Passes.{outcome_of, comes_to, examines, passes}
+use Rattle.std.specs.List.{filter}
+
+-- ---- what stays
+-- the indexes, and the guards that are up
+abbrev pub Still : Type 0
+Still = List (List Span) × List Guard
+
+abbrev pub still : World → Still
+still w = (w.indexes, w.guards)
+
+pub same_indexes : (w v : World) → still v ≡ still w → v.indexes ≡ w.indexes
+same_indexes w v is = ap (λ (s : Still). s.0) is
+
+pub same_guards : (w v : World) → still v ≡ still w → v.guards ≡ w.guards
+same_guards w v is = ap (λ (s : Still). s.1) is
+
+either : (t : Bool) (v u : World) (value : Still) → still v ≡ value → still u ≡ value → still (if t then v else u) ≡ value
+either true v u value one other = one
+either false v u value one other = other
+
+pub each_keeps : {A : Type 0} (does : A → World → World) (xs : List A) → ((x : A) (w : World) → still (does x w) ≡ still w) → (w : World) → still (each does xs w) ≡ still w
+each_keeps does [] keeps w = refl
+each_keeps does (x ∷ xs) keeps w = each_keeps does xs keeps (does x w) ∙ keeps x w
+
+-- hints
+hints_keep : (page : ℕ) (w : World) → still (hints page w) ≡ still w
+hints_keep page w = either (is_hinted w page) w (record w { hinted = page ∷ w.hinted }) (still w) refl refl
+
+pub minds_keep : (page : ℕ) (w : World) → still (minds page w) ≡ still w
+minds_keep page w = either (backed_in w.events page && is_empty w page) (hints page w) w (still w) (hints_keep page w) refl
+
+-- frees that take effect
+block_keeps : (f : Profile) (k : ℕ) (name : Name) (b : Block) (w : World) → still (ends_block f k name b w) ≡ still w
+block_keeps f k name b w = each_keeps minds (pages_of f b) minds_keep (notes k b (shows (Event.End k name w.epoch) w))
+
+effect_keeps : (f : Profile) (k : ℕ) (entry : Entry) (lives : Option Block) (w : World) → still (takes_effect f k entry lives w) ≡ still w
+effect_keeps f k entry (Some b) w = either (b.name.turn == entry.name.turn) (ends_if f k entry b w) (rejects k entry.name (reason w entry.name) w) (still w)
+    (either (is_other_room entry b) (rejects k entry.name (Why.SizeDiffers entry.room) w) (ends_block f k entry.name b w) (still w) refl (block_keeps f k entry.name b w)) refl
+effect_keeps f k entry None w = refl
+
+pub ends_keep : (f : Profile) (k : ℕ) (entry : Entry) (w : World) → still (ends f k entry w) ≡ still w
+ends_keep f k entry w = effect_keeps f k entry (block_at w (address_of entry.name)) w
+
+pub flushes_keep : (f : Profile) (k : ℕ) (w : World) → still (flushes f k w) ≡ still w
+flushes_keep f k w = each_keeps (ends f k) (log_of w k) (ends_keep f k) (set_log k [] w)
+
+-- stops
+pub given_up_keeps : (k : ℕ) (l : Local) (w : World) → still (gives_up k l w) ≡ still w
+given_up_keeps k l w = minds_keep l.page (set_locals k (others l.heap l.class (locals_of w k)) w)
+
+pub stops_keep : (f : Profile) (k : ℕ) (w : World) → still (stops f k w) ≡ still w
+stops_keep f k w = each_keeps (gives_up k) (locals_of (flushes f k w) k) (given_up_keeps k) (flushes f k w) ∙ flushes_keep f k w
+
+pub idle_keeps : (f : Profile) (t : Bool) (k : ℕ) (w : World) → still (if t then says (Record.Said 0 (Said.Stopped k)) (stops f k w) else w) ≡ still w
+idle_keeps f t k w = either t (says (Record.Said 0 (Said.Stopped k)) (stops f k w)) w (still w) (stops_keep f k w) refl
+
+-- frees
+pub logs_keep : (f : Profile) (k : ℕ) (entry : Entry) (w : World) → still (logs f k entry w) ≡ still w
+logs_keep f k entry w = either (nat_le 64 (length (log_of w k))) (flushes f k w) w (still w) (flushes_keep f k w) refl
+
+pub frees_keep : (f : Profile) (k : ℕ) (entry : Entry) (w : World) → still (frees f k entry w) ≡ still w
+frees_keep f k entry w = either (nat_le 4096 (address_of entry.name) && nat_lt (address_of entry.name) (4096 * (f.pages + 1)))
+    (if address_of entry.name % 16 == 0 then logs f k entry w else refuses_free k entry.name FreeFault.Unaligned w) (refuses_free k entry.name FreeFault.Outside w) (still w)
+    (either (address_of entry.name % 16 == 0) (logs f k entry w) (refuses_free k entry.name FreeFault.Unaligned w) (still w) (logs_keep f k entry w) refl) refl
+
+pub what_keeps : (f : Profile) (k name room : ℕ) (meant : Option (Option Block)) (w : World) → still (frees_what f k name room meant w) ≡ still w
+what_keeps f k name room (Some (Some block)) w = frees_keep f k (sized_entry block.name room) w
+what_keeps f k name room (Some None) w = refl
+what_keeps f k name room None w = refl
+
+-- ---- requests
+pub deeds_keep : (k : ℕ) (d : Directory) (page : ℕ) (w : World) → still (deeds k d page w) ≡ still w
+deeds_keep k d page w = either (is_unowned w page) (shows (Event.Deed k page d) w) w (still w) refl refl
+
+pub backs_keep : (k page : ℕ) (w : World) → still (backs k page w) ≡ still w
+backs_keep k page w = either (backed_in w.events page) w (shows (Event.Back k page) w) (still w) refl refl
+
+pub readies_keep : (k : ℕ) (d : Directory) (page : ℕ) (w : World) → still (readies k d page w) ≡ still w
+readies_keep k d page w = backs_keep k page (deeds k d page w) ∙ deeds_keep k d page w
+
+pub first_keeps : (k name : ℕ) (l : Local) (slots : List ℕ) (w : World) → still (gives_first k name l slots w) ≡ still w
+first_keeps k name l [] w = refl
+first_keeps k name l (s ∷ rest) w = refl
+
+page_keeps : (f : Profile) (k name heap class : ℕ) (found : Result ℕ NoRoom) (w : World) → still (takes_page f k name heap class found w) ≡ still w
+page_keeps f k name heap class (Ok page) w =
+    first_keeps k name (local_on f w heap class page) (slots_for (is_shared f heap) w class page) (readies k (class_home f heap class) page w) ∙ readies_keep k (class_home f heap class) page w
+page_keeps f k name heap class (Err why) w = refl
+
+fetches_keep : (f : Profile) (k name heap class : ℕ) (w : World) → still (fetches f k name heap class w) ≡ still w
+fetches_keep f k name heap class w = page_keeps f k name heap class (searched f w (class_home f heap class) (slots_for (is_shared f heap) w class)) w
+
+first_up_keeps : (k : ℕ) (ls : List Local) (w : World) → still (gives_up_first k ls w) ≡ still w
+first_up_keeps k [] w = refl
+first_up_keeps k (l ∷ ls) w = either (nat_le 32 (length (l ∷ ls))) (gives_up k l w) w (still w) (given_up_keeps k l w) refl
+
+pub class_keeps : (f : Profile) (k name heap class : ℕ) (own : Option Local) (w : World) → still (serves_class_by f k name heap class own w) ≡ still w
+class_keeps f k name heap class None w = fetches_keep f k name heap class (makes_place k w) ∙ first_up_keeps k (locals_of w k) w
+class_keeps f k name heap class (Some l) w =
+    either (some_of l.slots) (gives_first k name l l.slots w) (fetches f k name heap class (gives_up k l w)) (still w) (first_keeps k name l l.slots w) (fetches_keep f k name heap class (gives_up k l w) ∙ given_up_keeps k l w)
+
+pub place_keeps : (k name heap room page : ℕ) (slots : List ℕ) (w : World) → still (gives_place k name heap room page slots w) ≡ still w
+place_keeps k name heap room page [] w = refl
+place_keeps k name heap room page (s ∷ more) w = refl
+
+pub places_keep : (k name heap room align : ℕ) (found : Result ℕ NoRoom) (w : World) → still (places k name heap room align found w) ≡ still w
+places_keep k name heap room align (Ok page) w =
+    place_keeps k name heap room page (lowest_place w (room / 16) (align / 16) page) (readies k (bitfit_of heap) page w) ∙ readies_keep k (bitfit_of heap) page w
+places_keep k name heap room align (Err why) w = refl
+
+pub run_keeps : (f : Profile) (k name heap n : ℕ) (found : Option ℕ) (w : World) → still (serves_run f k name heap n found w) ≡ still w
+run_keeps f k name heap n (Some first) w =
+    each_keeps (backs k) (numbers_from first n) (backs_keep k) (each (deeds k (large_of heap)) (numbers_from first n) w) ∙ each_keeps (deeds k (large_of heap)) (numbers_from first n) (deeds_keep k (large_of heap)) w
+run_keeps f k name heap n None w = refl
+
+-- ---- a pass
+outcome_keeps : (page : ℕ) (outcome : Outcome) (w : World) → still (comes_to page outcome w) ≡ still w
+outcome_keeps page (Outcome.InUse word value) w = refl
+outcome_keeps page Outcome.Bare w = refl
+outcome_keeps page Outcome.Unbacked w = refl
+outcome_keeps page Outcome.NotOffered w = refl
+outcome_keeps page (Outcome.Young stamp) w = refl
+
+pub pass_keeps : (f : Profile) (w : World) → still (passes f w) ≡ still w
+pass_keeps f w = each_keeps (examines f) (filter (is_hinted w) (page_numbers f)) (λ page v. outcome_keeps page (outcome_of f v page) v) (says (Record.Said 0 (Said.Pass w.epoch)) w)

@@ -1,0 +1,147 @@
+-- The keeper of a worker over a phase: it waits for the guarded requests of the phase, and then for those of the phases after it.
+use Rattle.std.proofs.Common.{◌≡◌, ℕ, suc, ◌+◌, ◌<◌, ◌≤◌, inl, inr, List, [], ◌++◌, length, get_or, Option, Some, None, refl, ap, sym, ◌∙◌, subst, arith}
+use Rattle.pas_profile.specs.declared.profile.Profile.{Profile}
+use Rattle.pas_steps.specs.Lists.{part}
+use Rattle.pas_report.specs.declared.record.Record.{Record}
+use Rattle.pas_shared.specs.declared.region.SharedRegion.{SharedRegion}
+use Rattle.pas_trace.specs.Acts.{Act, own_acts}
+use Rattle.pas_trace.specs.declared.plan.Op.{Op}
+use Rattle.pas_answers.specs.Answers.{Progress}
+use Rattle.pas_answers.specs.Ways.{records_by}
+use Rattle.pas_shares.specs.Shares.{owner_in}
+use Rattle.pas_shares.proofs.PhaseActs.{own_thread, kept_thread, owner_of}
+use Rattle.pas_acts.specs.Keepers.{Keeping, NoKeeper, OneKeeper, LaterKept}
+use Rattle.pas_acts.specs.Pairs.{for_guards, KeeperWaits, KeptPushed, KeptStill}
+use Rattle.pas_threads.specs.Pairs.{kept_by_worker, IsSilent, no_more, KeeperRests, said_by_keeper, owed_kept, AreGuarded}
+use Rattle.pas_threads.specs.Performing.{Round, ThreadDone}
+use Rattle.pas_threads.specs.Taken.{IsEmptied}
+use Rattle.pas_threads.specs.Turns.{HasSaid, IsGathered, IsKeptGathered}
+use Rattle.pas_threads.specs.declared.keeper.Keeper.{Keeper}
+use Rattle.pas_threads.specs.declared.workers.Worker.{Worker}
+use Rattle.pas_threads.proofs.Keepers.{own_acts_both, waits_front, WillWait, will_wait, will_wait_then, waits_next, waits_still, waits_gathered, of_gathered, silent_gathered, owed_gathered}
+
+-- ---- whose hands a keeper is in
+pub kept_hands : (threads : ℕ) (ops : List Op) (i : ℕ) → suc i ≤ threads → owner_in threads ops (threads + suc i) ≡ owner_in threads ops (suc i)
+kept_hands threads ops i most = owner_of threads ops (threads + suc i) (suc i) (kept_thread threads (suc i) (omega arith)) ∙ sym (owner_of threads ops (suc i) (suc i) (own_thread threads (suc i) most))
+
+-- ---- there is a keeper still, or there is none
+abbrev pub AreAlike : Option Keeper → Option Keeper → Type 0
+AreAlike None None = Unit {0}
+AreAlike None (Some new) = ⊥
+AreAlike (Some old) None = ⊥
+AreAlike (Some old) (Some new) = Unit {0}
+
+alike_itself : (o : Option Keeper) → AreAlike o o
+alike_itself None = tt
+alike_itself (Some keeper) = tt
+
+pub alike_pushed : (k : ℕ) (said : List Record) (old new : Option Keeper) → KeptPushed k said (kept_by_worker old) (kept_by_worker new) → AreAlike old new
+alike_pushed k said None None pushed = tt
+alike_pushed k said None (Some new) pushed = pushed
+alike_pushed k said (Some old) None pushed = pushed
+alike_pushed k said (Some old) (Some new) pushed = tt
+
+pub alike_said : (old new : Option Keeper) → HasSaid old new → AreAlike old new
+alike_said None None said = tt
+alike_said None (Some new) said = said
+alike_said (Some old) None said = said
+alike_said (Some old) (Some new) said = tt
+
+pub alike_same : (old new : Option Keeper) → new ≡ old → AreAlike old new
+alike_same old new same = subst (λ (o : Option Keeper). AreAlike old o) (sym same) (alike_itself old)
+
+pub alike_both : (a b c : Option Keeper) → AreAlike a b → AreAlike b c → AreAlike a c
+alike_both None None None one two = tt
+alike_both None None (Some c) one two = two
+alike_both None (Some b) c one two = absurd one
+alike_both (Some a) None c one two = absurd one
+alike_both (Some a) (Some b) None one two = two
+alike_both (Some a) (Some b) (Some c) one two = tt
+
+has_alike : (old new : Option Keeper) → AreAlike old new → (keeper : Keeper) × (old ≡ Some keeper) → (keeper : Keeper) × (new ≡ Some keeper)
+has_alike None new alike has = absurd (let bad : None ≡ Some has.0 = has.1 in cc)
+has_alike (Some old) None alike has = absurd alike
+has_alike (Some old) (Some new) alike has = (new, refl)
+
+none_alike : (old new : Option Keeper) → AreAlike old new → old ≡ None → new ≡ None
+none_alike None None alike none = refl
+none_alike None (Some new) alike none = absurd alike
+none_alike (Some old) new alike none = absurd (let bad : Some old ≡ None = none in cc)
+
+pub guarded_alike : {keepers : ℕ} (old new : List Worker) → length new ≡ length old → ((i : ℕ) (d : Worker) → i < length old → AreAlike (get_or old i d).keeper (get_or new i d).keeper) → AreGuarded keepers old → AreGuarded keepers new
+guarded_alike old new many alike (inl all) = inl (all.0 ∙ sym many, λ i d lt. let here : i < length old = omega (arith, lt, many) in has_alike (get_or old i d).keeper (get_or new i d).keeper (alike i d here) (all.1 i d here))
+guarded_alike old new many alike (inr none) = inr (none.0, λ i d lt. let here : i < length old = omega (arith, lt, many) in none_alike (get_or old i d).keeper (get_or new i d).keeper (alike i d here) (none.1 i d here))
+
+-- ---- what it said in all
+pub said_then : (k : ℕ) (said : List Record) (old new : Option Keeper) → KeptPushed k said (kept_by_worker old) (kept_by_worker new) → IsSilent old → said_by_keeper new ≡ records_by k said
+said_then k said None None pushed silent = sym pushed
+said_then k said None (Some new) pushed silent = absurd pushed
+said_then k said (Some old) None pushed silent = absurd pushed
+said_then k said (Some old) (Some new) pushed silent = pushed.0 ∙ ap (λ (rs : List Record). rs ++ records_by k said) silent
+
+will_gathered : (k : ℕ) (ys : List Act) (old new : Option Keeper) → HasSaid old new → WillWait k ys (kept_by_worker old) → WillWait k ys (kept_by_worker new)
+will_gathered k ys None None said will = will
+will_gathered k ys None (Some new) said will = absurd said
+will_gathered k ys (Some old) None said will = absurd said
+will_gathered k ys (Some old) (Some new) said will = will
+
+-- ---- before the phase: it waits for the requests of the phase, with room for the others
+pub kept_waits : {region : SharedRegion} {f : Profile} {keeper : ℕ} (k : ℕ) (ops left : List Op) (o : Option Keeper) {p : Progress} → KeeperRests region f keeper (own_acts k (ops ++ left)) o p
+    → KeeperWaits f keeper (own_acts k ops) (kept_by_worker o) (for_guards (own_acts k left) no_more) p
+kept_waits {f = f} {keeper} k ops left o {p} rests =
+    waits_front f keeper (own_acts k ops) (own_acts k left) (kept_by_worker o) no_more p (subst (λ (acts : List Act). KeeperWaits f keeper acts (kept_by_worker o) no_more p) (own_acts_both k ops left) rests.waits)
+
+kept_will : {region : SharedRegion} {f : Profile} {keeper : ℕ} (k : ℕ) (ops left : List Op) (o : Option Keeper) {p : Progress} → KeeperRests region f keeper (own_acts k (ops ++ left)) o p → WillWait keeper (own_acts k left) (kept_by_worker o)
+kept_will {f = f} {keeper} k ops left o {p} rests =
+    will_wait f keeper (own_acts k ops) (own_acts k left) (kept_by_worker o) no_more p (subst (λ (acts : List Act). KeeperWaits f keeper acts (kept_by_worker o) no_more p) (own_acts_both k ops left) rests.waits)
+
+-- .. at another progress at which it has the same in hand
+pub kept_still : {region : SharedRegion} {f : Profile} {keeper : ℕ} {acts : List Act} {old new : Option Keeper} {p q : Progress} → new ≡ old → part keeper q.list ≡ part keeper p.list → q.books keeper ≡ p.books keeper
+    → KeeperRests region f keeper acts old p → KeeperRests region f keeper acts new q
+kept_still {region} {f} {keeper} {acts} {old} {new} {p} {q} same parts books rests = subst (λ (o : Option Keeper). KeeperRests region f keeper acts o q) (sym same) record {
+  of = rests.of;
+  waits = waits_still f keeper acts (kept_by_worker old) no_more p q parts books rests.waits;
+  silent = rests.silent;
+}
+
+-- ---- after the phase
+module _ {region : SharedRegion} {r : Round} {k : ℕ} {old new : Worker} {said : List Record} {own : Progress} (left : List Op) (reached : Progress) (rests : KeeperRests region r.profile (r.threads + k) (own_acts k (r.ops ++ left)) old.keeper r.start)
+    (done : ThreadDone region r k old new said own) (parts : part (r.threads + k) own.list ≡ part (r.threads + k) reached.list) (books : own.books (r.threads + k) ≡ reached.books (r.threads + k))
+    (more : r.more k ≡ for_guards (own_acts k left) no_more) where
+  abbrev keeper : ℕ
+  keeper = r.threads + k
+
+  pub kept_said : said_by_keeper new.keeper ≡ records_by keeper said
+  kept_said = said_then keeper said old.keeper new.keeper done.kept_told rests.silent
+
+  -- once what it said is gathered it waits for the requests of the phases that are left
+  module _ {gathered kept emptied : Worker} (g : IsGathered new gathered) (h : IsKeptGathered gathered kept) (e : IsEmptied kept emptied) where
+    abbrev last : HasSaid new.keeper emptied.keeper
+    last = subst (λ (o : Option Keeper). HasSaid new.keeper o) (sym e.keeper) (subst (λ (o : Option Keeper). HasSaid o kept.keeper) g.keeper h.keeper)
+
+    pub kept_rests : KeeperRests region r.profile keeper (own_acts k left) emptied.keeper reached
+    kept_rests = record {
+      of = of_gathered region new.keeper emptied.keeper last done.of;
+      waits = waits_next r.profile keeper (own_acts k left) (kept_by_worker emptied.keeper) no_more reached
+          (will_gathered keeper (own_acts k left) new.keeper emptied.keeper last (will_wait_then keeper said (own_acts k left) (kept_by_worker old.keeper) (kept_by_worker new.keeper) done.kept_told (kept_will k r.ops left old.keeper rests)))
+          (subst (λ (l : LaterKept). KeeperWaits r.profile keeper [] (kept_by_worker emptied.keeper) l reached) more
+          (waits_gathered r.profile keeper [] (r.more k) reached new.keeper emptied.keeper last (waits_still r.profile keeper [] (kept_by_worker new.keeper) (r.more k) own reached (sym parts) (sym books) done.waits)));
+      silent = silent_gathered new.keeper emptied.keeper last;
+    }
+
+    pub kept_alike : AreAlike old.keeper emptied.keeper
+    kept_alike = alike_both old.keeper new.keeper emptied.keeper (alike_pushed keeper said old.keeper new.keeper done.kept_told) (alike_said new.keeper emptied.keeper last)
+
+    pub kept_owes : owed_kept r.profile keeper emptied.keeper reached ≡ owed_kept r.profile keeper new.keeper reached
+    kept_owes = owed_gathered r.profile keeper new.keeper emptied.keeper reached last
+
+pushed_nothing : (k : ℕ) (said : List Record) (new : Keeping) → KeptPushed k said NoKeeper new → records_by k said ≡ []
+pushed_nothing k said NoKeeper pushed = pushed
+pushed_nothing k said (OneKeeper new) pushed = absurd pushed
+
+-- where there is no keeper, that actor took no part
+pub kept_nobody : {region : SharedRegion} {r : Round} {k : ℕ} {old new : Worker} {said : List Record} {own : Progress} → ThreadDone region r k old new said own → old.keeper ≡ None → (part (r.threads + k) own.list ≡ part (r.threads + k) r.start.list) × (records_by (r.threads + k) said ≡ [])
+kept_nobody {r = r} {k} {old} {new} {said} {own} done none = (
+  subst (λ (o : Option Keeper). KeptStill (r.threads + k) (kept_by_worker o) r.start own) none done.still,
+  pushed_nothing (r.threads + k) said (kept_by_worker new.keeper) (subst (λ (o : Option Keeper). KeptPushed (r.threads + k) said (kept_by_worker o) (kept_by_worker new.keeper)) none done.kept_told),
+)

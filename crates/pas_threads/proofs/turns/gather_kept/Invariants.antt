@@ -1,0 +1,12 @@
+-- what the workers before this place said for their keepers is gathered
+use Rattle.std.proofs.Common.{◌≡◌}
+use Rattle.pas_report.specs.Rooms.{records_in, room_of}
+use Rattle.pas_threads.specs.Turns.{said_kept, IsKeptGathered}
+use Rattle.pas_threads.proofs.TakingTurns.{AreGathered}
+use Rattle.pas_threads.proofs.turns.gather_kept.Given as goal
+
+abbrev pub invariant-loop-place : goal.invariant-loop-place
+invariant-loop-place l = record {
+  far : AreGathered said_kept IsKeptGathered l.place l.fn.threads l.threads (records_in l.fn.out) (records_in l.out);
+  room : room_of l.out ≡ room_of l.fn.out;
+}

@@ -1,0 +1,30 @@
+use Rattle.std.proofs.Common.{◌≡◌, ◌∙◌, Option, Some, None, refl, ap, sym, subst}
+use Rattle.std.proofs.lemmas.Option.{same_Some}
+use Rattle.pas_threads.specs.Pairs.{no_more, KeeperStands, KeeperLowered}
+use Rattle.pas_threads.specs.Kits.{with_keeper}
+use Rattle.pas_threads.specs.declared.keeper.Keeper.{Keeper}
+use Rattle.pas_threads.proofs.Keepers.{stands_for}
+use Rattle.pas_threads.proofs.turns.lower_one.Goals as goal
+
+pub lower-requires : goal.lower-requires
+lower-requires c =
+    let r = c.requires.stands in
+    record { stands = (r.0, r.1, no_more, r.2, stands_for c.args.worker.now.keeper c.in-Some.keeper (sym c.in-Some.ensures.value) r.3 r.4) }
+
+pub returns-in-Some-clause-none : goal.returns-in-Some-clause-none
+returns-in-Some-clause-none c none = absurd (let bad : Some c.in-Some.keeper ≡ None = c.in-Some.ensures.value ∙ none in cc)
+
+pub returns-in-Some-clause-one : goal.returns-in-Some-clause-one
+returns-in-Some-clause-one c keeper is =
+    let same = same_Some keeper c.in-Some.keeper (sym is ∙ sym c.in-Some.ensures.value) in (
+      c.lower.result,
+      refl,
+      λ f actor later p at. subst (λ (k : Keeper). KeeperLowered c.args.region.now f actor k c.lower.result later p) (sym same)
+          (c.lower.ensures.lowered f actor later p (subst (λ (k : Keeper). KeeperStands c.args.region.now f actor k later p) same at)),
+    )
+
+pub returns-in-None-clause-one : goal.returns-in-None-clause-one
+returns-in-None-clause-one c keeper is = absurd (let bad : None ≡ Some keeper = c.in-None.ensures.value ∙ is in cc)
+
+pub returns-in-None-clause-none : goal.returns-in-None-clause-none
+returns-in-None-clause-none c none = ap (λ (o : Option Keeper). with_keeper c.args.worker.now o) (c.take.ensures.after ∙ sym none)

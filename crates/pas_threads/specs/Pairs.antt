@@ -1,0 +1,188 @@
+-- A worker with two actors: a thread, and in a guarded replay its keeper, which is the actor that stands as far behind all threads as the thread stands among
+-- them.
+use Rattle.std.specs.Prelude.{ℕ, zero, suc, map, ◌≢◌, ◌+◌, ◌<◌, ◌≤◌, ◌≡◌, ◌⊎◌, List, [], ◌∷◌, ◌++◌, length, Option, None, Some, get_or}
+use Rattle.pas_profile.specs.declared.profile.Profile.{Profile}
+use Rattle.pas_steps.specs.Lists.{part}
+use Rattle.pas_report.specs.Rooms.{records_in}
+use Rattle.pas_report.specs.declared.record.Record.{Record}
+use Rattle.pas_guard.specs.Books.{guards_in}
+use Rattle.pas_shared.specs.Passes.{IsPassOf, standing_of}
+use Rattle.pas_shared.specs.declared.region.SharedRegion.{SharedRegion}
+use Rattle.pas_trace.specs.Acts.{Act, Lowers, numbers_from, own_acts}
+use Rattle.pas_trace.specs.declared.plan.Op.{Op}
+use Rattle.pas_answers.specs.Answers.{Progress}
+use Rattle.pas_answers.specs.Keeping.{owed_by_keeper}
+use Rattle.pas_answers.specs.Reaching.{Reaches}
+use Rattle.pas_answers.specs.Ways.{AreSpoken, records_by}
+use Rattle.pas_acts.specs.Keepers.{LaterKept, Keeping, NoKeeper, OneKeeper, KeeperAt, KeeperLowers, keeper_has}
+use Rattle.pas_acts.specs.Pairs.{KeeperWaits, KeptPushed, PairWorks}
+use Rattle.pas_acts.specs.Works.{Later}
+use Rattle.pas_acts.specs.declared.names.NameBook.{NameBook}
+use Rattle.pas_threads.specs.Hands.{standing_of_pass, kept_by, WorkerAt, Did}
+use Rattle.pas_threads.specs.declared.keeper.Keeper.{Keeper}
+use Rattle.pas_threads.specs.declared.keeper.Seated.{Seated}
+use Rattle.pas_threads.specs.declared.keeper.Beside.{Beside}
+use Rattle.pas_threads.specs.declared.workers.Worker.{Worker}
+
+-- ---- the keeper of a worker
+-- what it has in hand while it doesn't sit at the region
+abbrev pub kept_by_worker : Option Keeper → Keeping
+kept_by_worker None = NoKeeper
+kept_by_worker (Some keeper) = OneKeeper (keeper_has (standing_of_pass keeper.pass) keeper.book keeper.out)
+
+-- .. while it sits there
+abbrev pub kept_seated : Option Seated → Keeping
+kept_seated None = NoKeeper
+kept_seated (Some seated) = OneKeeper (keeper_has (standing_of seated.desk) seated.book seated.out)
+
+abbrev pub kept_beside : Beside → Keeping
+kept_beside beside = kept_seated beside.keeper
+
+-- the region at which it sits down, if there is one
+abbrev pub home_kept : SharedRegion → Option Keeper → Option SharedRegion
+home_kept region None = None
+home_kept region (Some keeper) = Some region
+
+abbrev pub home_seated : Option Seated → Option SharedRegion
+home_seated None = None
+home_seated (Some seated) = Some seated.desk.region.now
+
+abbrev pub home_beside : Beside → Option SharedRegion
+home_beside beside = home_seated beside.keeper
+
+-- it has the same in hand while it sits there
+abbrev pub SitsAs : Option Keeper → Option Seated → Type 0
+SitsAs None None = Unit {0}
+SitsAs None (Some seated) = ⊥
+SitsAs (Some keeper) None = ⊥
+SitsAs (Some keeper) (Some seated) = (seated.desk.pass ≡ keeper.pass) × (seated.book ≡ keeper.book) × (seated.out ≡ keeper.out)
+
+-- its pass is one of the region
+abbrev pub IsKeeperOf : SharedRegion → Option Keeper → Type 0
+IsKeeperOf region None = Unit {0}
+IsKeeperOf region (Some keeper) = IsPassOf region keeper.pass
+
+-- it stands where the replay came as far as p
+pub record KeeperStands (region : SharedRegion) (f : Profile) (actor : ℕ) (keeper : Keeper) (later : LaterKept) (p : Progress) : Type 0 where
+  pub of : IsPassOf region keeper.pass
+  pub at : KeeperAt f actor (keeper_has (standing_of_pass keeper.pass) keeper.book keeper.out) later p
+
+-- it lowered all its guards, and has its pass again
+pub record KeeperLowered (region : SharedRegion) (f : Profile) (actor : ℕ) (old new : Keeper) (later : LaterKept) (p : Progress) : Type 0 where
+  pub of : IsPassOf region new.pass
+  pub did : KeeperLowers f actor (keeper_has (standing_of_pass old.pass) old.book old.out) (keeper_has (standing_of_pass new.pass) new.book new.out) later p
+
+-- ---- both actors of a worker, in a phase, where so many threads are the first actors
+pub record PairStands (region : SharedRegion) (book : NameBook) (f : Profile) (threads k : ℕ) (acts : List Act) (worker : Worker) (later : Later) (more : LaterKept) (p : Progress) : Type 0 where
+  pub thread : WorkerAt region book f k acts worker later p
+  pub of : IsKeeperOf region worker.keeper
+  pub waits : KeeperWaits f (threads + k) acts (kept_by_worker worker.keeper) more p
+
+-- what a worker did with its thread and its keeper, which have their passes again
+pub record PairDid (region : SharedRegion) (book : NameBook) (f : Profile) (threads k : ℕ) (acts : List Act) (old new : Worker) (later : Later) (more : LaterKept) (p : Progress) : Type 0 where
+  pub did : Did region old.pass new.pass (λ σ σ'. PairWorks f k (threads + k) acts [] σ σ' (kept_by book old) (kept_by book new) (kept_by_worker old.keeper) (kept_by_worker new.keeper) later more p)
+  pub of : IsKeeperOf region new.keeper
+
+-- the worker's acts of its operations in a phase were done, wherever the replay stood
+pub record DidPhase (region : SharedRegion) (book : NameBook) (ops : List Op) (old new : Worker) : Type 0 where
+  pub did : (f : Profile) (threads k : ℕ) (later : Later) (more : LaterKept) (p : Progress) → 1 ≤ threads → PairStands region book f threads k (own_acts k ops) old later more p
+      → PairDid region book f threads k (own_acts k ops) old new later more p
+
+-- the operations of this worker's thread in the phase can be done
+pub record MayDoPhase (region : SharedRegion) (book : NameBook) (ops : List Op) (worker : Worker) : Type 0 where
+  pub profile : Profile
+  pub threads : ℕ
+  pub thread : ℕ
+  pub later : Later
+  pub more : LaterKept
+  pub progress : Progress
+  pub some : 1 ≤ threads
+  pub stands : PairStands region book profile threads thread (own_acts thread ops) worker later more progress
+
+-- ---- between two phases
+-- nothing that it said wasn't gathered
+abbrev pub IsSilent : Option Keeper → Type 0
+IsSilent None = Unit {0}
+IsSilent (Some keeper) = records_in keeper.out ≡ []
+
+-- room for no more
+abbrev pub no_more : LaterKept
+no_more = record { events = 0; records = 0; guards = 0 }
+
+-- A keeper rests with room for the guarded requests among these acts of its thread.
+pub record KeeperRests (region : SharedRegion) (f : Profile) (actor : ℕ) (acts : List Act) (keeper : Option Keeper) (p : Progress) : Type 0 where
+  pub of : IsKeeperOf region keeper
+  pub waits : KeeperWaits f actor acts (kept_by_worker keeper) no_more p
+  pub silent : IsSilent keeper
+
+-- what the keeper said
+abbrev pub said_by_keeper : Option Keeper → List Record
+said_by_keeper None = []
+said_by_keeper (Some keeper) = records_in keeper.out
+
+-- what the keeper of this number owes, if there is one
+abbrev pub owed_kept : Profile → ℕ → Option Keeper → Progress → ℕ
+owed_kept f actor None p = 0
+owed_kept f actor (Some keeper) p = owed_by_keeper f (guards_in keeper.book) (part actor p.list)
+
+-- .. and what those of the first n threads' workers owe, which stand behind so many threads
+abbrev pub keeper_at : List Worker → ℕ → Option Keeper
+keeper_at workers i = get_or (map (λ (worker : Worker). worker.keeper) workers) i None
+
+abbrev pub owed_by_keepers : Profile → ℕ → List Worker → Progress → ℕ → ℕ
+owed_by_keepers f threads workers p zero = 0
+owed_by_keepers f threads workers p (suc n) = owed_kept f (threads + suc n) (keeper_at workers n) p + owed_by_keepers f threads workers p n
+
+-- each of these workers has a keeper, or none has
+abbrev pub HasKeeper : Worker → Type 0
+HasKeeper worker = (keeper : Keeper) × (worker.keeper ≡ Some keeper)
+
+abbrev pub AreGuarded : ℕ → List Worker → Type 0
+AreGuarded keepers workers = ((keepers ≡ length workers) × ((i : ℕ) (d : Worker) → i < length workers → HasKeeper (get_or workers i d))) ⊎ ((keepers ≡ 0) × ((i : ℕ) (d : Worker) → i < length workers → (get_or workers i d).keeper ≡ None))
+
+-- ---- the close
+-- no guard is up
+abbrev pub IsLow : Option Keeper → Type 0
+IsLow None = Unit {0}
+IsLow (Some keeper) = guards_in keeper.book ≡ []
+
+-- nothing of the worker but its keeper changed
+pub record IsButKeeper (old new : Worker) : Type 0 where
+  pub pass : new.pass ≡ old.pass
+  pub cache : new.cache ≡ old.cache
+  pub requests : new.requests ≡ old.requests
+  pub out : new.out ≡ old.out
+
+-- The keeper of the worker of thread k stands where the replay came as far as q: it was nothing but it that made steps, and what it said of this came to the end of
+-- its records. What it owed pays for that.
+pub record KeptSo (region : SharedRegion) (f : Profile) (threads k : ℕ) (said : List Record) (old new : Worker) (p q : Progress) : Type 0 where
+  pub but : IsButKeeper old new
+  pub of : IsKeeperOf region new.keeper
+  pub waits : KeeperWaits f (threads + k) [] (kept_by_worker new.keeper) no_more q
+  pub told : KeptPushed (threads + k) said (kept_by_worker old.keeper) (kept_by_worker new.keeper)
+  pub paid : length (records_by (threads + k) said) ≤ owed_kept f (threads + k) old.keeper p
+
+-- The keepers of the workers before place i lowered all their guards, by these acts, in order. The other workers are as they were.
+pub record Lowered (region : SharedRegion) (f : Profile) (threads : ℕ) (acts : List Act) (i : ℕ) (old new : List Worker) (p : Progress) : Type 0 where
+  pub reached : Progress
+  pub reaches : Reaches f acts p reached
+  pub said : List Record
+  pub records_are : reached.records ≡ p.records ++ said
+  pub spoken : AreSpoken said
+  pub each : (j : ℕ) (d : Worker) → j < length old → KeptSo region f threads (suc j) said (get_or old j d) (get_or new j d) p reached
+  pub low : (j : ℕ) (d : Worker) → j < i → j < length old → IsLow (get_or new j d).keeper
+  pub left : (j : ℕ) (d : Worker) → i ≤ j → j < length old → get_or new j d ≡ get_or old j d
+  pub parts : (k : ℕ) → ((j : ℕ) → j < i → threads + suc j ≢ k) → part k reached.list ≡ part k p.list
+  pub books : (k : ℕ) → ((j : ℕ) → j < i → threads + suc j ≢ k) → reached.books k ≡ p.books k
+  pub silent : (k : ℕ) → ((j : ℕ) → j < i → threads + suc j ≢ k) → records_by k said ≡ []
+  pub caches : reached.caches ≡ p.caches
+  pub names : reached.names ≡ p.names
+
+-- .. all of them
+abbrev pub LoweredAll : SharedRegion → Profile → ℕ → ℕ → List Worker → List Worker → Progress → Type 0
+LoweredAll region f threads keepers old new p = Lowered region f threads (map Lowers (numbers_from (threads + 1) keepers)) (length old) old new p
+
+-- before that: each keeper stands with its pass
+pub record MayLower (region : SharedRegion) (f : Profile) (threads keepers : ℕ) (workers : List Worker) (p : Progress) : Type 0 where
+  pub guarded : AreGuarded keepers workers
+  pub each : (j : ℕ) (d : Worker) → j < length workers → IsKeeperOf region (get_or workers j d).keeper × KeeperWaits f (threads + suc j) [] (kept_by_worker (get_or workers j d).keeper) no_more p
