@@ -8,9 +8,8 @@ the tree's own code: the script copies `crates/`, changes the texts below in the
 proof. The copy counts the steps of each request for more than 2,048 bytes, from its actor's count before the call to that after it, and
 says of all of them how many they are, their pages, their steps and the most of one, in place of the events and refusals. In a region whose
 age is 1,000,000 it asks no index; so each trace is replayed twice, and its own age is changed, which passes alone ask for. A row has the
-figures of a trace's requests that were given a block; those that were refused have a row of their own, and so have what keepers did for
-guarded requests, with their sweeps, where they gave a block and where they gave none. A build takes a minute or two, and what it builds is
-some hundred times as slow as the program, for it checks each access; a trace that takes longer than ten minutes has no row.
+figures of a trace's requests that were given a block; those that were refused have a row of their own. A build takes a minute or two, and
+what it builds is some hundred times as slow as the program, for it checks each access; a trace that takes longer than ten minutes has no row.
 """
 
 import lzma
@@ -26,7 +25,8 @@ TOP = os.path.dirname(os.path.dirname(os.path.abspath(__file__)))
 # Keeps what is counted in the records themselves, where the first two lines of it are of the requests that were given a block.
 COUNTING = """
 /// Adds a request that took so many steps to what is counted: at the place of the first record of its kind, or at the end.
-pub(crate) fn count_request(out: &mut Records, kind: u32, pages: u32, steps: u64) {
+fn count_request(out: &mut Records, pages: u32, steps: u64) {
+    let kind = (pages == 0) as u32;
     for place in 0..out.as_slice().len() {
         let Record::Said(_, Said::Guarded { low, high, name }) = out.as_slice()[place] else {
             continue;
@@ -63,20 +63,10 @@ EDITS = [
                 Some(block) => block.room / 4096,
                 None => 0,
             };
-            count_request(out, (pages == 0) as u32, pages, desk.count() - steps);
+            count_request(out, pages, desk.count() - steps);
         }
     }
 """),
-    ("pas_answers/src/guarding.rt", r"    book\.sweep\(desk, false, out\);\n    let before = .*\n", """    let steps = desk.count();
-    book.sweep(desk, false, out);
-"""),
-    ("pas_answers/src/guarding.rt", r"    push_events\(desk\.shown\(\), before, out\);\n    if let Some\(block\) = block \{\n.*\n    \}\n", """    let (kind, given) = match block {
-        Some(_) => (2, pages),
-        None => (3, 0),
-    };
-    crate::answering::count_request(out, kind, given, desk.count() - steps);
-"""),
-    ("pas_guard/src/sweeping.rt", r"                lowered\.push\(Record::Said\([\s\S]*?\n                \)\);\n", "                let _ = actor;\n"),
     ("pas_replay/src/seats.rt", r"    let mut door = PlainDoor::new\(indexes\);\n    at_desk::operate\(desk, &mut door, (.*)\)\n", r"""    if desk.profile().age == 1_000_000 {
         return at_desk::operate(desk, &mut pas_large::NoIndex, \1);
     }
@@ -151,7 +141,7 @@ def main(words):
         if not all(ways):
             print(f"{name}: no answer in time, or no such request", file=sys.stderr)
             continue
-        for kind, word in ((0, ""), (1, ", refused"), (2, ", guarded"), (3, ", guarded in vain")):
+        for kind, word in ((0, ""), (1, ", refused")):
             if any(kind in way for way in ways):
                 number, pages = (ways[0].get(kind) or ways[1][kind])[:2]
                 figures = [way.get(kind, (0, 0, 0, 0)) for way in ways]
