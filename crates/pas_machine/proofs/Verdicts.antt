@@ -1,9 +1,10 @@
 -- Which events may come next, why others may not, and what a machine keeps.
-use Rattle.std.proofs.Common.{◌≡◌, ◌≢◌, ℕ, ◌+◌, ◌/◌, ◌%◌, ◌<◌, ◌≤◌, ◌⊎◌, ◌==◌, Bool, true, false, if◌then◌else◌, List, [], ◌∷◌, Option, Some, None, refl, ap, sym, ◌∙◌, subst, arith, inl, inr, ◌-◌, ◌*◌, length, get_or, replicate, set, max, get_or-set_same, get_or-set_other}
+use Rattle.std.proofs.Common.{◌≡◌, ◌≢◌, ℕ, ◌+◌, ◌/◌, ◌%◌, ◌<◌, ◌≤◌, ◌⊎◌, ◌==◌, Bool, true, false, if◌then◌else◌, List, [], ◌∷◌, Option, Some, None, refl, ap, sym, ◌∙◌, subst, arith, inl, inr, ◌-◌, ◌*◌, length, get_or, is_some, replicate, set, max, get_or-set_same, get_or-set_other}
 use Rattle.std.proofs.lemmas.Bool.{false≢true, true_from_ne_false, false_from_ne_true, ltb-true, ltb-false, eqb-true, eq-eqb, ne_eqb}
 use Rattle.std.proofs.lemmas.Bool.Decides.{eqb_tells, leb_tells, nat_tests}
 use Rattle.pas_profile.specs.declared.profile.Profile.{Profile}
 use Rattle.pas_profile.specs.declared.directory.Directory.{Directory}
+use Rattle.pas_profile.specs.declared.name.Address.{Address}
 use Rattle.pas_profile.specs.declared.name.Name.{Name}
 use Rattle.pas_profile.specs.declared.name.Block.{Block}
 use Rattle.pas_profile.specs.declared.event.Event.{Event}
@@ -22,7 +23,7 @@ use Rattle.std.proofs.Math.Logic.{∥∥₁_elim, ∥∥₁_map}
 use Rattle.std.specs.Coded.{le_prop}
 use Rattle.std.proofs.lemmas.List.{get_or_default, get_or-replicate}
 use Rattle.pas_machine.specs.Laws.{IsCounted}
-use Rattle.pas_machine.specs.Places.{Shows, IsLiveBlock, IsCovered, IsSome, IsEach, IsWhole, IsWithin, IsInside, blank_page, blank_place, block_of, page_in, place_in, grains_of, ended_at}
+use Rattle.pas_machine.specs.Places.{Shows, IsLiveBlock, IsCovered, IsSome, IsEach, IsWhole, IsWithin, IsInside, blank_page, blank_place, bare_place, block_of, block_at, page_in, place_in, place_with, grains_of, ended_at}
 use Rattle.pas_machine.specs.declared.places.Page.{Page}
 use Rattle.pas_machine.specs.declared.places.Place.{Place}
 use Rattle.pas_machine.proofs.LiveBlocks.{lives_where, live_long, all_counted, all_borne, live_apart, no_block}
@@ -235,17 +236,55 @@ place_is f pages places covered es shows g within len same sized p is =
     let low : g < length places = omega (arith, within, same, sized) in is ∙ (get_or_default places g p blank_place low ∙ shows.places_are g within)
 
 -- ---- ends
-ends_by : (o : Option Live) (gives ends : ℕ) → IsCounted o gives ends → ((b : Block) → block_of o ≡ Some b → gives - 1 ≡ ends) × (block_of o ≡ None → gives ≡ ends)
-ends_by None gives ends counted = ((λ b h. absurd (none-some _ h)), (λ h. counted))
-ends_by (Some b) gives ends counted = ((λ b' h. let more : gives ≡ ends + 1 = counted.0 in omega arith), (λ h. absurd (none-some _ (sym h))))
+ends_by : (o : Option Live) (gives ends : ℕ) → IsCounted o gives ends → (is_some o ≡ true → gives - 1 ≡ ends) × (is_some o ≡ false → gives ≡ ends)
+ends_by None gives ends counted = ((λ h. absurd (false≢true h)), (λ h. counted))
+ends_by (Some b) gives ends counted = ((λ h. let more : gives ≡ ends + 1 = counted.0 in omega arith), (λ h. absurd (false≢true (sym h))))
 
 pub ends_are : (f : Profile) (pages : List Page) (places : List Place) (covered : List Bool) (len a : ℕ) (p : Place) → len ≡ length places → len ≡ grains_of f → IsPlace f a → p ≡ get_or places (a / 16) p
-    → (es : List Event) → Shows f pages places covered es → ((b : Block) → p.block ≡ Some b → p.gives - 1 ≡ ends_in es a) × (p.block ≡ None → p.gives ≡ ends_in es a)
+    → (es : List Event) → Shows f pages places covered es → (p.lives ≡ true → p.gives - 1 ≡ ends_in es a) × (p.lives ≡ false → p.gives ≡ ends_in es a)
 ends_are f pages places covered len a p same sized place read es shows =
     let high : a / 4096 ≤ f.pages = place.0.1 in
     let is : p ≡ place_in es (a / 16) = place_is f pages places covered es shows (a / 16) (omega (arith, high)) len same sized p read in
-    let at : p ≡ record { block = block_of (live_in es a); gives = gives_in es a } = is ∙ ap (λ n. record { block = block_of (live_in es n); gives = gives_in es n }) (at_place a place.1) in
-    subst (λ (q : Place). ((b : Block) → q.block ≡ Some b → q.gives - 1 ≡ ends_in es a) × (q.block ≡ None → q.gives ≡ ends_in es a)) (sym at) (ends_by (live_in es a) (gives_in es a) (ends_in es a) (all_counted f es shows.run a))
+    let at : p ≡ place_with (live_in es a) (gives_in es a) = is ∙ ap (λ n. place_with (live_in es n) (gives_in es n)) (at_place a place.1) in
+    subst (λ (q : Place). (q.lives ≡ true → q.gives - 1 ≡ ends_in es a) × (q.lives ≡ false → q.gives ≡ ends_in es a)) (sym at) (ends_by (live_in es a) (gives_in es a) (ends_in es a) (all_counted f es shows.run a))
+
+-- ---- the block of a place
+-- A live block is what its place says: it lives at its own address, and all that were given there before it have ended.
+block_by : (o : Option Live) (address : Address) (gives ends : ℕ) → ((b : Live) → o ≡ Some b → address_of b.block.name ≡ address.0) → IsCounted o gives ends → block_at (place_with o gives) address ≡ block_of o
+block_by None address gives ends home counted = refl
+block_by (Some b) address gives ends home counted =
+    let more : gives ≡ ends + 1 = counted.0 in
+    let last : b.block.name.turn ≡ ends = counted.1 in
+    let turn : gives - 1 ≡ b.block.name.turn = omega arith in
+    ap (λ (t : ℕ). Some (let c : Block = record { name = record { address = address; turn = t }; room = b.block.room; heap = b.block.heap } in c)) turn
+    ∙ ap (λ (a : ℕ). Some (let c : Block = record { name = record { address = record { 0 = a }; turn = b.block.name.turn }; room = b.block.room; heap = b.block.heap } in c)) (sym (home b refl))
+
+pub block_is : (f : Profile) (pages : List Page) (places : List Place) (covered : List Bool) (es : List Event) → Shows f pages places covered es → (address : Address) → address.0 % 16 ≡ 0 → address.0 / 16 < grains_of f → (len : ℕ)
+    → len ≡ length places → len ≡ grains_of f → (p : Place) → p ≡ get_or places (address.0 / 16) p → block_at p address ≡ block_of (live_in es address.0)
+block_is f pages places covered es shows address aligned within len same sized p read =
+    let is : p ≡ place_in es (address.0 / 16) = place_is f pages places covered es shows (address.0 / 16) within len same sized p read in
+    let at : p ≡ place_with (live_in es address.0) (gives_in es address.0) = is ∙ ap (λ n. place_with (live_in es n) (gives_in es n)) (at_place address.0 aligned) in
+    ap (λ (q : Place). block_at q address) at ∙ block_by (live_in es address.0) address (gives_in es address.0) (ends_in es address.0) (lives_where f es shows.run address.0) (all_counted f es shows.run address.0)
+
+live_there : (o : Option Live) (block : Block) → block_of o ≡ Some block → (b : Live) × (o ≡ Some b) × (b.block ≡ block)
+live_there None block h = absurd (none-some _ h)
+live_there (Some b) block h = (b, refl, same_Some _ _ h)
+
+-- the block that was found at the place of a name
+module _ {f : Profile} {pages : List Page} {places : List Place} {covered : List Bool} {es : List Event} (shows : Shows f pages places covered es) (name : Name) (place : IsPlace f (address_of name)) (len : ℕ) (same : len ≡ length places)
+    (sized : len ≡ grains_of f) (p : Place) (read : p ≡ get_or places (grain_of name) p) (block : Block) (found : block_at p name.address ≡ Some block) where
+  pub found_there : (b : Live) × (live_in es (address_of name) ≡ Some b) × (b.block ≡ block)
+  found_there =
+      let on : address_of name / 4096 ≤ f.pages = place.0.1 in
+      live_there (live_in es (address_of name)) block (sym (block_is f pages places covered es shows name.address place.1 (omega (arith, on)) len same sized p read) ∙ found)
+
+  pub found_live : block.name.turn ≡ name.turn → IsLiveBlock es name block
+  found_live turn = (found_there.0, found_there.1, found_there.2, turn)
+
+  pub found_other : (block.name.turn ≡ name.turn → ⊥) → IsLive es name → ⊥
+  found_other differs live =
+      let is : found_there.0 ≡ live.0 = same_Some _ _ (sym found_there.1 ∙ live.1) in
+      differs (ap (λ (c : Block). c.name.turn) (sym found_there.2) ∙ (ap (λ (l : Live). l.block.name.turn) is ∙ live.2))
 
 -- ---- unbacks
 -- a live block that has a grain of the page touches it, and the other way round
@@ -518,13 +557,13 @@ give_shows : (f : Profile) (pages : List Page) (places : List Place) (covered co
     → (gives : ℕ) → gives ≡ gives_in es (address_of block.name) → grain_of block.name < length places
     → IsEach (grain_of block.name) (grain_of block.name + length_of block) (λ x. get_or covered' x false ≡ true)
     → ((y : ℕ) → y < grain_of block.name → get_or covered' y false ≡ get_or covered y false) → ((y : ℕ) → grain_of block.name + length_of block ≤ y → get_or covered' y false ≡ get_or covered y false)
-    → Shows f pages (set places (grain_of block.name) (record { block = Some block; gives = gives + 1 })) covered' (Event.Give k block ∷ es)
+    → Shows f pages (set places (grain_of block.name) (record { lives = true; heap = block.heap; room = block.room; gives = gives + 1 })) covered' (Event.Give k block ∷ es)
 give_shows f pages places covered covered' es shows k block may gives is low set' below above = record {
   run = (may, shows.run);
   pages_are = shows.pages_are;
-  places_are = place_set f places es (Event.Give k block) (address_of block.name) (record { block = Some block; gives = gives + 1 })
-      (λ g t. record { block = block_of (if t then Some record { actor = k; block = block } else live_in es (16 * g)); gives = if t then gives_in es (16 * g) + 1 else gives_in es (16 * g) }) may.aligned low shows.places_are
-      (ap (λ n. record { block = Some block; gives = n + 1 }) (is ∙ ap (gives_in es) (sym (at_place (address_of block.name) may.aligned)))) (λ g. refl) (λ g. refl);
+  places_are = place_set f places es (Event.Give k block) (address_of block.name) (record { lives = true; heap = block.heap; room = block.room; gives = gives + 1 })
+      (λ g t. place_with (if t then Some record { actor = k; block = block } else live_in es (16 * g)) (if t then gives_in es (16 * g) + 1 else gives_in es (16 * g))) may.aligned low shows.places_are
+      (ap (λ n. record { lives = true; heap = block.heap; room = block.room; gives = n + 1 }) (is ∙ ap (gives_in es) (sym (at_place (address_of block.name) may.aligned)))) (λ g. refl) (λ g. refl);
   covered_are = λ x h. by x h (in_run (grain_of block.name) (length_of block) x) refl;
 }
   where
@@ -542,7 +581,7 @@ pub give_made : (f : Profile) (pages : List Page) (places : List Place) (covered
     → len ≡ length places → len ≡ grains_of f → p ≡ get_or places first p → IsEach first (first + n) (λ x. get_or covered' x false ≡ true)
     → ((y : ℕ) → y < first → get_or covered' y false ≡ get_or covered y false) → ((y : ℕ) → first + n ≤ y → get_or covered' y false ≡ get_or covered y false)
     → ((k : ℕ) (es : List Event) → Shows f pages places covered es → IsVerdict f es (Event.Give k block) None) → (k : ℕ) (es : List Event) → Shows f pages places covered es
-    → Admits f es (Event.Give k block) × Shows f pages (set places first (record { block = Some block; gives = p.gives + 1 })) covered' (Event.Give k block ∷ es)
+    → Admits f es (Event.Give k block) × Shows f pages (set places first (record { lives = true; heap = block.heap; room = block.room; gives = p.gives + 1 })) covered' (Event.Give k block ∷ es)
 give_made f pages places covered covered' len first n block p e e' inside same sized read marked below above none k es shows =
     let may : Admits f es (Event.Give k block) = admits_of f es (Event.Give k block) (none k es shows) in
     let at = place_at f pages places covered es shows block inside len same sized p (rw e at read) in
@@ -601,14 +640,14 @@ end_shows : (f : Profile) (pages pages' : List Page) (places : List Place) (cove
     → ((y : ℕ) → y < grain_of name → get_or covered' y false ≡ get_or covered y false) → ((y : ℕ) → grain_of name + length_of block ≤ y → get_or covered' y false ≡ get_or covered y false)
     → IsEach (grain_of name / 256) ((grain_of name + length_of block + 255) / 256) (λ q. get_or pages' q blank_page ≡ ended_at epoch (get_or pages q blank_page))
     → ((q : ℕ) → q < grain_of name / 256 → get_or pages' q blank_page ≡ get_or pages q blank_page) → ((q : ℕ) → (grain_of name + length_of block + 255) / 256 ≤ q → get_or pages' q blank_page ≡ get_or pages q blank_page)
-    → Admits f es (Event.End k name epoch) × Shows f pages' (set places (grain_of name) (record p { block = None })) covered' (Event.End k name epoch ∷ es)
+    → Admits f es (Event.End k name epoch) × Shows f pages' (set places (grain_of name) (bare_place p.gives)) covered' (Event.End k name epoch ∷ es)
 end_shows f pages pages' places covered covered' es shows k name epoch place block live p is low cset cbelow cabove pset pbelow pabove = (
   may,
   record {
     run = (may, shows.run);
     pages_are = page;
-    places_are = place_set f places es (Event.End k name epoch) (address_of name) (record p { block = None }) (λ g t. record { block = block_of (if t then None else live_in es (16 * g)); gives = gives_in es (16 * g) })
-        place.1 low shows.places_are (ap (λ (q : Place). record q { block = None }) is) (λ g. refl) (λ g. refl);
+    places_are = place_set f places es (Event.End k name epoch) (address_of name) (bare_place p.gives) (λ g t. place_with (if t then None else live_in es (16 * g)) (gives_in es (16 * g)))
+        place.1 low shows.places_are (ap (λ (q : Place). bare_place q.gives) is) (λ g. refl) (λ g. refl);
     covered_are = λ x h. by x h (in_run (grain_of name) (length_of block) x) refl;
   },
 )
@@ -640,7 +679,7 @@ pub end_made : (f : Profile) (pages pages' : List Page) (places : List Place) (c
     → IsEach (first / 256) ((first + n + 255) / 256) (λ q. get_or pages' q blank_page ≡ ended_at epoch (get_or pages q blank_page))
     → ((q : ℕ) → q < first / 256 → get_or pages' q blank_page ≡ get_or pages q blank_page) → ((q : ℕ) → (first + n + 255) / 256 ≤ q → get_or pages' q blank_page ≡ get_or pages q blank_page)
     → ((es : List Event) → Shows f pages places covered es → IsLiveBlock es name block) → (k : ℕ) (es : List Event) → Shows f pages places covered es
-    → Admits f es (Event.End k name epoch) × Shows f pages' (set places first (record p { block = None })) covered' (Event.End k name epoch ∷ es)
+    → Admits f es (Event.End k name epoch) × Shows f pages' (set places first (bare_place p.gives)) covered' (Event.End k name epoch ∷ es)
 end_made f pages pages' places covered covered' len first n name epoch block p e e' place same sized read marked below above noted before after live k es shows =
     let on : address_of name / 4096 ≤ f.pages = place.0.1 in
     let at = place_is f pages places covered es shows (grain_of name) (omega (arith, on)) len same sized p (rw e at read) in

@@ -1,7 +1,8 @@
 -- What a machine keeps of the pages and addresses of its region.
-use Rattle.std.specs.Prelude.{ℕ, ◌+◌, ◌*◌, ◌%◌, ◌<◌, ◌≤◌, ◌≡◌, Bool, true, false, List, Option, None, Some, get_or, max}
+use Rattle.std.specs.Prelude.{ℕ, ◌+◌, ◌-◌, ◌*◌, ◌%◌, ◌<◌, ◌≤◌, ◌≡◌, Bool, true, false, if◌then◌else◌, List, Option, None, Some, is_some, get_or, max}
 use Rattle.pas_profile.specs.declared.profile.Profile.{Profile}
 use Rattle.pas_profile.specs.declared.directory.Directory.{Directory}
+use Rattle.pas_profile.specs.declared.name.Address.{Address}
 use Rattle.pas_profile.specs.declared.name.Name.{Name}
 use Rattle.pas_profile.specs.declared.name.Block.{Block}
 use Rattle.pas_profile.specs.declared.event.Event.{Event}
@@ -15,8 +16,12 @@ use Rattle.pas_machine.specs.declared.places.Place.{Place}
 abbrev pub blank_page : Page
 blank_page = record { directory = None; backed = false; epoch = 0 }
 
+-- the place of an address at which so many blocks were given, and none lives
+abbrev pub bare_place : ℕ → Place
+bare_place gives = record { lives = false; heap = 0; room = 0; gives = gives }
+
 abbrev pub blank_place : Place
-blank_place = record { block = None; gives = 0 }
+blank_place = bare_place 0
 
 -- the deed is there, and of the heap
 abbrev pub IsOfHeap : ℕ → Option Directory → Type 0
@@ -30,9 +35,26 @@ abbrev pub block_of : Option Live → Option Block
 block_of None = None
 block_of (Some b) = Some b.block
 
+-- the heap and the room of a block that lives, and 0 where none does
+abbrev pub heap_of : Option Live → ℕ
+heap_of None = 0
+heap_of (Some b) = b.block.heap
+
+abbrev pub room_of : Option Live → ℕ
+room_of None = 0
+room_of (Some b) = b.block.room
+
+-- the place of an address at which this lives, and so many blocks were given
+abbrev pub place_with : Option Live → ℕ → Place
+place_with live gives = record { lives = is_some live; heap = heap_of live; room = room_of live; gives = gives }
+
 -- the place of a grain after these events, by the grain's number in the region
 abbrev pub place_in : List Event → ℕ → Place
-place_in es g = record { block = block_of (live_in es (16 * g)); gives = gives_in es (16 * g) }
+place_in es g = place_with (live_in es (16 * g)) (gives_in es (16 * g))
+
+-- the block that lives at this address, by what its place says: it was the last that was given there, so its turn is the number of gives less one
+abbrev pub block_at : Place → Address → Option Block
+block_at place address = if place.lives then Some (record { name = record { address = address; turn = place.gives - 1 }; room = place.room; heap = place.heap }) else None
 
 -- whether a live block has the grain
 abbrev pub IsCovered : List Event → ℕ → Bool → Type 0

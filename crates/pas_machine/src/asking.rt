@@ -7,7 +7,7 @@ ghost use Rattle.pas_machine.specs.Machines.{profile_of, StandsFor};
 ghost use Rattle.pas_machine.specs.Places.{IsCovered, block_of, grains_of};
 
 use crate::machine::Machine;
-use pas_profile::{Block, Directory, Profile};
+use pas_profile::{Address, Block, Directory, Profile};
 
 impl Machine {
     /// The profile of the machine's region.
@@ -52,7 +52,7 @@ impl Machine {
         requires { grain < grains_of (profile_of self.now) }
         ensures { (es : List TheEvent) → StandsFor self.now es → result ≡ block_of (live_in es (16 * grain)) }
     {
-        self.places[grain as usize].block
+        self.places[grain as usize].block_at(Address(16 * grain))
     }
 
     /// How many blocks were given at the grain of this number. One look.

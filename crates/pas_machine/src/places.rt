@@ -2,7 +2,7 @@
 ghost use Rattle.std.specs.Prelude.{◌≡◌, IfOk, replicate, false};
 ghost use Rattle.pas_machine.specs.Places.{blank_page, blank_place};
 
-use pas_profile::{Block, Directory, NoMemory};
+use pas_profile::{Address, Block, Directory, Name, NoMemory};
 use std::alloc::Global;
 
 /// What a machine keeps of a page.
@@ -14,10 +14,16 @@ pub(crate) struct Page {
     pub epoch: u64,
 }
 
-/// What a machine keeps of an address: the block that lives there, and how many were given there.
+/// What a machine keeps of an address: whether a block lives there, of which heap and room, and how many were given there. There is one for
+/// each grain, so it is kept small, at 16 bytes: the block's name isn't in it, since its address is that of the place, and its turn follows
+/// from the gives.
 #[derive(Clone, Copy, Drop)]
 pub(crate) struct Place {
-    pub block: Option<Block>,
+    pub lives: bool,
+    /// The heap of the block, and 0 where none lives.
+    pub heap: u8,
+    /// The room of the block, and 0 where none lives.
+    pub room: u32,
     pub gives: u64,
 }
 
@@ -48,14 +54,36 @@ impl Page {
 }
 
 impl Place {
-    /// An address at which no block was given.
-    pub(crate) fn blank() -> Place
-        ensures { result ≡ blank_place }
+    ghost use Rattle.pas_machine.specs.Places.{bare_place, block_at};
+
+    /// An address at which so many blocks were given, and none lives.
+    pub(crate) fn bare(gives: u64) -> Place
+        ensures { result ≡ bare_place gives }
     {
         Place {
-            block: None,
-            gives: 0,
+            lives: false,
+            heap: 0,
+            room: 0,
+            gives,
         }
+    }
+
+    /// The block that lives at this address, whose place this is; None where none does.
+    pub(crate) fn block_at(&self, address: Address) -> Option<Block>
+        ensures { result ≡ block_at self.now address }
+    {
+        if !self.lives {
+            return None;
+        }
+        let name = Name {
+            address,
+            turn: self.gives.saturating_sub(1),
+        };
+        Some(Block {
+            name,
+            room: self.room,
+            heap: self.heap,
+        })
     }
 }
 
@@ -73,7 +101,7 @@ pub(crate) fn blank_pages(alloc: Global, count: usize) -> Result<Vec<Page>, NoMe
 pub(crate) fn blank_places(alloc: Global, count: usize) -> Result<Vec<Place>, NoMemory>
     ensures { IfOk result (λ places. places.items ≡ replicate count blank_place) }
 {
-    let Ok(places) = vec![in alloc; Place::blank(); count] else {
+    let Ok(places) = vec![in alloc; Place::bare(0); count] else {
         return Err(NoMemory);
     };
     Ok(places)

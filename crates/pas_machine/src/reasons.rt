@@ -54,7 +54,7 @@ impl Machine {
         requires { IsPlace (profile_of self.now) (address_of name.now) }
         ensures { (es : List TheEvent) → StandsFor self.now es → MatchOption result (IsLive es name.now → ⊥) (IsLiveBlock es name.now) }
     {
-        match self.places[name.address.grain() as usize].block {
+        match self.places[name.address.grain() as usize].block_at(name.address) {
             Some(block) if block.name.turn == name.turn => Some(block),
             _ => None,
         }
@@ -77,9 +77,10 @@ impl Machine {
         ensures { (es : List TheEvent) → StandsFor self.now es → result ≡ ends_in es address.0 }
     {
         let place = self.places[address.grain() as usize];
-        match place.block {
-            Some(_) => place.gives.saturating_sub(1),
-            None => place.gives,
+        if place.lives {
+            place.gives.saturating_sub(1)
+        } else {
+            place.gives
         }
     }
 

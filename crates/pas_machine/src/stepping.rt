@@ -79,7 +79,9 @@ impl Machine {
             return Err(StepFault::NoMemory);
         }
         self.places[first] = Place {
-            block: Some(block),
+            lives: true,
+            heap: block.heap,
+            room: block.room,
             gives: gives + 1,
         };
         cover(
@@ -101,7 +103,7 @@ impl Machine {
         };
         let first = name.address.grain() as usize;
         let until = first + block.grains() as usize;
-        self.places[first].block = None;
+        self.places[first] = Place::bare(self.places[first].gives);
         cover(&mut self.covered, first, until, false);
         note_end(&mut self.pages, first / 256, (until + 255) / 256, epoch);
         Ok(())
