@@ -37,7 +37,7 @@ TryEnds f keeper r v steps (Some block) = IsGiven keeper (wanted_by f r) v steps
 
 -- The keeper, who fits its book, looks at each guard that is up, and lowers those whose blocks have ended. Then it raises a guard for the request, where a search finds a
 -- run for it, two pages longer than the block: it gives the block, and holds the two outer pages, which it read as not backed. It gives none only where each such run has a
--- page that it read as not usable, or that was lost or broken, or an outer page that it read as backed while it held it whole. It says which guards it lowered, and then
+-- page that it read as not usable, or that was lost or broken, or an outer page that it read as backed while it held the run whole. It says which guards it lowered, and then
 -- its events and the guard that went up.
 pub record IsTried (f : Profile) (keeper : ℕ) (r : Request) (v : View) (guards : List Guard) (t : Tried) : Type 0 where
   pub fits : FitsBook f guards v

@@ -201,8 +201,8 @@ fn perform<D: Desk, O: Door, M: Remake>(
 }
 
 /// Does a thread's task, and adds its events and what is said to the records. `meant` is the block that the name stands for which a `Task::Free` frees or a
-/// `Task::Remake` reallocates, if any, and the result the block that the asked name of a `Task::Request` or a `Task::Remake` stands for from then on; None for
-/// every other task. A guarded request is answered as any is: its keeper tries it before (`try_guarded`). A request for whole pages asks the door for a run first; nothing else asks it or changes it.
+/// `Task::Remake` reallocates, if any, and the result the block that the asked name of a `Task::Request`, a `Task::Guarded` or a `Task::Remake` stands for from then on; None
+/// for every other task. A guarded request is answered as any is: its keeper tries it before (`try_guarded`). A request for whole pages asks the door for a run first; nothing else asks it or changes it.
 #[inline(always)]
 pub fn answer_meant<D: Desk, O: Door, M: Remake>(
     desk: &mut D,

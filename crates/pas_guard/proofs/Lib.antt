@@ -1,4 +1,6 @@
 mod Spans
+mod HeldSpans
+mod Returns
 mod Seeks
 mod Guarded
 mod Guards

@@ -235,6 +235,8 @@ not_raised {σ} heap k gs seek =
         steps_are = refl;
         fits = record { from = λ v met agreed. fits_nothing f gs v (seek.steps ++ v) met (seek.outcome.still.from v (fits_find f d gs v met) agreed) (λ p e knows. knows_still f e p seek.steps v agreed knows) };
         kinds = seek.kinds;
+        rise = seek.rise;
+        returns = seek.returns;
         shows = seek.shows;
         few = (let few = seek.few in omega (arith, few));
         steady = λ v met agreed g is. seek.steady v (fits_find f d gs v met) agreed (g / 256) (whole_outer f gs v met (g / 256) is) g refl;
@@ -287,6 +289,8 @@ module _ {σ σ1 : Standing} (heap k first : ℕ) (gs : List Guard) (seek : Seek
                 (λ p e knows. knows_still f_ e p after (seek.steps ++ v) next (knows_still f_ e p seek.steps v before knows)));
           };
           kinds = seek.kinds;
+          rise = seek.rise;
+          returns = seek.returns;
           shows = seek.shows;
           steady = λ v met agreed x is.
               let before = agreed_later f_ v after seek.steps agreed in let out = run_out f_ d_ gs first (first + (k + 2)) v (seek.steps ++ v) met (sought.leads.from v met before) (x / 256) is in

@@ -1,28 +1,27 @@
 -- The search for a run whose outer pages aren't backed, one turn more.
 use Rattle.std.proofs.Common.{ℕ, ◌+◌, ◌*◌, ◌/◌, ◌%◌, ◌<◌, ◌≤◌, ◌==◌, Bool, true, false, ◌||◌, if◌then◌else◌, MatchBool, List, [], ◌∷◌, ◌++◌, refl, ◌∙◌, inl, inr, ◌⊎◌, arith, Option, ◌≡◌, ◌≢◌, Some, None, ap, sym, subst, append_assoc, true≢false, length, length-append}
 use Rattle.std.proofs.lemmas.Bool.{cases_lt, cases_eq, cases_Bool, eqb-true, eq-eqb}
-use Rattle.std.proofs.lemmas.Bool.Decides.{nat_tests}
 use Rattle.std.proofs.lemmas.List.{append-nil}
 use Rattle.pas_bits.specs.Bits.{has_bit}
 use Rattle.pas_profile.specs.declared.directory.Directory.{Directory}
 use Rattle.pas_profile.specs.declared.profile.Profile.{Profile}
 use Rattle.pas_profile.specs.declared.word.Word.TheVariants as Word
 use Rattle.pas_rights.specs.Puts.{masked}
-use Rattle.pas_rights.specs.PutsBack.{giving_back, MayPutAndLeave, PutsAndLeaves, put_and_left}
+use Rattle.pas_rights.specs.PutsBack.{giving_back, MayPutAndLeave, PutsAndLeaves}
 use Rattle.pas_rights.specs.Words.{full}
 use Rattle.pas_rights.proofs.Looks.{on_full}
 use Rattle.pas_scan.specs.Runs.{page_looks, IsFirstRun, HasNoRun, HasUnusable, FindsRun}
 use Rattle.pas_scan.specs.Usable.{ReadUsable, UnusableHere, LeftAlone, ParksNotHere, MakesNoDeedHere, WholeHere}
 use Rattle.pas_scan.proofs.LeftPages.{usable_before, usable_later, unusable_before, left_alone_by, lacks_by, holds_own}
 use Rattle.pas_steps.specs.Agreement.{Agrees, Agreed}
-use Rattle.pas_steps.specs.Calls.{Calls, Leads, Kept, Gained, Lost, now, nothing, Does}
+use Rattle.pas_steps.specs.Calls.{Calls, Leads, Kept, Gained, now, nothing, Does}
 use Rattle.pas_steps.specs.Desks.{Seat, Standing, AnyView, Adds, CanCall, Makes, made}
 use Rattle.pas_steps.specs.Evidence.{ReadsFree}
 use Rattle.pas_steps.specs.Frames.{KeepsRight}
 use Rattle.pas_rights.proofs.Words.{keeps_by}
 use Rattle.pas_steps.specs.declared.step.Step.{Step}
 use Rattle.pas_steps.specs.Kinds.{Kinds, Deeding, Only, kind_of, is_in, place_of, apart, moving}
-use Rattle.pas_steps.specs.Past.{Once, Since}
+use Rattle.pas_steps.specs.Past.{Once, Always, Since}
 use Rattle.pas_steps.specs.Unknown.{unknown_pages}
 use Rattle.pas_steps.specs.Views.{View, held_after, holds, has_right, KnowsDeed}
 use Rattle.pas_steps.specs.declared.step.Made.{Made}
@@ -30,99 +29,28 @@ use Rattle.pas_steps.specs.declared.step.Step.TheVariants.{Deed, Look}
 use Rattle.pas_steps.proofs.Adding.{adds_none, adds_step, adds_call, agreed_first, agreed_later}
 use Rattle.pas_steps.proofs.Apart.{in_apart, grain_same, no_events, only_both, only_within, holds_same}
 use Rattle.pas_steps.proofs.Called.{call_then, next_call}
-use Rattle.pas_steps.proofs.Calls.{does_as, does_then, does_none, does_idly, leads_none, leads_at}
+use Rattle.pas_steps.proofs.Calls.{does_none, does_idly, leads_none, leads_at}
 use Rattle.pas_steps.proofs.Frames.{right_own}
 use Rattle.pas_steps.proofs.Kept.{right_on, knows_still}
 use Rattle.pas_steps.proofs.Past.{once_later, once_earlier, once_map, always_both, always_map}
 use Rattle.pas_steps.proofs.SpareRoom.{Spares}
 use Rattle.pas_steps.proofs.Unknown.{unknown_stays}
-use Rattle.pas_large.specs.Claims.{StaysPut, in_span, MayClaimPages, HasRunRoom, AloneFrom, HasPages, Releases, ClaimsRun, HoldsRun, FailsRun, HoldsSpan}
-use Rattle.pas_large.specs.Evidence.{LostHere, BrokenHere, BadHere, AllUsable, FailsHere, HasFailed, DeedsOf}
+use Rattle.pas_search.specs.Kinds.{ReturnsDuly}
+use Rattle.pas_search.proofs.Returns.{duly_both, duly_none}
+use Rattle.pas_large.specs.Claims.{StaysPut, in_span, MayClaimPages, HasRunRoom, AloneFrom, DeedsIn, HasPages, Releases, ClaimsRun, HoldsRun, FailsRun, HoldsSpan}
+use Rattle.pas_large.specs.Evidence.{LostHere, BrokenHere, BadHere, AllUsable, FailsHere, HasFailed, DeedsOf, DeedsBelow, DeedsRise}
 use Rattle.pas_large.specs.Finds.{MayFind, FindRoom}
-use Rattle.pas_large.specs.Pages.{of_pages, OnceAfter, OnlyDeedsShow, GotPages, claiming}
-use Rattle.pas_large.proofs.Claims.{StaysHere, steady_on, steady_both, out_of, narrower, span_in, in_parts, span_past, span_none, got_both, has_got, room_after, alone_on}
+use Rattle.pas_large.specs.Pages.{OnceAfter, OnlyDeedsShow, claiming}
+use Rattle.pas_large.proofs.Claims.{StaysHere, steady_on, steady_both, out_of, narrower, span_in, in_parts, span_past, has_got, room_after, alone_on, deeds_below, deeds_from}
 use Rattle.pas_large.proofs.Finds.{DeedOf, bad_later, alone_looks, knew, deeds_map, may_find}
-use Rattle.pas_large.proofs.Pages.{undone, shows_both}
+use Rattle.pas_large.proofs.Pages.{shows_both, below_both, below_wider, rise_both}
 use Rattle.pas_guard.proofs.Spans.{no_span, span_kept, span_beside, span_joined, claim_keeps}
-use Rattle.pas_guard.specs.Evidence.{BackedReadHere, OuterBackedHere, IsBad, OuterFailsHere, HasFailedOnce}
+use Rattle.pas_guard.proofs.HeldSpans.{span_of_none, span_then, span_lost, span_both, out_fewer, out_later, but_first, span_slid}
+use Rattle.pas_guard.proofs.Returns.{rise_later, below_later, release_duly, first_duly}
+use Rattle.pas_guard.specs.Evidence.{BackedReadHere, HoldsRunWhole, OuterBackedHere, IsBad, OuterFailsHere, HasFailedOnce}
 use Rattle.pas_guard.specs.Guarded.{LeavesGuard}
 use Rattle.pas_guard.specs.Seeks.{LeftSince, backed_looks, ZeroBackedHere, SomeBackedHere, LooksBacked, HoldsWhole, HasSpan, seeking, Seeks}
 use Rattle.pas_steps.proofs.Evidence.{unknown}
-
--- ---- pages that are held
-pub span_of_none : {v w : View} (d : Directory) (a : ℕ) → Does nothing v w → HasSpan d a a v w
-span_of_none {v} d a does = record {
-  got = record {
-    does = does_as (of_pages (in_span a a) Gained) does (λ g. inl (ap (λ t. if t then Gained else Kept) (sym (span_none a (g / 256))))) (λ q. ap (λ t. if t then Gained else Kept) (sym (span_none a q))) (λ q h. h);
-    apart = λ g h. absurd (true≢false (sym h ∙ span_none a (g / 256)));
-    lacked = λ p h. absurd (true≢false (sym h ∙ span_none a p));
-    deeds = λ p h. absurd (true≢false (sym h ∙ span_none a p));
-  };
-  lacked = λ p h. absurd (true≢false (sym h ∙ span_none a p));
-}
-
-span_then : {v w u : View} (d : Directory) (a b : ℕ) → HasSpan d a b v w → Does nothing w u → ((p : ℕ) → KnowsDeed p d w → KnowsDeed p d u) → HasSpan d a b v u
-span_then d a b span still knows = record { got = record { does = does_then span.got.does still; apart = span.got.apart; lacked = span.got.lacked; deeds = λ p is. knows p (span.got.deeds p is) }; lacked = span.lacked }
-
-span_lost : {v w u : View} (d : Directory) (a b : ℕ) → HasSpan d a b v w → Does (of_pages (in_span a b) Lost) w u → Does nothing v u
-span_lost d a b span lost = undone (λ g. in_span a b (g / 256)) (in_span a b) span.got.apart span.lacked span.got.does lost
-
-joined : (a b c p : ℕ) → a ≤ b → b ≤ c → (in_span a b p || in_span b c p) ≡ in_span a c p
-joined a b c p low high = grind (arith, nat_tests)
-
-span_both : {v w u : View} (d : Directory) (a b c : ℕ) → a ≤ b → b ≤ c → HasSpan d a b v w → ((p : ℕ) → b ≤ p → p < c → has_right v p ≡ false) → GotPages (in_span b c) d w u → ((p : ℕ) → KnowsDeed p d w → KnowsDeed p d u) → HasSpan d a c v u
-span_both d a b c low high span lacked second knows = record {
-  got = got_both d (in_span a b) (in_span b c) (in_span a c) (λ p. joined a b c p low high) span.got second knows;
-  lacked = λ p is. let at = in_parts a c p is in elim (cases_lt p b) [ inl below ↦ span.lacked p (span_in a b p at.0 below) | inr above ↦ lacked p above at.1 ];
-}
-
-out_fewer : (a b c p : ℕ) → b ≤ c → in_span a c p ≡ false → in_span a b p ≡ false
-out_fewer a b c p le out = grind (arith, nat_tests)
-
-out_later : (a b c p : ℕ) → a ≤ b → in_span a c p ≡ false → in_span b c p ≡ false
-out_later a b c p le out = grind (arith, nat_tests)
-
--- the first of them is left
-slid : (m t u had : Bool) → (m ≡ true → (u ≡ false) × (had ≡ false)) → (m ≡ false → t ≡ u) → now (if m then Lost else Kept) (now (if t then Gained else Kept) had) ≡ now (if u then Gained else Kept) had
-slid true t u had here there = sym (ap (λ x. now (if x then Gained else Kept) had) (here refl).0 ∙ (here refl).1)
-slid false t u had here there = ap (λ x. now (if x then Gained else Kept) had) (there refl)
-
-past_first : (a c p : ℕ) → p ≡ a → in_span (a + 1) c p ≡ false
-past_first a c p e = grind (arith, nat_tests)
-
-but_first : (a c p : ℕ) → p ≢ a → in_span a c p ≡ in_span (a + 1) c p
-but_first a c p ne = grind (arith, nat_tests)
-
-module _ {v w u : View} (d : Directory) (a c : ℕ) (some : a < c) (span : HasSpan d a c v w) (left : Does (put_and_left a (masked a full)) w u) where
-  here : (p : ℕ) → (a == p) ≡ true → p ≡ a
-  here p e = sym (eqb-true a p e)
-
-  there : (p : ℕ) → (a == p) ≡ false → p ≢ a
-  there p e same = true≢false (sym (eq-eqb a p (sym same)) ∙ e)
-
-  in_first : (p : ℕ) → p ≡ a → in_span a c p ≡ true
-  in_first p e = span_in a c p (omega (arith, e)) (omega (arith, e, some))
-
-  pub span_slid : ((p : ℕ) → KnowsDeed p d w → KnowsDeed p d u) → HasSpan d (a + 1) c v u
-  span_slid knows = record {
-    got = record {
-      does = record {
-        held = λ x. left.held x ∙ ap (λ m. now (if m then Lost else Kept) (holds w x)) (on_full a x) ∙ ap (now (if a == x / 256 then Lost else Kept)) (span.got.does.held x)
-            ∙ slid (a == x / 256) (in_span a c (x / 256)) (in_span (a + 1) c (x / 256)) (holds v x) (λ e. (past_first a c (x / 256) (here (x / 256) e), span.got.apart x (in_first (x / 256) (here (x / 256) e)))) (λ e. but_first a c (x / 256) (there (x / 256) e));
-        right = λ q. left.right q ∙ ap (now (if a == q then Lost else Kept)) (span.got.does.right q)
-            ∙ slid (a == q) (in_span a c q) (in_span (a + 1) c q) (has_right v q) (λ e. (past_first a c q (here q e), span.lacked q (in_first q (here q e)))) (λ e. but_first a c q (there q e));
-        clear = λ q is. left.clear q (span.got.does.clear q is);
-        backed = λ x kept bears. elim (cases_Bool (a == x / 256)) [
-          | inl e ↦ absurd (true≢false (sym bears.held ∙ span.got.apart x (in_first (x / 256) (here (x / 256) e))))
-          | inr e ↦ left.backed x (ap (λ m. if m then Lost else Kept) (on_full a x ∙ e)) (span.got.does.backed x (ap (λ t. if t then Gained else Kept) (but_first a c (x / 256) (there (x / 256) e)) ∙ kept) bears)
-        ];
-      };
-      apart = λ g is. let at = in_parts (a + 1) c (g / 256) is in let low = at.0 in span.got.apart g (span_in a c (g / 256) (omega (arith, low)) at.1);
-      lacked = λ p is. let at = in_parts (a + 1) c p is in let low = at.0 in span.lacked p (span_in a c p (omega (arith, low)) at.1);
-      deeds = λ p is. let at = in_parts (a + 1) c p is in let low = at.0 in knows p (span.got.deeds p (span_in a c p (omega (arith, low)) at.1));
-    };
-    lacked = λ p is. let at = in_parts (a + 1) c p is in let low = at.0 in span.lacked p (span_in a c p (omega (arith, low)) at.1);
-  }
 
 -- ---- evidence, and later steps
 bad_more : (v : View) (d : Directory) (k s : ℕ) (ys xs : List Made) → IsBad v d k s xs → IsBad v d k s (ys ++ xs)
@@ -141,10 +69,10 @@ deeds_none ks d n P ys xs none = always_both (λ m before. is_in ks (kind_of m.s
 some_is_one : (f : Profile) (v : View) (page : ℕ) (m : Made) → SomeBackedHere page m [] → Agrees f v m.step m.answer → m.answer ≡ 1
 some_is_one f v page m h agrees = let read = subst (λ s. Agrees f v s m.answer) h.0 agrees in let small = read.small in let some = h.1 in omega (arith, small, some)
 
-outer_some : (f : Profile) (v : View) (page : ℕ) (R : List Made → Type 0) (ls ss : List Made) → ((b : List Made) → R (b ++ ss)) → Only backed_looks ls → Agreed f v (ls ++ ss) → ((g : ℕ) → g / 256 ≡ page → holds (ss ++ v) g ≡ true) → Once (SomeBackedHere page) ls
+outer_some : (f : Profile) (v : View) (page : ℕ) (R : List Made → Type 0) (ls ss : List Made) → ((b : List Made) → Only backed_looks b → R (b ++ ss)) → Only backed_looks ls → Agreed f v (ls ++ ss) → ((g : ℕ) → g / 256 ≡ page → holds (ss ++ v) g ≡ true) → Once (SomeBackedHere page) ls
     → Once (λ m before. R before × BackedReadHere v page 1 m before) (ls ++ ss)
 outer_some f v page R [] ss had only agreed held h = absurd h
-outer_some f v page R (m ∷ ls) ss had only agreed held (inl h) = inl (had ls, (h.0, some_is_one f ((ls ++ ss) ++ v) page m h agreed.0, λ g at. ap (λ s. holds s g) (append_assoc ls ss v) ∙ holds_same backed_looks refl g ls (ss ++ v) only.1 ∙ held g at))
+outer_some f v page R (m ∷ ls) ss had only agreed held (inl h) = inl (had ls only.1, (h.0, some_is_one f ((ls ++ ss) ++ v) page m h agreed.0, λ g at. ap (λ s. holds s g) (append_assoc ls ss v) ∙ holds_same backed_looks refl g ls (ss ++ v) only.1 ∙ held g at))
 outer_some f v page R (m ∷ ls) ss had only agreed held (inr h) = inr (outer_some f v page R ls ss had only.1 agreed.1 held h)
 
 -- a look at a backed word leaves each page alone
@@ -214,6 +142,9 @@ pub record Sought (d : Directory) (k from free next : ℕ) (desk desk' : Standin
   pub shows : OnlyDeedsShow desk.seat.profile steps
   pub lacks : (p : ℕ) → in_span from free p ≡ false → has_right steps p ≡ false
   pub kinds : Only seeking steps
+  pub rise : DeedsRise steps
+  pub below : DeedsBelow free steps
+  pub returns : Always ReturnsDuly steps
   pub low : 1 ≤ from
   pub order : (from ≤ free) × (free ≤ next)
   pub within : (next ≤ from + (k + 2)) × (next ≤ desk.seat.profile.pages + 1)
@@ -223,7 +154,7 @@ pub record Sought (d : Directory) (k from free next : ℕ) (desk desk' : Standin
   pub alone : AloneFrom free steps
   pub steady : (v : View) → MayFind d v → Agreed desk.seat.profile v steps → (page : ℕ) → HoldsWhole page v → (g : ℕ) → g / 256 ≡ page → StaysPut g steps
   pub bad : (v : View) → MayFind d v → Agreed desk.seat.profile v steps → (s : ℕ) → 1 ≤ s → s < from → IsBad v d k s steps
-  pub deeds : (v : View) → MayFind d v → Agreed desk.seat.profile v steps → DeedsOf d (k + 2) (λ s. ((s ≡ from) × (free ≡ from + (k + 2))) ⊎ HasFailedOnce v d k s steps) steps
+  pub deeds : (v : View) → MayFind d v → Agreed desk.seat.profile v steps → DeedsOf d (k + 2) (λ s. ((s ≡ from) × (free ≡ from + (k + 2))) ⊎ ((s < from) × HasFailedOnce v d k s steps)) steps
 
 pub sought_none : {σ : Standing} (d : Directory) (k : ℕ) → Sought d k 1 1 1 σ σ
 sought_none d k = record {
@@ -233,6 +164,9 @@ sought_none d k = record {
   shows = λ n v agreed. omega arith;
   lacks = λ p out. refl;
   kinds = tt;
+  rise = tt;
+  below = tt;
+  returns = tt;
   low = omega arith;
   order = (omega arith, omega arith);
   within = (omega arith, omega arith);
@@ -306,6 +240,15 @@ module _ {σ σ1 : Standing} (d : Directory) (k from free next : ℕ) (so : Soug
     looked_kinds : Only seeking (ys ++ xs)
     looked_kinds = only_both seeking ys xs (only_within page_looks seeking ys refl find.kinds) so.kinds
 
+    looked_rise : DeedsRise (ys ++ xs)
+    looked_rise = rise_later page_looks free ys xs refl find.kinds so.below so.rise
+
+    looked_below : DeedsBelow free (ys ++ xs)
+    looked_below = below_later page_looks free ys xs refl find.kinds so.below
+
+    looked_returns : Always ReturnsDuly (ys ++ xs)
+    looked_returns = duly_both ys xs (duly_none page_looks ys refl refl find.kinds) so.returns
+
     looked_shows : OnlyDeedsShow f (ys ++ xs)
     looked_shows = shows_both f ys xs (λ n v agreed. let none = ap (λ es. length es) (no_events page_looks refl n v ys find.kinds) in let stays = unknown_stays f ys v agreed in omega (arith, none, stays)) so.shows
 
@@ -336,22 +279,24 @@ module _ {σ σ1 : Standing} (d : Directory) (k from free next : ℕ) (so : Soug
     looked_bad v met agreed s low lt = bad_more v d k s ys xs (so.bad v met (agreed_later f v ys xs agreed) s low lt)
 
     -- where not all pages of a run are held
-    looked_deeds : (rs : List Made) → free < from + (k + 2) → (v : View) (met : MayFind d v) → Agreed f v (ys ++ xs) → DeedsOf d (k + 2) (λ s. HasFailedOnce v d k s (rs ++ (ys ++ xs))) (ys ++ xs)
-    looked_deeds rs short v met agreed = deeds_none page_looks d (k + 2) (λ s. HasFailedOnce v d k s (rs ++ (ys ++ xs))) ys xs refl find.kinds
-        (deeds_map d (k + 2) (λ s. ((s ≡ from) × (free ≡ from + (k + 2))) ⊎ HasFailedOnce v d k s xs) (λ s. HasFailedOnce v d k s (rs ++ (ys ++ xs))) xs
-        (λ s h. elim h [ inl full ↦ (let e = full.1 in absurd (omega (arith, e, short))) | inr failed ↦ failed_more v d k s rs (ys ++ xs) (failed_more v d k s ys xs failed) ]) (so.deeds v met (agreed_later f v ys xs agreed)))
+    looked_deeds : (rs : List Made) → free < from + (k + 2) → (v : View) (met : MayFind d v) → Agreed f v (ys ++ xs) → DeedsOf d (k + 2) (λ s. (s < from) × HasFailedOnce v d k s (rs ++ (ys ++ xs))) (ys ++ xs)
+    looked_deeds rs short v met agreed = deeds_none page_looks d (k + 2) (λ s. (s < from) × HasFailedOnce v d k s (rs ++ (ys ++ xs))) ys xs refl find.kinds
+        (deeds_map d (k + 2) (λ s. ((s ≡ from) × (free ≡ from + (k + 2))) ⊎ ((s < from) × HasFailedOnce v d k s xs)) (λ s. (s < from) × HasFailedOnce v d k s (rs ++ (ys ++ xs))) xs
+        (λ s h. elim h [ inl full ↦ (let e = full.1 in absurd (omega (arith, e, short))) | inr failed ↦ (failed.0, failed_more v d k s rs (ys ++ xs) (failed_more v d k s ys xs failed.1)) ]) (so.deeds v met (agreed_later f v ys xs agreed)))
 
   pub can_release_looked : {σ2 : Standing} {found : Option ℕ} → FindsRun d next next 1 σ1 σ2 found → CanCall σ (MayFind d) → CanCall σ2 (HasPages d from free)
   can_release_looked find can = can_release (looked find) can
 
   -- none is usable, and what is held is put back
-  pub seek_ends : {σ2 σ3 : Standing} → next < from + (k + 2) → FindsRun d next next 1 σ1 σ2 None → Releases d from free σ2 σ3 → Seeks d k σ σ3 None
-  seek_ends short find r =
+  pub seek_ends : {σ2 σ3 : Standing} → CanCall σ (MayFind d) → next < from + (k + 2) → FindsRun d next next 1 σ1 σ2 None → Releases d from free σ2 σ3 → Seeks d k σ σ3 None
+  seek_ends can short find r =
       let ys = find.steps in let rs = r.steps in let none = subst (λ x. HasNoRun x d next next 1 ys) same find.outcome in
       let calls = released (looked find) r in let order = so.order.1 in let first = so.order.0 in let in_region = so.within.1 in record {
         steps = rs ++ (ys ++ xs);
         adds = calls.adds;
         kinds = only_both seeking rs (ys ++ xs) (only_within giving_back seeking rs refl r.kinds) (looked_kinds find);
+        rise = rise_later giving_back free rs (ys ++ xs) refl r.kinds (looked_below find) (looked_rise find);
+        returns = release_duly d from free (looked find) can (looked_returns find) r;
         shows = shows_both f rs (ys ++ xs) (λ n v agreed. let none = ap (λ es. length es) (no_events giving_back refl n v rs r.kinds) in let stays = unknown_stays f rs v agreed in omega (arith, none, stays)) (looked_shows find);
         few = (let i = length-append rs (ys ++ xs) in let j = length-append ys xs in let a = r.few in let b = find.few in let c = so.few in let e = ap (λ (x : Profile). x.pages) same in omega (arith, i, j, a, b, c, e, order, first, in_region));
         steady = put_steady find r;
@@ -365,7 +310,8 @@ module _ {σ σ1 : Standing} (d : Directory) (k from free next : ℕ) (so : Soug
             ]
           ]);
           deeds = λ v met agreed. let before = agreed_later f v rs (ys ++ xs) agreed in
-              deeds_none giving_back d (k + 2) (λ s. HasFailedOnce v d k s (rs ++ (ys ++ xs))) rs (ys ++ xs) refl r.kinds (looked_deeds find rs (omega (arith, short, order)) v met before);
+              deeds_map d (k + 2) (λ s. (s < from) × HasFailedOnce v d k s (rs ++ (ys ++ xs))) (λ s. HasFailedOnce v d k s (rs ++ (ys ++ xs))) (rs ++ (ys ++ xs)) (λ s h. h.1)
+              (deeds_none giving_back d (k + 2) (λ s. (s < from) × HasFailedOnce v d k s (rs ++ (ys ++ xs))) rs (ys ++ xs) refl r.kinds (looked_deeds find rs (omega (arith, short, order)) v met before));
           lacks = λ p. r.lacks (ys ++ xs) p (λ out. looked_lacks find p out);
         };
       }
@@ -380,6 +326,9 @@ module _ {σ σ1 : Standing} (d : Directory) (k from free next : ℕ) (so : Soug
         shows = looked_shows find;
         lacks = looked_lacks find;
         kinds = looked_kinds find;
+        rise = looked_rise find;
+        below = looked_below find;
+        returns = looked_returns find;
         low = so.low;
         order = (so.order.0, omega (arith, order, at));
         within = (omega (arith, at, short), omega (arith, region));
@@ -392,12 +341,12 @@ module _ {σ σ1 : Standing} (d : Directory) (k from free next : ℕ) (so : Soug
         alone = looked_alone find;
         steady = looked_steady find;
         bad = looked_bad find;
-        deeds = λ v met agreed. deeds_map d (k + 2) (λ s. HasFailedOnce v d k s ([] ++ (ys ++ xs))) (λ s. ((s ≡ from) × (free ≡ from + (k + 2))) ⊎ HasFailedOnce v d k s (ys ++ xs)) (ys ++ xs) (λ s h. inr h) (looked_deeds find [] (omega (arith, short, order)) v met agreed);
+        deeds = λ v met agreed. deeds_map d (k + 2) (λ s. (s < from) × HasFailedOnce v d k s ([] ++ (ys ++ xs))) (λ s. ((s ≡ from) × (free ≡ from + (k + 2))) ⊎ ((s < from) × HasFailedOnce v d k s (ys ++ xs))) (ys ++ xs) (λ s h. inr h) (looked_deeds find [] (omega (arith, short, order)) v met agreed);
       }
 
   -- a later page is, and what is held is put back
-  pub seek_jump : {σ2 σ3 : Standing} (page : ℕ) → page ≢ next → next < from + (k + 2) → FindsRun d next next 1 σ1 σ2 (Some page) → Releases d from free σ2 σ3 → Sought d k page page (page + 1) σ σ3
-  seek_jump page other short find r =
+  pub seek_jump : {σ2 σ3 : Standing} → CanCall σ (MayFind d) → (page : ℕ) → page ≢ next → next < from + (k + 2) → FindsRun d next next 1 σ1 σ2 (Some page) → Releases d from free σ2 σ3 → Sought d k page page (page + 1) σ σ3
+  seek_jump can page other short find r =
       let ys = find.steps in let rs = r.steps in let run = subst (λ x. IsFirstRun x d next next 1 ys page) same find.outcome in
       let calls = released (looked find) r in let order = so.order.1 in let first = so.order.0 in let region = run.of_region in let past = run.from_there in let low = so.low in record {
         steps = rs ++ (ys ++ xs);
@@ -406,6 +355,9 @@ module _ {σ σ1 : Standing} (d : Directory) (k from free next : ℕ) (so : Soug
         shows = shows_both f rs (ys ++ xs) (λ n v agreed. let none = ap (λ es. length es) (no_events giving_back refl n v rs r.kinds) in let stays = unknown_stays f rs v agreed in omega (arith, none, stays)) (looked_shows find);
         lacks = λ p out. r.lacks (ys ++ xs) p (λ out. looked_lacks find p out);
         kinds = only_both seeking rs (ys ++ xs) (only_within giving_back seeking rs refl r.kinds) (looked_kinds find);
+        rise = rise_later giving_back free rs (ys ++ xs) refl r.kinds (looked_below find) (looked_rise find);
+        below = below_wider free page (rs ++ (ys ++ xs)) (omega (arith, order, past)) (below_later giving_back free rs (ys ++ xs) refl r.kinds (looked_below find));
+        returns = release_duly d from free (looked find) can (looked_returns find) r;
         low = omega (arith, low, first, order, past);
         order = (omega arith, omega arith);
         within = (omega arith, omega (arith, region));
@@ -422,8 +374,8 @@ module _ {σ σ1 : Standing} (d : Directory) (k from free next : ℕ) (so : Soug
           ]
         ]);
         deeds = λ v met agreed. let before = agreed_later f v rs (ys ++ xs) agreed in
-            deeds_map d (k + 2) (λ s. HasFailedOnce v d k s (rs ++ (ys ++ xs))) (λ s. ((s ≡ page) × (page ≡ page + (k + 2))) ⊎ HasFailedOnce v d k s (rs ++ (ys ++ xs))) (rs ++ (ys ++ xs)) (λ s h. inr h)
-            (deeds_none giving_back d (k + 2) (λ s. HasFailedOnce v d k s (rs ++ (ys ++ xs))) rs (ys ++ xs) refl r.kinds (looked_deeds find rs (omega (arith, short, order)) v met before));
+            deeds_map d (k + 2) (λ s. (s < from) × HasFailedOnce v d k s (rs ++ (ys ++ xs))) (λ s. ((s ≡ page) × (page ≡ page + (k + 2))) ⊎ ((s < page) × HasFailedOnce v d k s (rs ++ (ys ++ xs)))) (rs ++ (ys ++ xs)) (λ s h. let lt = h.0 in inr (omega (arith, lt, first, order, past), h.1))
+            (deeds_none giving_back d (k + 2) (λ s. (s < from) × HasFailedOnce v d k s (rs ++ (ys ++ xs))) rs (ys ++ xs) refl r.kinds (looked_deeds find rs (omega (arith, short, order)) v met before));
       }
 
   -- ---- all pages of a run were read as usable, and those that aren't held are claimed
@@ -454,6 +406,15 @@ module _ {σ σ1 : Standing} (d : Directory) (k from free next : ℕ) (so : Soug
       claim_kinds : Only seeking (zs ++ xs)
       claim_kinds = only_both seeking zs xs (only_within claiming seeking zs refl claim.kinds) so.kinds
 
+      claim_rise : DeedsRise (zs ++ xs)
+      claim_rise = rise_both free zs xs claim.rise so.rise (deeds_from d free next zs claim.made) so.below
+
+      claim_below : (stop : ℕ) → free ≤ stop → DeedsIn d free stop zs → DeedsBelow stop (zs ++ xs)
+      claim_below stop le made = below_both stop zs xs (deeds_below d free stop stop zs (omega arith) made) (below_wider free stop xs le so.below)
+
+      claim_returns : Always ReturnsDuly (zs ++ xs)
+      claim_returns = duly_both zs xs claim.returns so.returns
+
       claim_shows : OnlyDeedsShow f (zs ++ xs)
       claim_shows = shows_both f zs xs (subst (λ x. OnlyDeedsShow x zs) same claim.shows) so.shows
 
@@ -469,10 +430,10 @@ module _ {σ σ1 : Standing} (d : Directory) (k from free next : ℕ) (so : Soug
           steady_both g zs xs (claim.steady g (out_later from free next (g / 256) so.order.0 (held_apart v met before p whole g at))) (so.steady v met before p whole g at)
 
       -- deeds of the claim are of the run, and those before of it or of one that failed
-      claim_deeds : (v : View) (met : MayFind d v) → Agreed f v (zs ++ xs) → (P : ℕ → Type 0) → P from → ((s : ℕ) → HasFailedOnce v d k s xs → P s) → DeedsOf d (k + 2) P (zs ++ xs)
+      claim_deeds : (v : View) (met : MayFind d v) → Agreed f v (zs ++ xs) → (P : ℕ → Type 0) → P from → ((s : ℕ) → s < from → HasFailedOnce v d k s xs → P s) → DeedsOf d (k + 2) P (zs ++ xs)
       claim_deeds v met agreed P its more = always_both (λ m before. (p : ℕ) (e : Directory) → m.step ≡ Deed p e → m.answer ≡ 0 → (e ≡ d) × (free ≤ p) × (p < next)) (DeedOf d (k + 2) P) zs xs
           (λ m before h p e is z. let at = h p e is z in let ge = at.1 in let lt = at.2 in let first = so.order.0 in (at.0, (from, (omega (arith, ge, first), omega (arith, lt, whole)), all_usable before, its)))
-          claim.made (deeds_map d (k + 2) (λ s. ((s ≡ from) × (free ≡ from + (k + 2))) ⊎ HasFailedOnce v d k s xs) P xs (λ s h. elim h [ inl full ↦ subst P (sym full.0) its | inr failed ↦ more s failed ]) (so.deeds v met (agreed_later f v zs xs agreed)))
+          claim.made (deeds_map d (k + 2) (λ s. ((s ≡ from) × (free ≡ from + (k + 2))) ⊎ ((s < from) × HasFailedOnce v d k s xs)) P xs (λ s h. elim h [ inl full ↦ subst P (sym full.0) its | inr failed ↦ more s failed.0 failed.1 ]) (so.deeds v met (agreed_later f v zs xs agreed)))
 
     -- the claim failed, and what is held is put back
     module _ {σ2 : Standing} (page : ℕ) (claim : ClaimsRun true d free next σ1 σ2 (Some page)) where
@@ -495,6 +456,9 @@ module _ {σ σ1 : Standing} (d : Directory) (k from free next : ℕ) (so : Soug
       pub can_release_lost : CanCall σ (MayFind d) → CanCall σ2 (HasPages d from free)
       can_release_lost can = can_release lost_call can
 
+      lost_below : DeedsBelow (page + 1) (ws ++ xs)
+      lost_below = claim_below claim (page + 1) (let ge = fails.in_run.0 in omega (arith, ge)) fails.made
+
       lost_lacks : (p : ℕ) → in_span from free p ≡ false → has_right (ws ++ xs) p ≡ false
       lost_lacks p out = right_own p ws xs (so.lacks p out) ∙ ap (λ s. has_right s p) (sym (append-nil ws)) ∙ fails.lacks [] (λ q. refl) p
 
@@ -512,8 +476,8 @@ module _ {σ σ1 : Standing} (d : Directory) (k from free next : ℕ) (so : Soug
         run_failed = once_earlier (λ m b. LostHere d page m (b ++ xs) ⊎ BrokenHere page m (b ++ xs)) (FailsHere d (k + 2) from) ws xs
             (λ m b x. (all_usable b, (page, (let a = so.order.0 in let c = fails.in_run.0 in omega (arith, a, c), let e = fails.in_run.1 in omega (arith, e, whole)), x))) failing
 
-      pub seek_lost : {σ3 : Standing} → Releases d from free σ2 σ3 → Sought d k (page + 1) (page + 1) next σ σ3
-      seek_lost r =
+      pub seek_lost : {σ3 : Standing} → CanCall σ (MayFind d) → Releases d from free σ2 σ3 → Sought d k (page + 1) (page + 1) next σ σ3
+      seek_lost can r =
           let rs = r.steps in let calls = released lost_call r in let low = so.low in let first = so.order.0 in let ge = fails.in_run.0 in let lt = fails.in_run.1 in record {
             steps = rs ++ (ws ++ xs);
             adds = calls.adds;
@@ -521,6 +485,9 @@ module _ {σ σ1 : Standing} (d : Directory) (k from free next : ℕ) (so : Soug
             shows = shows_both f rs (ws ++ xs) (λ n v agreed. let none = ap (λ es. length es) (no_events giving_back refl n v rs r.kinds) in let stays = unknown_stays f rs v agreed in omega (arith, none, stays)) (claim_shows claim);
             lacks = λ p out. r.lacks (ws ++ xs) p (λ out. lost_lacks p out);
             kinds = only_both seeking rs (ws ++ xs) (only_within giving_back seeking rs refl r.kinds) (claim_kinds claim);
+            rise = rise_later giving_back (page + 1) rs (ws ++ xs) refl r.kinds lost_below (claim_rise claim);
+            below = below_later giving_back (page + 1) rs (ws ++ xs) refl r.kinds lost_below;
+            returns = release_duly d from free lost_call can (claim_returns claim) r;
             low = omega arith;
             order = (omega arith, omega (arith, lt));
             within = (omega (arith, whole, first, ge), so.within.1);
@@ -535,9 +502,10 @@ module _ {σ σ1 : Standing} (d : Directory) (k from free next : ℕ) (so : Soug
               | inr above ↦ inl (page, (omega (arith, under), omega (arith, lt, whole, above)), page_bad v before)
             ]);
             deeds = λ v met agreed. let before = agreed_later f v rs (ws ++ xs) agreed in
-                deeds_map d (k + 2) (λ s. HasFailedOnce v d k s (rs ++ (ws ++ xs))) (λ s. ((s ≡ page + 1) × (page + 1 ≡ page + 1 + (k + 2))) ⊎ HasFailedOnce v d k s (rs ++ (ws ++ xs))) (rs ++ (ws ++ xs)) (λ s h. inr h)
-                (deeds_none giving_back d (k + 2) (λ s. HasFailedOnce v d k s (rs ++ (ws ++ xs))) rs (ws ++ xs) refl r.kinds
-                (claim_deeds claim v met before (λ s. HasFailedOnce v d k s (rs ++ (ws ++ xs))) (failed_more v d k from rs (ws ++ xs) (inl (run_failed v before))) (λ s h. failed_more v d k s rs (ws ++ xs) (failed_more v d k s ws xs h))));
+                deeds_map d (k + 2) (λ s. (s < page + 1) × HasFailedOnce v d k s (rs ++ (ws ++ xs))) (λ s. ((s ≡ page + 1) × (page + 1 ≡ page + 1 + (k + 2))) ⊎ ((s < page + 1) × HasFailedOnce v d k s (rs ++ (ws ++ xs)))) (rs ++ (ws ++ xs)) (λ s h. inr h)
+                (deeds_none giving_back d (k + 2) (λ s. (s < page + 1) × HasFailedOnce v d k s (rs ++ (ws ++ xs))) rs (ws ++ xs) refl r.kinds
+                (claim_deeds claim v met before (λ s. (s < page + 1) × HasFailedOnce v d k s (rs ++ (ws ++ xs))) (omega (arith, first, ge), failed_more v d k from rs (ws ++ xs) (inl (run_failed v before)))
+                (λ s lt h. (omega (arith, lt, first, ge), failed_more v d k s rs (ws ++ xs) (failed_more v d k s ws xs h)))));
           }
 
     -- the whole run is held
@@ -557,6 +525,9 @@ module _ {σ σ1 : Standing} (d : Directory) (k from free next : ℕ) (so : Soug
           shows = claim_shows claim;
           lacks = λ p out. right_own p zs xs (so.lacks p (out_fewer from free next p last out)) ∙ ap (λ s. has_right s p) (sym (append-nil zs)) ∙ holds_it.lacks [] (λ q. refl) p (out_later from free next p first out);
           kinds = claim_kinds claim;
+          rise = claim_rise claim;
+          below = claim_below claim next last claim.made;
+          returns = claim_returns claim;
           low = so.low;
           order = (omega (arith, first, last), omega arith);
           within = so.within;
@@ -570,8 +541,11 @@ module _ {σ σ1 : Standing} (d : Directory) (k from free next : ℕ) (so : Soug
           alone = holds_it.alone xs so.alone;
           steady = claim_steady claim;
           bad = claim_bad claim;
-          deeds = λ v met agreed. claim_deeds claim v met agreed (λ s. ((s ≡ from) × (next ≡ from + (k + 2))) ⊎ HasFailedOnce v d k s (zs ++ xs)) (inl (refl, whole)) (λ s h. inr (failed_more v d k s zs xs h));
+          deeds = λ v met agreed. claim_deeds claim v met agreed (λ s. ((s ≡ from) × (next ≡ from + (k + 2))) ⊎ ((s < from) × HasFailedOnce v d k s (zs ++ xs))) (inl (refl, whole)) (λ s lt h. inr (lt, failed_more v d k s zs xs h));
         }
+
+abbrev HeldRun : View → Directory → ℕ → ℕ → List Made → Type 0
+HeldRun v d k first before = AllUsable d (k + 2) first before × HoldsRunWhole v k first before
 
 pub anything_goes : {σ σ1 : Standing} (d : Directory) (k from next : ℕ) → Sought d k from next next σ σ1 → CanCall σ (MayFind d) → CanCall σ1 AnyView
 anything_goes d k from next so can = record { view = so.steps ++ can.view; whole = _; stood = so.adds.added can.view can.whole can.stood can.met; met = tt }
@@ -607,11 +581,27 @@ module _ {σ σ1 σ2 : Standing} (d : Directory) (k from next high : ℕ) (whole
   look_kinds : Only seeking (ls ++ us)
   look_kinds = only_both seeking ls us (only_within backed_looks seeking ls refl looks.kinds) so.kinds
 
+  look_rise : DeedsRise (ls ++ us)
+  look_rise = rise_later backed_looks next ls us refl looks.kinds so.below so.rise
+
+  look_below : DeedsBelow next (ls ++ us)
+  look_below = below_later backed_looks next ls us refl looks.kinds so.below
+
+  look_returns : Always ReturnsDuly (ls ++ us)
+  look_returns = duly_both ls us (duly_none backed_looks ls refl refl looks.kinds) so.returns
+
   look_lacks : (p : ℕ) → in_span from next p ≡ false → has_right (ls ++ us) p ≡ false
   look_lacks p out = right_own p ls us (so.lacks p out) ∙ lacks_by backed_looks refl p ls looks.kinds
 
   usable_now : (b : List Made) → AllUsable d (k + 2) from (b ++ us)
   usable_now b p is = let lt = is.1 in usable_later d p b us (so.usable p is.0 (omega (arith, lt, whole)))
+
+  -- all pages of the run had been read as usable, and are held
+  held_run : (v : View) (met : MayFind d v) → Agreed g_ v us → (b : List Made) → Only backed_looks b → HeldRun v d k from (b ++ us)
+  held_run v met agreed b only = (
+    usable_now b,
+    λ g is. let lt = is.1 in ap (λ s. holds s g) (append_assoc b us v) ∙ holds_same backed_looks refl g b (us ++ v) only ∙ held_page v met agreed (g / 256) is.0 (omega (arith, lt, whole)) g refl,
+  )
 
   look_steady : (v : View) (met : MayFind d v) → Agreed g_ v (ls ++ us) → (p : ℕ) → HoldsWhole p v → (g : ℕ) → g / 256 ≡ p → StaysPut g (ls ++ us)
   look_steady v met agreed p kept_whole g at = steady_both g ls us (steady_kinds backed_looks refl g ls looks.kinds) (so.steady v met (agreed_later g_ v ls us agreed) p kept_whole g at)
@@ -619,9 +609,9 @@ module _ {σ σ1 σ2 : Standing} (d : Directory) (k from next high : ℕ) (whole
   look_bad : (v : View) (met : MayFind d v) → Agreed g_ v (ls ++ us) → (s : ℕ) → 1 ≤ s → s < from → IsBad v d k s (ls ++ us)
   look_bad v met agreed s low lt = bad_more v d k s ls us (so.bad v met (agreed_later g_ v ls us agreed) s low lt)
 
-  look_deeds : (v : View) (met : MayFind d v) → Agreed g_ v (ls ++ us) → (P : ℕ → Type 0) → P from → ((s : ℕ) → HasFailedOnce v d k s us → P s) → DeedsOf d (k + 2) P (ls ++ us)
+  look_deeds : (v : View) (met : MayFind d v) → Agreed g_ v (ls ++ us) → (P : ℕ → Type 0) → P from → ((s : ℕ) → s < from → HasFailedOnce v d k s us → P s) → DeedsOf d (k + 2) P (ls ++ us)
   look_deeds v met agreed P its more = deeds_none backed_looks d (k + 2) P ls us refl looks.kinds
-      (deeds_map d (k + 2) (λ s. ((s ≡ from) × (next ≡ from + (k + 2))) ⊎ HasFailedOnce v d k s us) P us (λ s h. elim h [ inl run ↦ subst P (sym run.0) its | inr failed ↦ more s failed ]) (so.deeds v met (agreed_later g_ v ls us agreed)))
+      (deeds_map d (k + 2) (λ s. ((s ≡ from) × (next ≡ from + (k + 2))) ⊎ ((s < from) × HasFailedOnce v d k s us)) P us (λ s h. elim h [ inl run ↦ subst P (sym run.0) its | inr failed ↦ more s failed.0 failed.1 ]) (so.deeds v met (agreed_later g_ v ls us agreed)))
 
 module _ {σ σ1 σ2 : Standing} (d : Directory) (k from next high : ℕ) (whole : next ≡ from + (k + 2)) (last : high + 1 ≡ next) (so : Sought d k from next next σ σ1) where
   -- neither is backed
@@ -631,6 +621,8 @@ module _ {σ σ1 σ2 : Standing} (d : Directory) (k from next high : ℕ) (whole
         steps = ls ++ us;
         adds = call.adds;
         kinds = look_kinds d k from next high whole last so looks;
+        rise = look_rise d k from next high whole last so looks;
+        returns = look_returns d k from next high whole last so looks;
         shows = look_shows d k from next high whole last so looks;
         few = (let j = length-append ls us in let a = looks.few in let c = so.few in let region = so.within.1 in let order = so.order.0 in omega (arith, j, a, c, region, order));
         steady = look_steady d k from next high whole last so looks;
@@ -650,7 +642,7 @@ module _ {σ σ1 σ2 : Standing} (d : Directory) (k from next high : ℕ) (whole
                 subst (λ p. Since (BackedReadHere v p 0) (LeftSince p) (ls ++ us)) (high_is d k from next high whole last so looks) (outer_zero v high ls us looks.kinds (held_page d k from next high whole last so looks v met before high (omega (arith, whole, last)) (omega (arith, last))) looks.outcome.1),
               );
           lower = look_bad d k from next high whole last so looks;
-          deeds = λ v met agreed. look_deeds d k from next high whole last so looks v met agreed (λ s. (s ≡ from) ⊎ HasFailedOnce v d k s (ls ++ us)) (inl refl) (λ s h. inr (failed_more v d k s ls us h));
+          deeds = λ v met agreed. look_deeds d k from next high whole last so looks v met agreed (λ s. (s ≡ from) ⊎ ((s < from) × HasFailedOnce v d k s (ls ++ us))) (inl refl) (λ s lt h. inr (lt, failed_more v d k s ls us h));
         };
       }
 
@@ -664,9 +656,9 @@ module _ {σ σ1 σ2 : Standing} (d : Directory) (k from next high : ℕ) (whole
 
     outer : (v : View) (met : MayFind d v) → Agreed σ.seat.profile v (ls_ ++ us_) → Once (OuterFailsHere v d k from) (ls_ ++ us_)
     outer v met agreed =
-        let f = σ.seat.profile in let before = agreed_later f v ls_ us_ agreed in let had = usable_now d k from next high whole last so looks in let R = AllUsable d (k + 2) from in elim looks.outcome [
-          | inl low ↦ once_map (λ m b. R b × BackedReadHere v from 1 m b) (OuterFailsHere v d k from) (ls_ ++ us_) (λ m b x. (x.0, inl x.1)) (outer_some f v from R ls_ us_ had looks.kinds agreed (held_page d k from next high whole last so looks v met before from (omega arith) (omega (arith, whole))) low)
-          | inr up ↦ once_map (λ m b. R b × BackedReadHere v high 1 m b) (OuterFailsHere v d k from) (ls_ ++ us_) (λ m b x. (x.0, inr (subst (λ p. BackedReadHere v p 1 m b) (high_is d k from next high whole last so looks) x.1)))
+        let f = σ.seat.profile in let before = agreed_later f v ls_ us_ agreed in let had = held_run d k from next high whole last so looks v met before in let R = HeldRun v d k from in elim looks.outcome [
+          | inl low ↦ once_map (λ m b. R b × BackedReadHere v from 1 m b) (OuterFailsHere v d k from) (ls_ ++ us_) (λ m b x. (x.0.0, (x.0.1, inl x.1))) (outer_some f v from R ls_ us_ had looks.kinds agreed (held_page d k from next high whole last so looks v met before from (omega arith) (omega (arith, whole))) low)
+          | inr up ↦ once_map (λ m b. R b × BackedReadHere v high 1 m b) (OuterFailsHere v d k from) (ls_ ++ us_) (λ m b x. (x.0.0, (x.0.1, inr (subst (λ p. BackedReadHere v p 1 m b) (high_is d k from next high whole last so looks) x.1))))
               (outer_some f v high R ls_ us_ had looks.kinds agreed (held_page d k from next high whole last so looks v met before high (omega (arith, whole, last)) (omega (arith, last))) up)
         ]
 
@@ -687,8 +679,8 @@ module _ {σ σ1 σ2 : Standing} (d : Directory) (k from next high : ℕ) (whole
     pub can_slide : CanCall σ (MayFind d) → CanCall σ2 (MayPutAndLeave from d (masked from full))
     can_slide can = next_call (look_call d k from next high whole last so looks) can slide_may
 
-    pub seek_slide : {σ3 : Standing} → PutsAndLeaves from d full σ2 σ3 → Sought d k (from + 1) next next σ σ3
-    seek_slide h =
+    pub seek_slide : {σ3 : Standing} → CanCall σ (MayFind d) → PutsAndLeaves from d full σ2 σ3 → Sought d k (from + 1) next next σ σ3
+    seek_slide can h =
         let f = σ.seat.profile in let ps = h.after ++ h.puts in let call = look_call d k from next high whole last so looks in let left = leads_at call.adds.seat_is h.calls.leads in record {
           steps = ps ++ (ls_ ++ us_);
           adds = adds_call call.adds h.calls.adds (λ v l stood met. slide_may v met (call.leads.from v met (call.adds.agreed v l stood met)));
@@ -703,6 +695,9 @@ module _ {σ σ1 σ2 : Standing} (d : Directory) (k from next high : ℕ) (whole
             | inr ne ↦ right_on from p ps (ls_ ++ us_) h.on ne ∙ look_lacks d k from next high whole last so looks p (but_first from next p ne ∙ out)
           ];
           kinds = only_both seeking ps (ls_ ++ us_) (only_within giving_back seeking ps refl h.kinds) (look_kinds d k from next high whole last so looks);
+          rise = rise_later giving_back next ps (ls_ ++ us_) refl h.kinds (look_below d k from next high whole last so looks) (look_rise d k from next high whole last so looks);
+          below = below_later giving_back next ps (ls_ ++ us_) refl h.kinds (look_below d k from next high whole last so looks);
+          returns = first_duly d from next call can (look_returns d k from next high whole last so looks) (omega (arith, whole)) h;
           low = omega arith;
           order = (omega (arith, whole), omega arith);
           within = (omega (arith, whole), so.within.1);
@@ -720,9 +715,9 @@ module _ {σ σ1 σ2 : Standing} (d : Directory) (k from next high : ℕ) (whole
             | inr above ↦ (let e : from ≡ s = omega (arith, above, under) in inr (subst (λ x. Once (OuterBackedHere v k x) (ls_ ++ us_)) e (once_map (OuterFailsHere v d k from) (OuterBackedHere v k from) (ls_ ++ us_) (λ m b x. x.1) (outer v met before))))
           ]);
           deeds = λ v met agreed. let before = agreed_later f v ps (ls_ ++ us_) agreed in
-              deeds_none giving_back d (k + 2) (λ s. ((s ≡ from + 1) × (next ≡ from + 1 + (k + 2))) ⊎ HasFailedOnce v d k s (ps ++ (ls_ ++ us_))) ps (ls_ ++ us_) refl h.kinds
-              (look_deeds d k from next high whole last so looks v met before (λ s. ((s ≡ from + 1) × (next ≡ from + 1 + (k + 2))) ⊎ HasFailedOnce v d k s (ps ++ (ls_ ++ us_)))
-              (inr (failed_more v d k from ps (ls_ ++ us_) (inr (outer v met before)))) (λ s h. inr (failed_more v d k s ps (ls_ ++ us_) (failed_more v d k s ls_ us_ h))));
+              deeds_none giving_back d (k + 2) (λ s. ((s ≡ from + 1) × (next ≡ from + 1 + (k + 2))) ⊎ ((s < from + 1) × HasFailedOnce v d k s (ps ++ (ls_ ++ us_)))) ps (ls_ ++ us_) refl h.kinds
+              (look_deeds d k from next high whole last so looks v met before (λ s. ((s ≡ from + 1) × (next ≡ from + 1 + (k + 2))) ⊎ ((s < from + 1) × HasFailedOnce v d k s (ps ++ (ls_ ++ us_))))
+              (inr (omega arith, failed_more v d k from ps (ls_ ++ us_) (inr (outer v met before)))) (λ s lt h. inr (omega (arith, lt), failed_more v d k s ps (ls_ ++ us_) (failed_more v d k s ls_ us_ h))));
         }
 
 -- ---- the looks at the outer pages

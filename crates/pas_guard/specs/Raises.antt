@@ -17,6 +17,8 @@ use Rattle.pas_steps.specs.Views.{View}
 use Rattle.pas_steps.specs.declared.step.Made.{Made}
 use Rattle.pas_rights.specs.Gives.{give_steps}
 use Rattle.pas_rights.specs.Leaves.{LeaveSteps}
+use Rattle.pas_search.specs.Kinds.{ReturnsDuly}
+use Rattle.pas_large.specs.Evidence.{DeedsRise}
 use Rattle.pas_large.specs.Gives.{BackStep, BacksIn, pages_from, run_block}
 use Rattle.pas_large.specs.Pages.{OnlyDeedsShow}
 use Rattle.pas_guard.specs.Books.{is_outer, FitsBook}
@@ -62,15 +64,18 @@ pub record IsNotRaised (f : Profile) (d : Directory) (k : ℕ) (guards guards' :
 abbrev pub BacksNot : ℕ → List Made → Type 0
 BacksNot page = Always (λ m before. m.step ≡ Back page → ⊥)
 
--- What a raise does, in the actor's own steps: the search, and what comes after it. The actor fits the book before and afterwards. The outer pages of
--- the guards that were up are left alone: no step moves a grain of theirs or backs one. At most 71 steps for each page of the region, 12 for each page
--- that is asked for, and 26 more.
+-- What a raise does, in the actor's own steps: the search, and what comes after it. The actor fits the book before and afterwards. The search makes its deeds
+-- from the lowest page up. It gives up, takes back and hints no page but one that it got, hints none but one that it read as backed and empty, and puts no
+-- grain but one that it took. The outer pages of the guards that were up are left alone: no step moves a grain of theirs or backs one. At most 71 steps for each
+-- page of the region, 12 for each page that is asked for, and 26 more.
 pub record RaiseSteps (f : Profile) (heap k : ℕ) (guards guards' : List Guard) (answer : Option Block) (steps : List Made) : Type 0 where
   pub searched : List Made
   pub after : List Made
   pub steps_are : steps ≡ after ++ searched
   pub fits : Leads f (FitsBook f guards) (λ v w. FitsBook f guards' w) steps
   pub kinds : Only seeking searched
+  pub rise : DeedsRise searched
+  pub returns : Always ReturnsDuly searched
   pub shows : OnlyDeedsShow f searched
   pub few : length steps ≤ 71 * f.pages + 12 * k + 26
   pub steady : (v : View) → FitsBook f guards v → Agreed f v steps → (g : ℕ) → is_outer guards (g / 256) ≡ true → StaysPut g steps

@@ -7,12 +7,13 @@ use Rattle.pas_steps.specs.Agreement.{Agreed}
 use Rattle.pas_steps.specs.Calls.{Leads, nothing, Does}
 use Rattle.pas_steps.specs.Desks.{Standing, AnyView, Adds}
 use Rattle.pas_steps.specs.Kinds.{Kinds, LookBacked, Only}
-use Rattle.pas_steps.specs.Past.{Once, Since}
+use Rattle.pas_steps.specs.Past.{Once, Always, Since}
 use Rattle.pas_steps.specs.Views.{View, holds, has_right, known_deed}
 use Rattle.pas_steps.specs.declared.step.Made.{Made}
 use Rattle.pas_steps.specs.declared.step.Step.TheVariants.{Look}
 use Rattle.pas_large.specs.Claims.{in_span, LacksAll, StaysPut}
-use Rattle.pas_large.specs.Evidence.{AllUsable, DeedsOf, IsTakenRun}
+use Rattle.pas_search.specs.Kinds.{ReturnsDuly}
+use Rattle.pas_large.specs.Evidence.{AllUsable, DeedsOf, DeedsRise, IsTakenRun}
 use Rattle.pas_large.specs.Finds.{MayFind, finding}
 use Rattle.pas_large.specs.Pages.{GotPages, OnlyDeedsShow}
 use Rattle.pas_guard.specs.Guarded.{LeavesGuard}
@@ -55,7 +56,7 @@ abbrev pub seeking : Kinds
 seeking = LookBacked ∷ finding
 
 -- The run is the actor's. Its pages were read as usable and then taken whole, with rights that were kept since, and its outer pages were read as not
--- backed while they were held: so it didn't break. Each lower run can't be guarded, and each deed is of a page of this run or of one that failed.
+-- backed while they were held: so it didn't break. Each lower run can't be guarded, and each deed is of a page of this run or of a lower one that failed.
 pub record SoughtRun (f : Profile) (d : Directory) (k : ℕ) (steps : List Made) (first : ℕ) : Type 0 where
   pub of_region : (1 ≤ first) × (first + (k + 2) ≤ f.pages + 1)
   pub got : Leads f (MayFind d) (HasSpan d first (first + (k + 2))) steps
@@ -63,7 +64,7 @@ pub record SoughtRun (f : Profile) (d : Directory) (k : ℕ) (steps : List Made)
   pub taken : (v : View) → MayFind d v → Agreed f v steps → IsTakenRun d (k + 2) first steps
   pub bare : (v : View) → MayFind d v → Agreed f v steps → Since (BackedReadHere v first 0) (LeftSince first) steps × Since (BackedReadHere v (first + k + 1) 0) (LeftSince (first + k + 1)) steps
   pub lower : (v : View) → MayFind d v → Agreed f v steps → (other : ℕ) → 1 ≤ other → other < first → IsBad v d k other steps
-  pub deeds : (v : View) → MayFind d v → Agreed f v steps → DeedsOf d (k + 2) (λ other. (other ≡ first) ⊎ HasFailedOnce v d k other steps) steps
+  pub deeds : (v : View) → MayFind d v → Agreed f v steps → DeedsOf d (k + 2) (λ other. (other ≡ first) ⊎ ((other < first) × HasFailedOnce v d k other steps)) steps
 
 -- No run can be guarded, and all is as it was but for the deeds, each of a page of a run that failed.
 pub record SoughtNone (f : Profile) (d : Directory) (k : ℕ) (steps : List Made) : Type 0 where
@@ -72,11 +73,15 @@ pub record SoughtNone (f : Profile) (d : Directory) (k : ℕ) (steps : List Made
   pub deeds : (v : View) → MayFind d v → Agreed f v steps → DeedsOf d (k + 2) (λ other. HasFailedOnce v d k other steps) steps
   pub lacks : LacksAll steps
 
--- At most 71 steps for each page of the region, and two more. No step moves a grain of a page that was held whole before.
+-- At most 71 steps for each page of the region, and two more. Deeds are made from the lowest page up. No page is given up, taken back or hinted but one that
+-- the search got, none is hinted but one that it read as backed and empty, and no grain is put but one that it took. No step moves a grain of a page that was
+-- held whole before.
 pub record Seeks (d : Directory) (k : ℕ) (desk desk' : Standing) (found : Option ℕ) : Type 0 where
   pub steps : List Made
   pub adds : Adds desk desk' (MayFind d) steps
   pub kinds : Only seeking steps
+  pub rise : DeedsRise steps
+  pub returns : Always ReturnsDuly steps
   pub shows : OnlyDeedsShow desk.seat.profile steps
   pub few : length steps ≤ 71 * desk.seat.profile.pages + 2
   pub steady : (v : View) → MayFind d v → Agreed desk.seat.profile v steps → (page : ℕ) → HoldsWhole page v → (g : ℕ) → g / 256 ≡ page → StaysPut g steps

@@ -14,8 +14,8 @@ impl GuardBook {
     /// A block of so many whole pages of the heap between two pages of the heap that aren't backed, which the actor holds whole then.
     ///
     /// It stands in the lowest run of `pages + 2` pages that can be claimed and whose outer pages are read as not backed. None where each such run has a
-    /// page that was read as not usable, or was lost or broken, or an outer page that was read as backed while it was held whole. The deeds that were made
-    /// stay. At most one event for each deed that isn't known, and `pages + 1` more.
+    /// page that was read as not usable, or was lost or broken, or an outer page that was read as backed while the run was held whole. The deeds that were
+    /// made, from the lowest page up, stay. At most one event for each deed that isn't known, and `pages + 1` more.
     pub fn raise<D: Desk>(&mut self, desk: &mut D, heap: u8, pages: u32) -> Option<Block>
         requires book { length (guards_in self.old) < size_of_book self.old }
         requires heap { heap < (D.standing desk.old).seat.profile.heaps }

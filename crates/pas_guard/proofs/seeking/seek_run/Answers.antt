@@ -12,7 +12,7 @@ release-requires-clause-can g c = let i = c.loop-next.invariant in can_release_l
 
 pub returns-in-None-clause-seeks : goal.returns-in-None-clause-seeks
 returns-in-None-clause-seeks g c = let i = c.loop-next.invariant in let short = c.if-next-from.true in
-    seek_ends (large_directory c.args.heap) c.args.pages c.loop-next.from c.loop-next.free c.loop-next.next i.so_far (omega (arith, short)) c.in-None.ensures.found c.release.ensures.releases
+    seek_ends (large_directory c.args.heap) c.args.pages c.loop-next.from c.loop-next.free c.loop-next.next i.so_far (may_find c.requires.can) (omega (arith, short)) c.in-None.ensures.found c.release.ensures.releases
 
 pub loop-next-preserved-then-page-next : goal.loop-next-preserved-then-page-next
 loop-next-preserved-then-page-next g c = let i = c.loop-next.invariant in let short = c.if-next-from.true in record {
@@ -25,7 +25,7 @@ release-requires-else-page-next-clause-can g c = let i = c.loop-next.invariant i
 
 pub loop-next-preserved-else-page-next : goal.loop-next-preserved-else-page-next
 loop-next-preserved-else-page-next g c = let i = c.loop-next.invariant in let short = c.if-next-from.true in record {
-  so_far = seek_jump (large_directory c.args.heap) c.args.pages c.loop-next.from c.loop-next.free c.loop-next.next i.so_far c.in-Some.page c.if-page-next.false (omega (arith, short)) c.in-Some.ensures.found c.release-else-page-next.ensures.releases;
+  so_far = seek_jump (large_directory c.args.heap) c.args.pages c.loop-next.from c.loop-next.free c.loop-next.next i.so_far (may_find c.requires.can) c.in-Some.page c.if-page-next.false (omega (arith, short)) c.in-Some.ensures.found c.release-else-page-next.ensures.releases;
   home = c.release-else-page-next.ensures.home ∙ c.in-Some.ensures.home ∙ i.home;
 }
 
@@ -39,7 +39,7 @@ release-requires-in-Some-claim_run-clause-can g c = let i = c.loop-next.invarian
 
 pub loop-next-preserved-in-Some-claim_run : goal.loop-next-preserved-in-Some-claim_run
 loop-next-preserved-in-Some-claim_run g c = let i = c.loop-next.invariant in let within = i.so_far.within.0 in let long = c.if-next-from.false in record {
-  so_far = seek_lost (large_directory c.args.heap) c.args.pages c.loop-next.from c.loop-next.free c.loop-next.next i.so_far (omega (arith, within, long)) c.in-Some-claim_run.page c.in-Some-claim_run.ensures.claims c.release-in-Some-claim_run.ensures.releases;
+  so_far = seek_lost (large_directory c.args.heap) c.args.pages c.loop-next.from c.loop-next.free c.loop-next.next i.so_far (omega (arith, within, long)) c.in-Some-claim_run.page c.in-Some-claim_run.ensures.claims (may_find c.requires.can) c.release-in-Some-claim_run.ensures.releases;
   home = c.release-in-Some-claim_run.ensures.home ∙ c.in-Some-claim_run.ensures.home ∙ i.home;
 }
 
@@ -63,6 +63,6 @@ pub loop-next-preserved : goal.loop-next-preserved
 loop-next-preserved g c = let i = c.loop-next.invariant in let within = i.so_far.within.0 in let long = c.if-next-from.false in
     let whole : c.loop-next.next ≡ c.loop-next.from + (c.args.pages + 2) = omega (arith, within, long) in record {
       so_far = seek_slide (large_directory c.args.heap) c.args.pages c.loop-next.from c.loop-next.next (c.loop-next.next - 1) whole (omega (arith, whole))
-          (seek_claimed (large_directory c.args.heap) c.args.pages c.loop-next.from c.loop-next.free c.loop-next.next i.so_far whole c.in-None-claim_run.ensures.claims) c.if-are_bare.ensures.looks c.put_and_leave.ensures.puts;
+          (seek_claimed (large_directory c.args.heap) c.args.pages c.loop-next.from c.loop-next.free c.loop-next.next i.so_far whole c.in-None-claim_run.ensures.claims) c.if-are_bare.ensures.looks (may_find c.requires.can) c.put_and_leave.ensures.puts;
       home = c.put_and_leave.ensures.home ∙ c.if-are_bare.ensures.home ∙ c.in-None-claim_run.ensures.home ∙ i.home;
     }
