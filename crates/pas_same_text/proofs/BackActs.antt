@@ -16,30 +16,28 @@ use Rattle.pas_free_log.specs.Conditions.{IsEntryOf}
 use Rattle.pas_free_log.specs.Logs.{entry_of, sized_entry}
 use Rattle.pas_free_log.specs.declared.log.Entry.{Entry}
 use Rattle.pas_free_log.specs.declared.noting.EndedRun.{EndedRun}
-use Rattle.pas_cache.specs.Caches.{AtRest}
 use Rattle.pas_cache.specs.Calls.{TakesEntry}
 use Rattle.pas_cache.specs.Changes.{LogsEntry, EmptiesFull}
 use Rattle.pas_cache.specs.Contents.{Cached}
-use Rattle.pas_cache.specs.Locals.{RestsWith}
+use Rattle.pas_guard.specs.declared.book.Guard.{Guard}
 use Rattle.pas_segregated.specs.declared.slots.Slots.{Slots}
 use Rattle.pas_report.specs.declared.record.Record.{Record}
 use Rattle.pas_report.specs.declared.record.Said.{Said as TheSaid}
 use Rattle.pas_report.specs.declared.record.Said.TheVariants as Said
 use Rattle.pas_trace.specs.Acts.{Act}
 use Rattle.pas_trace.specs.EveryPlan.{IsThread}
-use Rattle.pas_trace.specs.declared.plan.What.TheVariants.{Free, FreeSized, Raw, RawSized, Remake, Flush, Stop}
-use Rattle.pas_answers.specs.Answers.{Progress, Named, named, Answer, having, IsRemadeBy, IsFreed, IsFreedBy, IsFlushed, IsStopped, standing_for, records_of, said_by, with_records, with_steps, after_answer, after_stop, room_noted}
+use Rattle.pas_trace.specs.declared.plan.What.TheVariants.{Free, FreeSized, Raw, RawSized, Flush, Stop}
+use Rattle.pas_answers.specs.Answers.{Progress, Named, named, Answer, having, suits, IsRemadeBy, IsFreed, IsFreedBy, IsFlushed, IsStopped, standing_for, records_of, said_by, with_records, with_steps, after_answer, after_stop, room_noted}
 use Rattle.pas_answers.specs.Answers.{with_cache as with_cached}
 use Rattle.pas_one_text.specs.State.{World, Cache, cache_of, set_cache, log_of, says, names_it}
 use Rattle.pas_one_text.specs.Order.{keeps_block, replaces, remakes}
 use Rattle.pas_one_text.specs.Frees.{adds, frees, frees_what, frees_named, flushes, stops}
 use Rattle.pas_one_text.specs.Passes.{stops_idle}
 use Rattle.pas_same_text.specs.Same.{IsSame, IsSameCache}
-use Rattle.pas_same_text.specs.Acts.{IsBetween, IsTaken, AreBlocksUsable, HasUsableBlocks, StaysSameWhere}
+use Rattle.pas_same_text.specs.Acts.{HasBoth, IsResting, IsBetween, AreBlocksUsable, HasUsableBlocks, StaysSameWhere}
 use Rattle.pas_same_text.proofs.CacheLists.{same_own, same_with, same_again}
 use Rattle.pas_same_text.proofs.FlushActs.{flush_same}
 use Rattle.pas_same_text.proofs.Frames.{unchanged, pages_next}
-use Rattle.pas_same_text.specs.Plans.{IsIdleRemake}
 use Rattle.pas_same_text.proofs.LoggedFrees.{after_with, said_same, nothing_more, page_inside, freed_is, refused_same, skipped_same, freed_same}
 use Rattle.pas_same_text.proofs.SmallActs.{says_same, cache_state}
 use Rattle.pas_same_text.proofs.StopActs.{stop_same}
@@ -123,9 +121,9 @@ idle_act f k n is p p' w usable taken = elim taken.advances [
 
 -- ==== FREES INTO ANY LOG
 -- an actor that is at rest with a cache is so with an empty log
-rest_emptied : (f : Profile) (c c' : Cached) (noted : List EndedRun) (v : View) → c'.locals ≡ c.locals → AtRest f c' v → AtRest f (record c { log = []; noted = noted }) v
-rest_emptied f c c' noted v is rest = record {
-  locals = subst (λ (ls : List Slots). RestsWith f ls v) is rest.locals;
+rest_emptied : (f : Profile) (c c' : Cached) (noted : List EndedRun) (guards : List Guard) (v : View) → c'.locals ≡ c.locals → IsResting f c' guards v → IsResting f (record c { log = []; noted = noted }) guards v
+rest_emptied f c c' noted guards v is rest = record {
+  locals = subst (λ (ls : List Slots). HasBoth f ls guards v) is rest.locals;
   few = subst (λ (ls : List Slots). length ls ≤ 32) is rest.few;
   entries = All-nil (IsEntryOf f);
   few_entries = omega arith;
@@ -145,15 +143,15 @@ module _ (f : Profile) (k : ℕ) (entry : Entry) (p : Progress) (w : World) (c' 
   both : EmptiesFull true k c.log logged.kept c.noted c'.noted steps
   both = subst (λ (t : Bool). EmptiesFull t k c.log logged.kept c.noted c'.noted steps) full logged.emptied
 
-  rest_at : (j : ℕ) (t : Bool) (v : View) → AtRest f (if t then c' else p.caches j) v → AtRest f (if t then emptied else p.caches j) v
-  rest_at j true v rest = rest_emptied f c c' c'.noted v (ap (λ (d : Cached). d.locals) takes.cache) rest
-  rest_at j false v rest = rest
+  rest_at : (j : ℕ) (t : Bool) (guards : List Guard) (v : View) → IsResting f (if t then c' else p.caches j) guards v → IsResting f (if t then emptied else p.caches j) guards v
+  rest_at j true guards v rest = rest_emptied f c c' c'.noted guards v (ap (λ (d : Cached). d.locals) takes.cache) rest
+  rest_at j false guards v rest = rest
 
   abbrev q : Progress
   q = with_steps p k steps emptied
 
   between : IsBetween f q
-  between = record { legal = after.legal; rest = record { working = λ j is. rest_at j (j == k) (part j q.list) (after.rest.working j is); keeping = after.rest.keeping; scavenger = after.rest.scavenger } }
+  between = record { legal = after.legal; rest = record { working = λ j is. rest_at j (j == k) (p.books j) (part j q.list) (after.rest.working j is); none = after.rest.none; beside = after.rest.beside; bare = after.rest.bare; scavenger = after.rest.scavenger } }
 
   flushed_first : IsSame f (with_records q (records_of (events_by k (part k p.list) steps))) (flushes f k w)
   flushed_first = flush_same f k p w steps emptied valid thread before same usable both.0 refl between
@@ -261,7 +259,13 @@ remade_as f k name o said p p' w a same reached steps cache is names =
     ∙ ap (λ (ns : List Named). after_with p k [] (Some said) ns (p.caches k)) names)))))
     (named_same f k name o said p w same)
 
-remakes_idly : (f : Profile) (k name size align : ℕ) (meant : Option (Option Block)) (p p' : Progress) (w : World) (a : Answer) → IsIdleRemake size align meant → IsSame f p w → p' ≡ after_answer p k a
+-- of reallocations those that do nothing: the block suits as it is, or the old name stands for none
+abbrev pub IsIdleRemake : ℕ → ℕ → Option (Option Block) → Type 0
+IsIdleRemake size align None = Unit {0}
+IsIdleRemake size align (Some None) = Unit {0}
+IsIdleRemake size align (Some (Some old)) = suits old size align ≡ true
+
+pub remakes_idly : (f : Profile) (k name size align : ℕ) (meant : Option (Option Block)) (p p' : Progress) (w : World) (a : Answer) → IsIdleRemake size align meant → IsSame f p w → p' ≡ after_answer p k a
     → IsRemadeBy f k name size align meant (having p.names (part k p.list) (p.caches k)) a → IsSame f p' (remakes f k name size align meant w)
 remakes_idly f k name size align None p p' w a idle same reached h = absurd h
 remakes_idly f k name size align (Some None) p p' w a idle same reached h = remade_as f k name None (Said.Skipped name) p p' w a same reached h.0 h.1 h.2 h.3
@@ -269,9 +273,3 @@ remakes_idly f k name size align (Some (Some old)) p p' w a idle same reached (i
     subst (λ (t : Bool). IsSame f p' (if t then keeps_block k name old w else replaces f k name old size align w)) (sym idle)
     (remade_as f k name (Some old) (Said.Kept old.name name) p p' w a same reached kept.no_steps kept.cache kept.said_is kept.names_are)
 remakes_idly f k name size align (Some (Some old)) p p' w a idle same reached (inr replaced) = absurd (false≢true (sym replaced.unsuited ∙ idle))
-
-pub remake_act : (f : Profile) (line k name old heap size align : ℕ) (p p' : Progress) (w : World) → IsIdleRemake size align (standing_for p.names old) → IsTaken f (Act.Operates (record { line = line; actor = k; what = Remake name old heap size align })) p p' w
-    → IsSame f p' (remakes f k name size align (standing_for w.names old) w)
-remake_act f line k name old heap size align p p' w idle taken =
-    subst (λ (ns : List Named). IsSame f p' (remakes f k name size align (standing_for ns old) w)) (sym taken.same.names)
-    (remakes_idly f k name size align (standing_for p.names old) p p' w taken.advances.0 idle taken.same taken.advances.2 taken.advances.1)

@@ -18,14 +18,15 @@ use Rattle.pas_bitfit.specs.Allocates.{run_for}
 use Rattle.pas_bitfit.specs.Runs.{Fits, NoneFits, IsLowestFit}
 use Rattle.pas_answers.specs.Answers.{Progress}
 use Rattle.pas_one_text.specs.State.{World}
-use Rattle.pas_one_text.specs.Pages.{is_free, are_free}
+use Rattle.pas_one_text.specs.Pages.{is_free, are_free, is_guarded}
 use Rattle.pas_one_text.specs.Searches.{some_of}
 use Rattle.pas_one_text.specs.Classes.{spaced}
 use Rattle.pas_one_text.specs.Runs.{lowest_place}
 use Rattle.pas_same_text.specs.Same.{HasSame}
 use Rattle.pas_same_text.specs.Acts.{IsBetween}
 use Rattle.pas_same_text.specs.Searched.{FitsSame}
-use Rattle.pas_same_text.proofs.FreeGrains.{free_same}
+use Rattle.pas_same_text.specs.Words.{free_bit}
+use Rattle.pas_same_text.proofs.FreeGrains.{free_unless, bit_unguarded}
 use Rattle.pas_same_text.proofs.GivenBack.{each_at, each_all}
 use Rattle.pas_same_text.proofs.SpacedPlaces.{some_first, some_filtered, in_spaced, from_spaced, first_spaced}
 use Rattle.pas_same_text.proofs.Tests.{and_first, and_second}
@@ -57,28 +58,36 @@ module _ (f : Profile) (p : Progress) (w : World) (valid : IsValid f) (between :
   test page s = nat_le (s + n) 256 && are_free w page s n
 
   -- grains by both
-  reading : (page b : ℕ) → b < 256 → is_free w page b ≡ free_of_page p.list page b
-  reading page b small =
+  bit_read : (page b : ℕ) → free_bit p.list (256 * page + b) ≡ free_of_page p.list page b
+  bit_read page b =
       let turned : 256 * page + b ≡ page * 256 + b = omega arith in
       let bit : (256 * page + b) % 64 ≡ b % 64 = omega arith in
-      free_same f p w valid between same page b small
-      ∙ (ap (λ (g : ℕ). has_bit (word_after p.list (free_word_at g)) ((256 * page + b) % 64)) turned
-      ∙ ap (λ (x : ℕ). has_bit (word_after p.list (free_word_at (page * 256 + b))) x) bit)
+      ap (λ (g : ℕ). has_bit (word_after p.list (free_word_at g)) ((256 * page + b) % 64)) turned
+      ∙ ap (λ (x : ℕ). has_bit (word_after p.list (free_word_at (page * 256 + b))) x) bit
 
-  test_fits : (page s : ℕ) → s % step ≡ 0 → test page s ≡ true → Fits (run_for room align) (free_of_page p.list page) s
-  test_fits page s aligned h =
+  reading : (page b : ℕ) → b < 256 → is_guarded w page ≡ false → is_free w page b ≡ free_of_page p.list page b
+  reading page b small none = free_unless f p w valid between same page b small none ∙ bit_read page b
+
+  -- a page on which it fits is no keeper's
+  fits_unguarded : (page s : ℕ) → Fits (run_for room align) (free_of_page p.list page) s → is_guarded w page ≡ false
+  fits_unguarded page s fits =
+      let within = fits.within in
+      bit_unguarded f p w valid between same page s (omega (arith, within, some)) (bit_read page s ∙ fits.free s (omega (arith, within, some)) (omega arith) (omega (arith, some)))
+
+  test_fits : (page s : ℕ) → is_guarded w page ≡ false → s % step ≡ 0 → test page s ≡ true → Fits (run_for room align) (free_of_page p.list page) s
+  test_fits page s none aligned h =
       let within : s + n ≤ 256 = let t = and_first (nat_le (s + n) 256) (are_free w page s n) h in grind (arith, nat_tests, t) in
       record {
         aligned = aligned;
         within = within;
-        free = λ g lt low high. sym (reading page g lt) ∙ each_at n s g (is_free w page) (and_second (nat_le (s + n) 256) (are_free w page s n) h) low high;
+        free = λ g lt low high. sym (reading page g lt none) ∙ each_at n s g (is_free w page) (and_second (nat_le (s + n) 256) (are_free w page s n) h) low high;
       }
 
   fits_test : (page s : ℕ) → Fits (run_for room align) (free_of_page p.list page) s → test page s ≡ true
   fits_test page s fits =
       let within = fits.within in
       and_from (nat_le (s + n) 256) (are_free w page s n) (grind (arith, nat_tests, within))
-      (each_all n s (is_free w page) (λ b low high. reading page b (omega (arith, high, within)) ∙ fits.free b (omega (arith, high, within)) low high))
+      (each_all n s (is_free w page) (λ b low high. reading page b (omega (arith, high, within)) (fits_unguarded page s fits) ∙ fits.free b (omega (arith, high, within)) low high))
 
   some_is : (page : ℕ) → some_of (lowest_place w n step page) ≡ list_any (test page) (spaced 0 step (256 / step))
   some_is page = some_first (filter (test page) (spaced 0 step (256 / step))) ∙ some_filtered (test page) (spaced 0 step (256 / step))
@@ -94,12 +103,12 @@ module _ (f : Profile) (p : Progress) (w : World) (valid : IsValid f) (between :
       let lt : g / step < 256 / step = div_below g step (256 / step) (omega (arith, low)) (omega (arith, whole, within, some)) in
       in_spaced (test page) (256 / step) 0 step (g / step) lt (ap (test page) (omega (arith, times)) ∙ fits_test page g fits)
 
-  pub bitfit_fits : FitsSame (NoneFits (run_for room align)) f p (lowest_place w n step)
+  pub bitfit_fits : FitsSame (NoneFits (run_for room align)) f p w (lowest_place w n step)
   bitfit_fits = record {
-    none = λ page of none. false_from_ne_true (some_of (lowest_place w n step page)) (λ h.
+    none = λ page of unguarded none. false_from_ne_true (some_of (lowest_place w n step page)) (λ h.
         let o = from_spaced (test page) (256 / step) 0 step (sym (some_is page) ∙ h) in
-        none (0 + o.0 * step) (test_fits page (0 + o.0 * step) (ap (λ (x : ℕ). x % step) (omega arith) ∙ mul-mod_left o.0 step) o.2));
-    some = λ page of fits. some_is page ∙ by_test page fits (list_any (test page) (spaced 0 step (256 / step))) refl;
+        none (0 + o.0 * step) (test_fits page (0 + o.0 * step) unguarded (ap (λ (x : ℕ). x % step) (omega arith) ∙ mul-mod_left o.0 step) o.2));
+    some = λ page of unguarded fits. some_is page ∙ by_test page fits (list_any (test page) (spaced 0 step (256 / step))) refl;
   }
     where
       by_test : (page : ℕ) → (NoneFits (run_for room align) (free_of_page p.list page) → ⊥) → (t : Bool) → list_any (test page) (spaced 0 step (256 / step)) ≡ t → t ≡ true
@@ -120,7 +129,7 @@ module _ (f : Profile) (p : Progress) (w : World) (valid : IsValid f) (between :
       lower : (j : ℕ) → j < first / step → first / step * step ≡ first → test page (0 + j * step) ≡ false
       lower j small times = false_from_ne_true (test page (0 + j * step)) (λ h.
           let low = is.0 in
-          let this : Fits (run_for room align) (free_of_page p.list page) (0 + j * step) = test_fits page (0 + j * step) (ap (λ (x : ℕ). x % step) (omega arith) ∙ mul-mod_left j step) h in
+          let this : Fits (run_for room align) (free_of_page p.list page) (0 + j * step) = test_fits page (0 + j * step) (fits_unguarded page first fits) (ap (λ (x : ℕ). x % step) (omega arith) ∙ mul-mod_left j step) h in
           let next : suc j * step ≤ first / step * step = mul-le (suc j) step (first / step) step (omega (arith, small)) (omega arith) in
           let m = suc-mul j step in
           lowest.lowest (0 + j * step) (omega (arith, next, m, times, low)) (record { aligned = this.aligned; within = this.within; free = λ b lt from to. more b lt (this.free b lt from to) }))

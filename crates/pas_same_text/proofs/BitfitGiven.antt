@@ -77,24 +77,25 @@ use Rattle.pas_same_text.proofs.CachedSlots.{block_of, block_same}
 use Rattle.pas_same_text.proofs.CacheLists.{same_kept}
 use Rattle.pas_same_text.proofs.FlushActs.{events_recorded}
 use Rattle.pas_same_text.proofs.Flushes.{visible_steps}
-use Rattle.pas_same_text.proofs.GivenPages.{room_from}
+use Rattle.pas_same_text.proofs.GivenPages.{open_from}
+use Rattle.pas_same_text.proofs.OuterPages.{guards_as, still_unguarded}
 use Rattle.pas_same_text.proofs.GivingBack.{HintsPage, OffersPage, IsMarked, once_parts, marked_parts, none_marked, returns_marked, hint_marks, offer_marks, offered_by, hints_of, hint_read, epoch_stays_by}
 use Rattle.pas_same_text.proofs.LoggedFrees.{after_with, nothing_more}
 use Rattle.pas_same_text.proofs.ReadyPages.{AllAtPage, shown, shown_events, shown_records, shown_lives, shown_rest, search_at, same_live, deed_beside, readied}
-use Rattle.pas_same_text.proofs.RestingPages.{deed_now, free_at, bit_tells, bit_offered}
+use Rattle.pas_same_text.proofs.RestingPages.{bit_at, deed_now, bit_tells, bit_offered}
 use Rattle.pas_same_text.proofs.SearchedMarks.{IsSearchedTo, hints_kept, offers_kept}
 use Rattle.pas_same_text.proofs.SearchedPages.{offered_chosen, deed_chosen}
 use Rattle.pas_same_text.proofs.SearchMarks.{free_shown}
 use Rattle.pas_same_text.proofs.StopSteps.{ReadsRoom, grain_read, leave_room}
 
 -- the page that serves isn't hinted by the search
-not_hinted : (page : ℕ) (xs : List Made) → Always (KeepsMarks page) xs → HintsPage page xs → ⊥
+pub not_hinted : (page : ℕ) (xs : List Made) → Always (KeepsMarks page) xs → HintsPage page xs → ⊥
 not_hinted page [] all h = h
 not_hinted page (m ∷ xs) all (inl h) = let o = all.0 (subst (IsReturnOf page) (sym h) IsReturnOf.Hints) in let bad : Hint page ≡ Unpark page = sym h ∙ o.0 in cc
 not_hinted page (m ∷ xs) all (inr h) = not_hinted page xs all.1 h
 
 -- one block more on another page covers no grain of this one
-one_more : (b : Block) (bs : List Block) (g : ℕ) (t : Bool) → in_run (grain_of b.name) (length_of b) g ≡ false → is_covered (if t then b ∷ bs else bs) g ≡ is_covered bs g
+pub one_more : (b : Block) (bs : List Block) (g : ℕ) (t : Bool) → in_run (grain_of b.name) (length_of b) g ≡ false → is_covered (if t then b ∷ bs else bs) g ≡ is_covered bs g
 one_more b bs g true none = ap (λ (u : Bool). u || is_covered bs g) none
 one_more b bs g false none = refl
 
@@ -181,7 +182,7 @@ module _ (f : Profile) (k name heap size align : ℕ) (p p' : Progress) (w : Wor
   agreed = agreed_steps f k l search valid legal_search
 
   may : MaySearch d own
-  may = may_search_bitfit f own heap c.locals (before.rest.working k thread).locals
+  may = may_search_bitfit f own heap c.locals served.rest.locals
 
   of_page : IsPage f page
   of_page = given.served.page
@@ -313,7 +314,7 @@ module _ (f : Profile) (k name heap size align : ℕ) (p p' : Progress) (w : Wor
     events = ap (λ (b : Block). Event.Give k b ∷ (shown es w).events) (sym block_is) ∙ (ap (λ (xs : List Event). Event.Give k block ∷ xs) (shown_events es w ∙ ap (λ (base : List Event). es ++ base) same.pages.events) ∙ sym visible_are);
     live = ap (λ (bs : List Block). told ∷ bs) (shown_lives es w same.pages.live);
     caches = subst (AreSameCaches f (with_cached p.caches k c)) (sym (shown_rest es w).caches) (same_kept f p.caches w.caches k same.caches);
-    guards = (shown_rest es w).guards ∙ same.guards;
+    guards = guards_as p.books w v (shown_rest es w).guards same.guards;
   }
 
   -- ---- other pages
@@ -357,6 +358,7 @@ module _ (f : Profile) (k name heap size align : ℕ) (p p' : Progress) (w : Wor
     offers = λ x ne h. elim (once_parts (λ m. (e : Directory) × (m.step ≡ Offer x e)) rest search h) [ inl early ↦ absurd (ne (mark_left x (offer_marks x rest early)).1) | inr later ↦ later ];
     free = λ x b ne small h. free_beside x b ne small ∙ h;
     deeds = λ x ne. ap (λ (xs : List Event). deed_in xs x) (shown_events es w) ∙ deed_beside k d page x es w.events ne at;
+    guarded = λ x ne none. still_unguarded w v x (shown_rest es w).guards none;
   }
 
   -- ---- the leave, after the block was given
@@ -451,7 +453,7 @@ module _ (f : Profile) (k name heap size align : ℕ) (p p' : Progress) (w : Wor
       let free : has_bit (word_after q.list (Word.Free page (r.grain / 64))) (r.grain % 64) ≡ true =
       ap (λ (m : Whole). has_bit (word_after m (Word.Free page (r.grain / 64))) (r.grain % 64)) list_is ∙ grain_read returning refl f k base page r.grain given.left legal_left given.left_kinds r.read in
       bit_offered f q v valid there same_now page e of_e bit
-      (room_from v e page r.grain r.small (ap (λ (x : Directory). usable_by_kind x.kind r.grain) e_is ∙ r.usable) (free_at f q v valid there same_now page r.grain r.small ∙ free))
+      (open_from f q v valid there same_now e page r.grain r.small (ap (λ (x : Directory). usable_by_kind x.kind r.grain) e_is ∙ r.usable) (bit_at q.list page r.grain r.small ∙ free))
 
   -- ---- ALL
   given_same : IsSame f q v

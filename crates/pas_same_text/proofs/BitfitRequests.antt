@@ -45,16 +45,17 @@ use Rattle.pas_same_text.proofs.BitfitFits.{bitfit_fits}
 use Rattle.pas_same_text.proofs.BitfitGiven.{bitfit_served}
 use Rattle.pas_same_text.proofs.LoggedFrees.{after_with}
 use Rattle.pas_same_text.proofs.RefusedRequests.{refused_to, refused_same}
+use Rattle.pas_same_text.proofs.RestingPages.{open_unguarded, had_open}
 use Rattle.pas_same_text.proofs.SearchedPages.{find_none}
 use Rattle.pas_same_text.proofs.Tests.{and_first, and_second}
 
 -- ---- where no page serves in the replay, none does in the text
-module _ (no_fit : Readings → Type 0) (f : Profile) (d : Directory) (p : Progress) (w : World) (fits : ℕ → List ℕ) (legal : Legal f p.list) (of : IsDirectoryOf f d) (pages : ArePagesSame f p.list w) (same : FitsSame no_fit f p fits) (none : HasNoFit no_fit f d p.list) where
+module _ (no_fit : Readings → Type 0) (f : Profile) (d : Directory) (p : Progress) (w : World) (fits : ℕ → List ℕ) (legal : Legal f p.list) (of : IsDirectoryOf f d) (pages : ArePagesSame f p.list w) (same : FitsSame no_fit f p w fits) (none : HasNoFit no_fit f d p.list) where
   unserved : (q : ℕ) → 1 ≤ q → q < 1 + f.pages → (is_offered w d q && some_of (fits q)) ≡ false
   unserved q low high = false_from_ne_true (is_offered w d q && some_of (fits q)) (λ h. none.offered q record {
     of_region = (low, omega (arith, high));
     offered = sym (pages.offered q d of) ∙ and_first (is_offered w d q) (some_of (fits q)) h;
-    fits = λ unfit. false≢true (sym (same.none q (low, omega (arith, high)) unfit) ∙ and_second (is_offered w d q) (some_of (fits q)) h);
+    fits = λ unfit. false≢true (sym (same.none q (low, omega (arith, high)) (open_unguarded w d q (had_open w d q (and_first (is_offered w d q) (some_of (fits q)) h))) unfit) ∙ and_second (is_offered w d q) (some_of (fits q)) h);
   })
 
   no_word : (o : Option Directory) → is_none o ≡ true → word_of_deed o ≡ 0
@@ -123,7 +124,7 @@ module _ (f : Profile) (k name heap size align : ℕ) (p p' : Progress) (w : Wor
   -- nothing could serve before, and the reason is true after
   truly : IsTrueRefusal f (wanted_for f heap size align) c.locals p.list (triples k a.steps ++ p.list) room
   truly = subst (λ (r : Route). IsTrulyRefusedBy r f (wanted_for f heap size align) c.locals p.list (triples k a.steps ++ p.list) room) route
-      (truly_refused f heap size align k a.found c a.cache p.list a.steps room valid admitted (before.rest.working k thread) there.legal by_own)
+      (truly_refused f heap size align k a.found c a.cache p.list a.steps room valid admitted served.rest there.legal by_own)
 
   reason : IsTrueReason f d (triples k a.steps ++ p.list) room
   reason = subst (λ (e : Directory). IsTrueReason f e (triples k a.steps ++ p.list) room) home truly.reason

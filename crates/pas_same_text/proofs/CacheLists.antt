@@ -97,7 +97,7 @@ same_kept f caches own k same = record {
 }
 
 -- one that became another twice
-again_at : (caches : Caches) (j k : ℕ) (c d : Cached) (t : Bool) → (if t then d else (if t then c else caches j)) ≡ (if t then d else caches j)
+pub again_at : (caches : Caches) (j k : ℕ) (c d : Cached) (t : Bool) → (if t then d else (if t then c else caches j)) ≡ (if t then d else caches j)
 again_at caches j k c d true = refl
 again_at caches j k c d false = refl
 

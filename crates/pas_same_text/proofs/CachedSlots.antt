@@ -2,7 +2,7 @@
 use Rattle.std.proofs.Common.{◌≡◌, ℕ, ◌+◌, ◌*◌, ◌<◌, ◌==◌, Bool, true, false, not, ◌&&◌, if◌then◌else◌, List, [], ◌∷◌, ◌++◌, Option, None, Some, Result, Ok, Err, inl, inr, refl, ap, sym, ◌∙◌, subst, arith}
 use Rattle.std.proofs.lemmas.Bool.{eqb-true, false≢true}
 use Rattle.std.specs.List.{find}
-use Rattle.pas_bits.specs.Masks.{is_set, HasMember, IsLowestSet}
+use Rattle.pas_bits.specs.Masks.{HasMember, IsLowestSet}
 use Rattle.pas_profile.specs.Blocks.{address_of}
 use Rattle.pas_profile.specs.Classes.{class_size}
 use Rattle.pas_profile.specs.Directories.{number_of}
@@ -39,18 +39,17 @@ use Rattle.pas_answers.specs.Answers.{Progress, Named, named, Answer, having, Is
 use Rattle.pas_answers.specs.Answers.{block_of as block_answered}
 use Rattle.pas_one_text.specs.State.{Local, World, cache_of, locals_of}
 use Rattle.pas_one_text.specs.Classes.{is_for, others, gives_first, gives_up, fetches, serves_class, serves_class_by}
-use Rattle.pas_one_text.specs.Pages.{is_free, has_room, is_offered}
+use Rattle.pas_one_text.specs.Pages.{is_free, is_guarded, has_room, is_offered}
 use Rattle.pas_one_text.specs.Searches.{some_of, address_on}
-use Rattle.pas_same_text.specs.Same.{IsSame, HasSame, IsSameCache, IsSameLocal, AreSameLocals, IsRising, has_number}
+use Rattle.pas_same_text.specs.Same.{IsSame, HasSame, IsSameCache, IsSameLocal, AreSameLocals, has_number}
 use Rattle.pas_one_text.specs.Order.{serves}
 use Rattle.pas_same_text.specs.Acts.{IsBetween, StaysSameWhere, HasCachedSlot}
 use Rattle.pas_same_text.proofs.CacheLists.{same_with}
 use Rattle.pas_same_text.proofs.FreeGrains.{free_same}
 use Rattle.pas_same_text.proofs.GivenBack.{each_same}
-use Rattle.pas_same_text.proofs.GivenPages.{had_room}
 use Rattle.pas_same_text.proofs.LoggedFrees.{after_with}
-use Rattle.pas_same_text.proofs.RestingPages.{bit_offered, offered_bit}
-use Rattle.pas_same_text.proofs.SameLocals.{Finds, found_same, others_same, last_same, head_lowest, rest_same}
+use Rattle.pas_same_text.proofs.RestingPages.{is_open, had_open, bit_offered, offered_bit}
+use Rattle.pas_same_text.proofs.SameLocals.{Finds, found_same, others_same, last_same, slot_given}
 use Rattle.pas_same_text.proofs.SmallActs.{records_next}
 use Rattle.pas_same_text.proofs.Tests.{and_first, and_second}
 use Rattle.pas_steps.proofs.Sets.{same_truth}
@@ -81,10 +80,10 @@ abbrev given_to : Progress → ℕ → ℕ → Block → ℕ → ℕ → ℕ →
 given_to p k name block answer page start word c = after_with p k (give_steps block answer page start word) None (named name (Some block) ∷ p.names) c
 
 -- ---- what is given of a local allocator of the text, whose lowest slot is n: the block and what is cached then
-abbrev text_block : World → Local → ℕ → Block
+abbrev pub text_block : World → Local → ℕ → Block
 text_block w l n = block_of (address_on l.page n) (gives_in w.events (address_on l.page n)) (class_size l.class) l.heap
 
-abbrev text_locals : World → ℕ → Local → List ℕ → List Local
+abbrev pub text_locals : World → ℕ → Local → List ℕ → List Local
 text_locals w k l more = others l.heap l.class (locals_of w k) ++ record l { slots = more } ∷ []
 
 -- ---- one slot is given
@@ -105,31 +104,16 @@ pub record Given (f : Profile) (k name : ℕ) (p : Progress) (w : World) (s s' :
 
 module _ (f : Profile) (k name : ℕ) (p : Progress) (w : World) (s s' : Slots) (l : Local) (n : ℕ) (more : List ℕ) (block : Block) (answer page start word : ℕ) (c' : Cached)
     (g : Given f k name p w s s' l n more block answer page start word c') where
-  bits : (x : ℕ) → has_number (n ∷ more) x ≡ is_set s.starts x
-  bits x = ap (λ (xs : List ℕ). has_number xs x) (sym g.slots) ∙ g.local.slots x
-
-  rising : IsRising (n ∷ more)
-  rising = subst IsRising g.slots g.local.rising
-
-  head_is : n ≡ start
-  head_is = head_lowest s n start more bits rising g.lowest
-
-  own_same : IsSameLocal s' (record l { slots = more })
-  own_same = record {
-    page = g.local.page ∙ sym g.without.page;
-    heap = g.local.heap ∙ sym g.without.heap;
-    class = g.local.class ∙ sym g.without.class;
-    keeps = g.local.keeps ∙ sym g.without.right;
-    slots = rest_same s s' n start more bits rising head_is g.without;
-    rising = rising.1;
-  }
+  -- the lowest one goes
+  given_slot : (n ≡ start) × IsSameLocal s' (record l { slots = more })
+  given_slot = slot_given s s' l n start more g.local g.slots g.lowest g.without
 
   locals_same : AreSameLocals (others_than s.heap s.class (p.caches k).locals ++ s' ∷ []) (text_locals w k l more)
   locals_same =
       subst (λ (h : ℕ). AreSameLocals (others_than s.heap s.class (p.caches k).locals ++ s' ∷ []) (others h l.class (locals_of w k) ++ record l { slots = more } ∷ [])) (sym g.local.heap)
       (subst (λ (c : ℕ). AreSameLocals (others_than s.heap s.class (p.caches k).locals ++ s' ∷ []) (others s.heap c (locals_of w k) ++ record l { slots = more } ∷ [])) (sym g.local.class)
       (last_same (others_than s.heap s.class (p.caches k).locals) (others s.heap s.class (locals_of w k)) s' (record l { slots = more })
-      (others_same s.heap s.class (p.caches k).locals (locals_of w k) (g.same.caches.each k g.thread).locals) own_same))
+      (others_same s.heap s.class (p.caches k).locals (locals_of w k) (g.same.caches.each k g.thread).locals) given_slot.1))
 
   cache_same : IsSameCache c' (record (cache_of w k) { locals = text_locals w k l more })
   cache_same =
@@ -143,7 +127,7 @@ module _ (f : Profile) (k name : ℕ) (p : Progress) (w : World) (s s' : Slots) 
 
   address_is : address_of block.name ≡ address_on l.page n
   address_is =
-      let at = g.address in let on = g.local.page in let head = head_is in
+      let at = g.address in let on = g.local.page in let head = given_slot.0 in
       omega (arith, at, on, head)
 
   block_is : block ≡ text_block w l n
@@ -172,13 +156,13 @@ module _ (f : Profile) (k name : ℕ) (p : Progress) (w : World) (s s' : Slots) 
       free_same f (given_to p k name block answer page start word c') to g.valid g.after has_same q b small
       ∙ sym (free_same f p w g.valid g.between before_same q b small)
 
-  room_kept : (d : Directory) (q : ℕ) → has_room to d q ≡ has_room w d q
-  room_kept d q = room_same w to d q (free_kept q)
+  open_kept : (d : Directory) (q : ℕ) → is_open to d q ≡ is_open w d q
+  open_kept d q = ap (λ (t : Bool). not (is_guarded w q) && t) (room_same w to d q (free_kept q))
 
   offered_kept : (q : ℕ) (d : Directory) → IsDirectoryOf f d → is_offered to d q ≡ eligible_bit (given_to p k name block answer page start word c').list (number_of d) q
   offered_kept q d of = same_truth (is_offered to d q) (eligible_bit (given_to p k name block answer page start word c').list (number_of d) q)
       (offered_bit f (given_to p k name block answer page start word c') to g.valid g.after has_same q d of)
-      (λ h. bit_offered f (given_to p k name block answer page start word c') to g.valid g.after has_same q d of h (room_kept d q ∙ had_room w d q (g.same.pages.offered q d of ∙ h)))
+      (λ h. bit_offered f (given_to p k name block answer page start word c') to g.valid g.after has_same q d of h (open_kept d q ∙ had_open w d q (g.same.pages.offered q d of ∙ h)))
 
   pub given_same : IsSame f (given_to p k name block answer page start word c') to
   given_same = record {
@@ -193,12 +177,12 @@ module _ (f : Profile) (k name : ℕ) (p : Progress) (w : World) (s s' : Slots) 
 
 -- ---- the request
 -- a list with a number has a first one
-record HasHead (xs : List ℕ) : Type 0 where
-  head : ℕ
-  more : List ℕ
-  is : xs ≡ head ∷ more
+pub record HasHead (xs : List ℕ) : Type 0 where
+  pub head : ℕ
+  pub more : List ℕ
+  pub is : xs ≡ head ∷ more
 
-head_of : (xs : List ℕ) (x : ℕ) → has_number xs x ≡ true → HasHead xs
+pub head_of : (xs : List ℕ) (x : ℕ) → has_number xs x ≡ true → HasHead xs
 head_of [] x h = absurd (false≢true h)
 head_of (n ∷ more) x h = record { head = n; more = more; is = refl }
 
@@ -212,7 +196,7 @@ unfolding some_slots
 found_at heap class x s rest true e later same = subst (λ (y : Slots). is_for_slots heap class y ≡ true) (ap (some_slots x) same) e
 found_at heap class x s rest false e later same = later same
 
-found_passes : (heap class : ℕ) (slots : List Slots) (s : Slots) → local_for heap class slots ≡ Some s → is_for_slots heap class s ≡ true
+pub found_passes : (heap class : ℕ) (slots : List Slots) (s : Slots) → local_for heap class slots ≡ Some s → is_for_slots heap class s ≡ true
 found_passes heap class [] s is = absurd (none is)
   where
     is_some : Option Slots → Bool
@@ -329,13 +313,17 @@ module _ (f : Profile) (k name heap size align class : ℕ) (p p' : Progress) (w
         after = reached ∙ (ap (λ (x : Option TheSaid). after_with p k a.steps x a.names a.cache) said ∙ ap (λ (ns : List Named). after_with p k a.steps None ns a.cache) names);
       }
 
+-- ANY REQUEST OF A CLASS for which a slot is cached
+pub cached_answered : (f : Profile) (k name heap size align class : ℕ) (p p' : Progress) (w : World) → IsThread f k → route_in f size align ≡ Route.Class class → IsValid f → IsBetween f p → IsBetween f p' → IsSame f p w → HasCachedSlot heap class k p
+    → (a : Answer) → IsServed f k (record { name = name; heap = heap; size = size; align = align }) (having p.names (part k p.list) (p.caches k)) a → p' ≡ after_answer p k a → IsSame f p' (serves f k name heap (route_in f size align) (room_in f size align) align w)
+cached_answered f k name heap size align class p p' w is route valid before after same has a served reached =
+    let sv : ServesClass (filling_in (directory_for f heap size align) class) f (p.caches k) a.cache a.steps served.answer =
+    subst (λ (r : Route). ServesBy r f (wanted_for f heap size align) a.found (p.caches k) a.cache a.steps served.answer) route served.serves in
+    let o : Served f k name heap class p p' w has.0 = served_by f k name heap size align class p p' w has.0 has.1 has.2 a served reached sv sv.locals.obtained in
+    subst (λ (r : Route). IsSame f p' (serves f k name heap r (room_in f size align) align w)) (sym route)
+    (to_given f k name heap class p p' w has.0 valid is before after same has.1 has.2 o)
+
 pub cached_same : (f : Profile) (line k name heap size align class : ℕ) → IsThread f k → route_in f size align ≡ Route.Class class
     → StaysSameWhere (HasCachedSlot heap class k) f (Act.Operates (record { line = line; actor = k; what = Alloc name heap size align }))
 cached_same f line k name heap size align class is route p p' w has taken =
-    let a : Answer = taken.advances.0 in
-    let served : IsServed f k (record { name = name; heap = heap; size = size; align = align }) (having p.names (part k p.list) (p.caches k)) a = taken.advances.1 in
-    let sv : ServesClass (filling_in (directory_for f heap size align) class) f (p.caches k) a.cache a.steps served.answer =
-    subst (λ (r : Route). ServesBy r f (wanted_for f heap size align) a.found (p.caches k) a.cache a.steps served.answer) route served.serves in
-    let o : Served f k name heap class p p' w has.0 = served_by f k name heap size align class p p' w has.0 has.1 has.2 a served taken.advances.2 sv sv.locals.obtained in
-    subst (λ (r : Route). IsSame f p' (serves f k name heap r (room_in f size align) align w)) (sym route)
-    (to_given f k name heap class p p' w has.0 taken.valid is taken.before taken.after taken.same has.1 has.2 o)
+    cached_answered f k name heap size align class p p' w is route taken.valid taken.before taken.after taken.same has taken.advances.0 taken.advances.1 taken.advances.2

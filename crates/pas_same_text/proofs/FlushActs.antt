@@ -36,15 +36,16 @@ use Rattle.pas_answers.specs.Answers.{Progress, records_of, with_steps, with_rec
 use Rattle.pas_answers.specs.Answers.{with_cache as with_cached}
 use Rattle.pas_one_text.specs.State.{World, each, set_log}
 use Rattle.pas_one_text.specs.Frees.{ends, flushes}
-use Rattle.pas_one_text.specs.Pages.{is_of, has_room}
+use Rattle.pas_one_text.specs.Pages.{is_of}
 use Rattle.pas_same_text.specs.Same.{IsSame, HasSame, AreSameCaches}
 use Rattle.pas_same_text.specs.Acts.{IsBetween, AreBlocksUsable}
 use Rattle.pas_same_text.specs.Words.{free_bit}
 use Rattle.pas_same_text.proofs.FlushedLogs.{IsFlushedTo, IsEndedOn, OnlyFewer, flushed_start, flushed_all}
-use Rattle.pas_same_text.proofs.FreeGrains.{free_same, holder_is}
-use Rattle.pas_same_text.proofs.GivenPages.{IsGivenBack, room_from, covered_not_held, free_left, given_pages}
+use Rattle.pas_same_text.proofs.FreeGrains.{held_still}
+use Rattle.pas_same_text.proofs.GivenPages.{IsGivenBack, open_from, covered_not_held, free_left, given_pages}
 use Rattle.pas_same_text.proofs.GivingBack.{OffersPage, hint_marks, offer_marks, offered_of_region, epoch_stays_by}
-use Rattle.pas_same_text.proofs.RestingPages.{deed_now}
+use Rattle.pas_same_text.proofs.OuterPages.{guards_as, still_unguarded}
+use Rattle.pas_same_text.proofs.RestingPages.{is_open, deed_now}
 use Rattle.pas_same_text.proofs.StillIndexes.{same_guards, flushes_keep}
 
 -- ---- records
@@ -103,8 +104,8 @@ module _ (f : Profile) (p p' : Progress) (w v : World) (pages : List ℕ) (valid
   pub lived : (a : ℕ) (b : Live) → live_in (visible p'.list) a ≡ Some b → live_in (visible p.list) a ≡ Some b
   lived a b h = ap (λ (es : List Event). live_in es a) (sym events) ∙ fewer.lives a b (ap (λ (es : List Event). live_in es a) same.events ∙ h)
 
-  -- a page of which a block ended has room
-  pub ended_room : (q : ℕ) (d : Directory) → IsDirectoryOf f d → is_of v d q ≡ true → IsEndedOn w.events v.events pages q → has_room v d q ≡ true
+  -- a page of which a block ended has room, and no guard has it
+  pub ended_room : (q : ℕ) (d : Directory) → IsDirectoryOf f d → is_of v d q ≡ true → IsEndedOn w.events v.events pages q → is_open v d q ≡ true
   ended_room q d of is o =
       let own : live_in (visible p.list) o.address ≡ Some o.block = ap (λ (es : List Event). live_in es o.address) (sym events) ∙ o.lived in
       let m : IsMet (o.address / 16) (length_of o.block.block) q = met (o.address / 16) (length_of o.block.block) q (live_long f w.events run o.address o.block o.lived) o.met in
@@ -119,7 +120,7 @@ module _ (f : Profile) (p p' : Progress) (w v : World) (pages : List ℕ) (valid
       let free : free_bit p'.list g ≡ true = free_left f p'.list valid after.legal g
       (λ j held. covered_not_held f p.list valid before.legal g o.address o.block own m.of_run j (none_held j g held))
       (λ a b lives of_it. other o g m.of_run a b lives of_it) in
-      room_from v d q (g % 256) small may (free_same f p' v valid after same q (g % 256) small ∙ (ap (free_bit p'.list) whole ∙ free))
+      open_from f p' v valid after same d q (g % 256) small may (ap (free_bit p'.list) whole ∙ free)
     where
       is_some : Option Live → Bool
       is_some None = false
@@ -156,7 +157,7 @@ module _ (f : Profile) (k : ℕ) (p : Progress) (w : World) (steps : List Made) 
     events = to.events;
     live = to.live;
     caches = subst (λ (c : Cached). AreSameCaches f (with_cached p.caches k c) v.caches) cache_is to.same;
-    guards = same_guards w v (flushes_keep f k w) ∙ same.guards;
+    guards = guards_as p.books w v (same_guards w v (flushes_keep f k w)) same.guards;
   }
 
   -- the caches have the grains that they had
@@ -165,10 +166,7 @@ module _ (f : Profile) (k : ℕ) (p : Progress) (w : World) (steps : List Made) 
   kept_at j false e = refl
 
   pub still_held : (j g : ℕ) → holds (part j (with_steps p k steps c').list) g ≡ true → holds (part j p.list) g ≡ true
-  still_held j g held =
-      let is : IsThread f j = holder_is f (with_steps p k steps c') v valid after flush_has j g held in
-      (before.rest.working j is).locals.grains g
-      ∙ (ap (λ (ls : List Slots). any_covers ls g) (sym (kept_at j (j == k) refl)) ∙ (sym ((after.rest.working j is).locals.grains g) ∙ held))
+  still_held j g held = held_still f p (with_steps p k steps c') before after refl j g (λ h. ap (λ (ls : List Slots). any_covers ls g) (sym (kept_at j (j == k) refl)) ∙ h) held
 
   given : IsGivenBack f k p.list w steps v
   given = record {
@@ -180,6 +178,7 @@ module _ (f : Profile) (k : ℕ) (p : Progress) (w : World) (steps : List Made) 
     rooms = λ q d of is offer.
         ended_room f p (with_steps p k steps c') w v to.pages valid before after same.pages.events flush_has usable to.fewer still_held q d of is
         (to.marks q (page_of q offer) (offer_marks q steps offer));
+    guarded = λ q none. still_unguarded w v q (same_guards w v (flushes_keep f k w)) none;
   }
     where
       page_of : (q : ℕ) → OffersPage q steps → IsPage f q

@@ -1,6 +1,7 @@
--- A grain is free in the text exactly where its bit is set, and a page is kept exactly where an actor has its right: whenever all actors are at rest.
-use Rattle.std.proofs.Common.{◌≡◌, ℕ, ◌+◌, ◌*◌, ◌/◌, ◌<◌, ◌≤◌, ◌≢◌, Bool, true, false, not, ◌&&◌, List, length, Some, ◌⊎◌, inl, inr, refl, ap, sym, ◌∙◌, subst, arith}
-use Rattle.std.proofs.lemmas.Bool.{eq-eqb, false≢true, false_from_ne_true, cases_lt}
+-- A grain is free in the text exactly where its bit is set or a guard has its page, and a page is kept exactly where an actor has its right: whenever all
+-- actors are at rest.
+use Rattle.std.proofs.Common.{◌≡◌, ℕ, ◌+◌, ◌*◌, ◌/◌, ◌<◌, ◌≤◌, ◌≢◌, Bool, true, false, not, ◌&&◌, ◌||◌, List, length, Some, ◌⊎◌, inl, inr, refl, ap, sym, ◌∙◌, subst, arith}
+use Rattle.std.proofs.lemmas.Bool.{eq-eqb, eqb-true, false≢true, true≢false, or_cases, or_left, or_right, false_from_ne_true, cases_lt}
 use Rattle.std.specs.List.{list_any}
 use Rattle.pas_bits.specs.Runs.{in_run, meets_page}
 use Rattle.pas_bits.proofs.Runs.{run_meets}
@@ -16,14 +17,19 @@ use Rattle.pas_steps.specs.Views.{View, holds, has_right}
 use Rattle.pas_core.specs.Good.{IsPartOf, IsInOnePlace}
 use Rattle.pas_core.proofs.MachineRuns.{runs, in_one_place}
 use Rattle.pas_core.proofs.Offers.{no_other_actor}
+use Rattle.pas_segregated.specs.declared.slots.Slots.{Slots}
+use Rattle.pas_cache.specs.Locals.{any_covers}
+use Rattle.pas_guard.specs.Books.{is_outer}
+use Rattle.pas_guard.specs.declared.book.Guard.{Guard as BookGuard}
 use Rattle.pas_trace.specs.EveryPlan.{IsThread}
-use Rattle.pas_answers.specs.Answers.{Progress}
+use Rattle.pas_answers.specs.Answers.{Books, Progress}
 use Rattle.pas_one_text.specs.State.{World, cache_in}
-use Rattle.pas_one_text.specs.Pages.{is_free, is_covered, is_cached, blocks_on, locals_on}
+use Rattle.pas_one_text.specs.Pages.{is_free, is_covered, is_cached, is_guarded, blocks_on, locals_on}
 use Rattle.pas_same_text.specs.Same.{HasSame, lives_in}
 use Rattle.pas_same_text.specs.Acts.{IsBetween}
 use Rattle.pas_same_text.specs.Words.{free_bit}
 use Rattle.pas_same_text.proofs.LiveBlocks.{LivesSo, lives_so, lives_listed}
+use Rattle.pas_same_text.proofs.OuterPages.{guarded_by, outer_guarded}
 use Rattle.pas_same_text.proofs.Slots.{has_grain, grains_same, IsOfCache, of_cache, in_all, cached_any, any_cached}
 use Rattle.pas_same_text.proofs.Tests.{and_second, any_filtered, filtered_any}
 
@@ -36,13 +42,52 @@ thread_or f k some few = let last : k ≤ f.threads = le_or (cases_lt f.threads 
     le_or (inl past) = absurd (few past)
     le_or (inr le) = le
 
-module _ (f : Profile) (p : Progress) (w : World) (valid : IsValid f) (between : IsBetween f p) (same : HasSame f p w) where
-  -- who holds a grain is a thread, and so is who has a right
-  pub holder_is : (k g : ℕ) → holds (part k p.list) g ≡ true → IsThread f k
-  holder_is k g h = thread_or f k
+-- grain b of a page is on it
+pub on_page : (page b : ℕ) → b < 256 → (256 * page + b) / 256 ≡ page
+on_page page b small = omega (arith, small)
+
+module _ (f : Profile) (p : Progress) (between : IsBetween f p) where
+  -- whose outer page a page is, is an actor of the region
+  outer_none : (k page : ℕ) → (IsThread f k → ⊥) → is_outer (p.books k) page ≡ true → ⊥
+  outer_none k page other h = false≢true (sym (ap (λ (gs : List BookGuard). is_outer gs page) (between.rest.none k other)) ∙ h)
+
+  outer_thread : (k page : ℕ) → is_outer (p.books k) page ≡ true → IsThread f k
+  outer_thread k page h = thread_or f k
+      (λ zero. outer_none k page (λ is. let low = is.0 in omega (arith, low, zero)) h)
+      (λ past. outer_none k page (λ is. let high = is.1 in omega (arith, high, past)) h)
+
+  -- who holds a grain is an actor of the region, and so is who has a right
+  pub holder_thread : (k g : ℕ) → holds (part k p.list) g ≡ true → IsThread f k
+  holder_thread k g h = thread_or f k
       (λ zero. false≢true (sym (between.rest.scavenger.grains g) ∙ (ap (λ (j : ℕ). holds (part j p.list) g) (sym zero) ∙ h)))
       (λ past. false≢true (ap (λ (v : View). holds v g) (sym (no_other_actor f p.list between.legal k past)) ∙ h))
 
+  -- an actor holds the grains that its cache has, and those of the outer pages of its guards, and no others
+  pub cached_held : (k g : ℕ) → IsThread f k → any_covers (p.caches k).locals g ≡ true → holds (part k p.list) g ≡ true
+  cached_held k g is h = (between.rest.working k is).locals.grains g ∙ or_left (any_covers (p.caches k).locals g) (is_outer (p.books k) (g / 256)) h
+
+  pub outer_held : (k g : ℕ) → is_outer (p.books k) (g / 256) ≡ true → holds (part k p.list) g ≡ true
+  outer_held k g h = (between.rest.working k (outer_thread k (g / 256) h)).locals.grains g ∙ or_right (any_covers (p.caches k).locals g) (is_outer (p.books k) (g / 256)) h
+
+  pub held_by : (k g : ℕ) → holds (part k p.list) g ≡ true → (any_covers (p.caches k).locals g ≡ true) ⊎ (is_outer (p.books k) (g / 256) ≡ true)
+  held_by k g h = or_cases (any_covers (p.caches k).locals g) (is_outer (p.books k) (g / 256)) (sym ((between.rest.working k (holder_thread k g h)).locals.grains g) ∙ h)
+
+  pub never_both : (k g page : ℕ) → any_covers (p.caches k).locals g ≡ true → is_outer (p.books k) page ≡ true → ⊥
+  never_both k g page cached outer = elim (between.rest.working k (outer_thread k page outer)).locals.one_kind [
+    | inl none ↦ false≢true (sym (ap (λ (ls : List Slots). any_covers ls g) none) ∙ cached)
+    | inr none ↦ false≢true (sym (ap (λ (gs : List BookGuard). is_outer gs page) none) ∙ outer)
+  ]
+
+-- a grain that is held after an act whose actor keeps no guard was held before, where its cache had it then
+pub held_still : (f : Profile) (p p' : Progress) → IsBetween f p → IsBetween f p' → p'.books ≡ p.books → (j g : ℕ) → (any_covers (p'.caches j).locals g ≡ true → any_covers (p.caches j).locals g ≡ true)
+    → holds (part j p'.list) g ≡ true → holds (part j p.list) g ≡ true
+held_still f p p' before after books j g fewer h = elim (held_by f p' after j g h) [
+  | inl cached ↦ cached_held f p before j g (holder_thread f p' after j g h) (fewer cached)
+  | inr outer ↦ outer_held f p before j g (ap (λ (bs : Books). is_outer (bs j) (g / 256)) (sym books) ∙ outer)
+]
+
+module _ (f : Profile) (p : Progress) (w : World) (valid : IsValid f) (between : IsBetween f p) (same : HasSame f p w) where
+  -- who has a right is a thread
   pub righted_is : (k page : ℕ) → has_right (part k p.list) page ≡ true → IsThread f k
   righted_is k page h = thread_or f k
       (λ zero. false≢true (sym (between.rest.scavenger.rights page) ∙ (ap (λ (j : ℕ). has_right (part j p.list) page) (sym zero) ∙ h)))
@@ -77,40 +122,83 @@ module _ (f : Profile) (p : Progress) (w : World) (valid : IsValid f) (between :
       (ap (λ (t : Bool). t && in_run (first_grain b.block.name) (length_of b.block) g) meets ∙ run)))
 
   -- ---- caches
-  cache_grains : (k page b : ℕ) → b < 256 → IsThread f k → list_any (has_grain page b) (cache_in w.caches k).locals ≡ holds (part k p.list) (256 * page + b)
+  cache_grains : (k page b : ℕ) → b < 256 → IsThread f k → list_any (has_grain page b) (cache_in w.caches k).locals ≡ any_covers (p.caches k).locals (256 * page + b)
   cache_grains k page b small is =
       grains_same f (part k p.list) (p.caches k).locals (cache_in w.caches k).locals page b small (same.caches.each k is).locals (between.rest.working k is).locals.known
-      ∙ sym ((between.rest.working k is).locals.grains (256 * page + b))
 
-  cached_none : (page b : ℕ) → b < 256 → ((k : ℕ) → holds (part k p.list) (256 * page + b) ≡ false) → is_cached (locals_on w page) b ≡ false
+  cached_none : (page b : ℕ) → b < 256 → ((k : ℕ) → any_covers (p.caches k).locals (256 * page + b) ≡ true → IsThread f k → ⊥) → is_cached (locals_on w page) b ≡ false
   cached_none page b small nobody = false_from_ne_true (is_cached (locals_on w page) b) (λ h.
       let o : IsOfCache w.caches (has_grain page b) = of_cache w.caches (has_grain page b) (cached_any w.caches page b h) in
       let is : IsThread f o.k = thread_in (length w.caches) o.k same.caches.many o.first o.last in
-      false≢true (sym (nobody o.k) ∙ (sym (cache_grains o.k page b small is) ∙ o.so)))
+      nobody o.k (sym (cache_grains o.k page b small is) ∙ o.so) is)
 
-  cached_some : (k page b : ℕ) → b < 256 → holds (part k p.list) (256 * page + b) ≡ true → is_cached (locals_on w page) b ≡ true
-  cached_some k page b small h =
-      let is : IsThread f k = holder_is k (256 * page + b) h in
-      any_cached w.caches page b (in_all w.caches k (has_grain page b) (cache_grains k page b small is ∙ h))
+  cached_some : (k page b : ℕ) → b < 256 → IsThread f k → any_covers (p.caches k).locals (256 * page + b) ≡ true → is_cached (locals_on w page) b ≡ true
+  cached_some k page b small is h = any_cached w.caches page b (in_all w.caches k (has_grain page b) (cache_grains k page b small is ∙ h))
+
+  -- ---- guards: the grains of an outer page are its keeper's
+  pub guarded_held : (page b : ℕ) → b < 256 → is_guarded w page ≡ true → (k : ℕ) × (is_outer (p.books k) page ≡ true) × (holds (part k p.list) (256 * page + b) ≡ true)
+  guarded_held page b small h =
+      let o = guarded_by p.books w same.guards page h in
+      (o.0, o.1, outer_held f p between o.0 (256 * page + b) (ap (is_outer (p.books o.0)) (on_page page b small) ∙ o.1))
 
   -- ---- A GRAIN
-  on_page : (page b : ℕ) → b < 256 → (256 * page + b) / 256 ≡ page
-  on_page page b small = omega (arith, small)
+  no_more : (x : Bool) → (x && false) ≡ false
+  no_more true = refl
+  no_more false = refl
 
-  free_here : (page b : ℕ) → b < 256 → IsInOnePlace p.list (256 * page + b) → is_free w page b ≡ free_bit p.list (256 * page + b)
+  free_here : (page b : ℕ) → b < 256 → IsInOnePlace p.list (256 * page + b) → is_free w page b ≡ (free_bit p.list (256 * page + b) || is_guarded w page)
   free_here page b small (inl free) =
       ap (λ (t : Bool). not t && not (is_cached (locals_on w page) b)) (covered_none page (256 * page + b) free.no_block)
-      ∙ (ap (λ (t : Bool). not t) (cached_none page b small free.nobody) ∙ sym free.free)
+      ∙ (ap (λ (t : Bool). not t) (cached_none page b small (λ k has is. false≢true (sym (free.nobody k) ∙ cached_held f p between k (256 * page + b) is has)))
+      ∙ sym (ap (λ (t : Bool). t || is_guarded w page) free.free))
   free_here page b small (inr (inl held)) =
-      ap (λ (t : Bool). not (is_covered (blocks_on w page) (256 * page + b)) && not t) (cached_some held.actor page b small (held.holder held.actor ∙ eq-eqb held.actor held.actor refl))
-      ∙ (no_more (not (is_covered (blocks_on w page) (256 * page + b))) ∙ sym held.not_free)
+      let h : holds (part held.actor p.list) (256 * page + b) ≡ true = held.holder held.actor ∙ eq-eqb held.actor held.actor refl in
+      elim (held_by f p between held.actor (256 * page + b) h) [
+        | inl cached ↦ in_cache cached
+        | inr outer ↦ in_book (ap (is_outer (p.books held.actor)) (sym (on_page page b small)) ∙ outer)
+      ]
     where
-      no_more : (x : Bool) → (x && false) ≡ false
-      no_more true = refl
-      no_more false = refl
-  free_here page b small (inr (inr covered)) =
-      ap (λ (t : Bool). not t && not (is_cached (locals_on w page) b)) (covered_some page (256 * page + b) covered.address covered.block (on_page page b small) covered.lives covered.covered)
-      ∙ sym covered.not_free
+      alone : (j : ℕ) → holds (part j p.list) (256 * page + b) ≡ true → held.actor ≡ j
+      alone j h = eqb-true held.actor j (sym (held.holder j) ∙ h)
 
-  pub free_same : (page b : ℕ) → b < 256 → is_free w page b ≡ free_bit p.list (256 * page + b)
+      in_cache : any_covers (p.caches held.actor).locals (256 * page + b) ≡ true → is_free w page b ≡ (free_bit p.list (256 * page + b) || is_guarded w page)
+      in_cache cached =
+          let is : IsThread f held.actor = holder_thread f p between held.actor (256 * page + b) (held.holder held.actor ∙ eq-eqb held.actor held.actor refl) in
+          let unguarded : is_guarded w page ≡ false = false_from_ne_true (is_guarded w page) (λ h.
+          let o = guarded_held page b small h in never_both f p between held.actor (256 * page + b) page cached (ap (λ (j : ℕ). is_outer (p.books j) page) (alone o.0 o.2) ∙ o.1)) in
+          ap (λ (t : Bool). not (is_covered (blocks_on w page) (256 * page + b)) && not t) (cached_some held.actor page b small is cached)
+          ∙ (no_more (not (is_covered (blocks_on w page) (256 * page + b)))
+          ∙ sym (ap (λ (t : Bool). t || is_guarded w page) held.not_free ∙ unguarded))
+
+      in_book : is_outer (p.books held.actor) page ≡ true → is_free w page b ≡ (free_bit p.list (256 * page + b) || is_guarded w page)
+      in_book outer =
+          ap (λ (t : Bool). not t && not (is_cached (locals_on w page) b)) (covered_none page (256 * page + b) held.no_block)
+          ∙ (ap (λ (t : Bool). not t) (cached_none page b small (λ k has is.
+          never_both f p between k (256 * page + b) page has (ap (λ (j : ℕ). is_outer (p.books j) page) (sym (alone k (cached_held f p between k (256 * page + b) is has))) ∙ outer)))
+          ∙ sym (ap (λ (t : Bool). t || is_guarded w page) held.not_free ∙ outer_guarded p.books w same.guards held.actor page outer))
+  free_here page b small (inr (inr covered)) =
+      let unguarded : is_guarded w page ≡ false = false_from_ne_true (is_guarded w page) (λ h. let o = guarded_held page b small h in false≢true (sym (covered.nobody o.0) ∙ o.2)) in
+      ap (λ (t : Bool). not t && not (is_cached (locals_on w page) b)) (covered_some page (256 * page + b) covered.address covered.block (on_page page b small) covered.lives covered.covered)
+      ∙ sym (ap (λ (t : Bool). t || is_guarded w page) covered.not_free ∙ unguarded)
+
+  pub free_same : (page b : ℕ) → b < 256 → is_free w page b ≡ (free_bit p.list (256 * page + b) || is_guarded w page)
   free_same page b small = free_here page b small (in_one_place f p.list valid between.legal (256 * page + b))
+
+  -- of a page that no guard has; and where the bit is set
+  pub free_unless : (page b : ℕ) → b < 256 → is_guarded w page ≡ false → is_free w page b ≡ free_bit p.list (256 * page + b)
+  free_unless page b small none = free_same page b small ∙ (ap (λ (t : Bool). free_bit p.list (256 * page + b) || t) none ∙ no_other (free_bit p.list (256 * page + b)))
+    where
+      no_other : (x : Bool) → (x || false) ≡ x
+      no_other true = refl
+      no_other false = refl
+
+  pub bit_free : (page b : ℕ) → b < 256 → free_bit p.list (256 * page + b) ≡ true → is_free w page b ≡ true
+  bit_free page b small bit = free_same page b small ∙ or_left (free_bit p.list (256 * page + b)) (is_guarded w page) bit
+
+  pub bit_unguarded : (page b : ℕ) → b < 256 → free_bit p.list (256 * page + b) ≡ true → is_guarded w page ≡ false
+  bit_unguarded page b small bit = false_from_ne_true (is_guarded w page) (λ h. let o = guarded_held page b small h in by_place o.0 o.2 (in_one_place f p.list valid between.legal (256 * page + b)))
+    where
+      by_place : (k : ℕ) → holds (part k p.list) (256 * page + b) ≡ true → IsInOnePlace p.list (256 * page + b) → ⊥
+      by_place k held (inl free) = false≢true (sym (free.nobody k) ∙ held)
+      by_place k held (inr (inl one)) = true≢false (sym bit ∙ one.not_free)
+      by_place k held (inr (inr covered)) = true≢false (sym bit ∙ covered.not_free)

@@ -24,14 +24,15 @@ use Rattle.pas_rights.specs.Looks.{HintsEmpty}
 use Rattle.pas_free_log.specs.Frames.{freeing}
 use Rattle.pas_answers.specs.Answers.{Progress}
 use Rattle.pas_one_text.specs.State.{World}
-use Rattle.pas_one_text.specs.Pages.{each_of, is_free, is_empty, is_hinted, is_kept, is_guarded, is_of, is_offered, has_room}
+use Rattle.pas_one_text.specs.Pages.{each_of, is_free, is_empty, is_hinted, is_guarded, is_of, is_offered, has_room}
 use Rattle.pas_same_text.specs.Same.{HasSame, ArePagesSame, has_number}
 use Rattle.pas_same_text.specs.Acts.{IsBetween}
 use Rattle.pas_same_text.specs.Words.{free_bit}
-use Rattle.pas_same_text.proofs.FreeGrains.{free_same}
+use Rattle.pas_same_text.proofs.FreeGrains.{free_unless, bit_free, bit_unguarded}
 use Rattle.pas_same_text.proofs.GivenBack.{Returns, is_idle, each_at, each_all}
 use Rattle.pas_same_text.proofs.GivingBack.{OffersPage, HintsPage, hinted_stays, hinted_by, offered_by, hinted_empty}
-use Rattle.pas_same_text.proofs.RestingPages.{Fails, some_fails, clear_of, bit_tells, bit_offered, offered_bit}
+use Rattle.pas_same_text.proofs.OuterPages.{guarded_by}
+use Rattle.pas_same_text.proofs.RestingPages.{Fails, some_fails, is_open, is_opened, open_unguarded, open_room, had_open, clear_of, bit_tells, bit_offered, offered_bit}
 use Rattle.pas_same_text.proofs.Tests.{and_first, and_second}
 
 -- ---- room
@@ -60,8 +61,8 @@ room_grows w v d page grows room =
     room_from v d page o.number o.high (and_first (usable_by_kind d.kind o.number) (is_free w page o.number) both)
     (grows o.number o.high (and_second (usable_by_kind d.kind o.number) (is_free w page o.number) both))
 
-pub had_room : (w : World) (d : Directory) (q : ℕ) → is_offered w d q ≡ true → has_room w d q ≡ true
-had_room w d q h = and_second (not (is_guarded w q)) (has_room w d q) (and_second (not (is_kept w q)) (not (is_guarded w q) && has_room w d q) (and_second (is_of w d q) (not (is_kept w q) && (not (is_guarded w q) && has_room w d q)) h))
+pub open_grows : (w v : World) (d : Directory) (page : ℕ) → (is_guarded w page ≡ false → is_guarded v page ≡ false) → ((b : ℕ) → b < 256 → is_free w page b ≡ true → is_free v page b ≡ true) → is_open w d page ≡ true → is_open v d page ≡ true
+open_grows w v d page unguarded grows h = is_opened v d page (unguarded (open_unguarded w d page h)) (room_grows w v d page grows (open_room w d page h))
 
 -- ---- grains of a legal list
 -- a grain of a live block is held by nobody
@@ -84,6 +85,14 @@ free_left f l valid legal g nobody none = by_place (in_one_place f l valid legal
 
 -- ---- pages that are backed and empty, in words and in the text
 module _ (f : Profile) (p : Progress) (w : World) (valid : IsValid f) (between : IsBetween f p) (same : HasSame f p w) where
+  -- a page of which a bit is set at a grain that its blocks may cover has room, and no guard has it
+  pub open_from : (d : Directory) (page b : ℕ) → b < 256 → usable_by_kind d.kind b ≡ true → free_bit p.list (256 * page + b) ≡ true → is_open w d page ≡ true
+  open_from d page b small usable bit = is_opened w d page (bit_unguarded f p w valid between same page b small bit) (room_from w d page b small usable (bit_free f p w valid between same page b small bit))
+
+  -- an outer page of a guard is not backed
+  pub backed_unguarded : (page : ℕ) → backed_in (visible p.list) page ≡ true → is_guarded w page ≡ false
+  backed_unguarded page backed = false_from_ne_true (is_guarded w page) (λ h. let o = guarded_by p.books w same.guards page h in true≢false (sym backed ∙ between.rest.bare o.0 page o.1))
+
   backed_is : (page : ℕ) → backed_in w.events page ≡ backed_in (visible p.list) page
   backed_is page = ap (λ (es : List Event). backed_in es page) same.events
 
@@ -91,12 +100,13 @@ module _ (f : Profile) (p : Progress) (w : World) (valid : IsValid f) (between :
   idle_page page h =
       let backed : backed_in w.events page ≡ true = and_first (backed_in w.events page) (is_empty w page) h in
       let empty : is_empty w page ≡ true = and_second (backed_in w.events page) (is_empty w page) h in
+      let none : is_guarded w page ≡ false = backed_unguarded page (sym (backed_is page) ∙ backed) in
       record {
         backed = (agrees f p.list valid between.legal).backed page ∙ ap word_of_backed (sym (backed_is page) ∙ backed);
         free = λ g of.
             let whole : 256 * page + g % 256 ≡ g = omega (arith, of) in
             let small : g % 256 < 256 = omega arith in
-            ap (free_bit p.list) (sym whole) ∙ (sym (free_same f p w valid between same page (g % 256) small) ∙ each_at 256 0 (g % 256) (is_free w page) empty (omega arith) small);
+            ap (free_bit p.list) (sym whole) ∙ (sym (free_unless f p w valid between same page (g % 256) small none) ∙ each_at 256 0 (g % 256) (is_free w page) empty (omega arith) small);
       }
 
   pub page_idle : (page : ℕ) → IsEmptyBacked p.list page → is_idle w page ≡ true
@@ -104,7 +114,7 @@ module _ (f : Profile) (p : Progress) (w : World) (valid : IsValid f) (between :
       let backed : backed_in (visible p.list) page ≡ true = one_backed (backed_in (visible p.list) page) (sym e.backed ∙ (agrees f p.list valid between.legal).backed page) in
       let empty : is_empty w page ≡ true = each_all 256 0 (is_free w page) (λ b low high.
       let of : (256 * page + b) / 256 ≡ page = omega (arith, high) in
-      free_same f p w valid between same page b high ∙ e.free (256 * page + b) of) in
+      bit_free f p w valid between same page b high (e.free (256 * page + b) of)) in
       both (backed_in w.events page) (is_empty w page) (backed_is page ∙ backed) empty
     where
       both : (x y : Bool) → x ≡ true → y ≡ true → (x && y) ≡ true
@@ -122,7 +132,8 @@ pub record IsGivenBack (f : Profile) (k : ℕ) (l : Whole) (w : World) (steps : 
   pub kinds : Only freeing steps
   pub hints : Always HintsEmpty steps
   pub marks : (q : ℕ) → IsPage f q → HintsPage q steps → has_number pages q ≡ true
-  pub rooms : (q : ℕ) (d : Directory) → IsDirectoryOf f d → is_of v d q ≡ true → OffersPage q steps → has_room v d q ≡ true
+  pub rooms : (q : ℕ) (d : Directory) → IsDirectoryOf f d → is_of v d q ≡ true → OffersPage q steps → is_open v d q ≡ true
+  pub guarded : (q : ℕ) → is_guarded w q ≡ false → is_guarded v q ≡ false
 
 module _ (f : Profile) (k : ℕ) (l : Whole) (p' : Progress) (w v : World) (steps : List Made) (valid : IsValid f) (was : ArePagesSame f l w) (list : p'.list ≡ triples k steps ++ l) (between : IsBetween f p') (same : HasSame f p' v)
     (given : IsGivenBack f k l w steps v) where
@@ -161,8 +172,8 @@ module _ (f : Profile) (k : ℕ) (l : Whole) (p' : Progress) (w v : World) (step
   from_offer : (page : ℕ) (d : Directory) → IsDirectoryOf f d → eligible_bit p'.list (number_of d) page ≡ true → is_offered v d page ≡ true
   from_offer page d of bit = bit_offered f p' v valid between same page d of bit (at (offered_by k steps l (number_of d) page (ap (λ (m : Whole). eligible_bit m (number_of d) page) (sym list) ∙ bit)))
     where
-      at : (eligible_bit l (number_of d) page ≡ true) ⊎ OffersPage page steps → has_room v d page ≡ true
-      at (inl old) = room_grows w v d page (λ b small h. given.returns.grows page b small h) (had_room w d page (was.offered page d of ∙ old))
+      at : (eligible_bit l (number_of d) page ≡ true) ⊎ OffersPage page steps → is_open v d page ≡ true
+      at (inl old) = open_grows w v d page (given.guarded page) (λ b small h. given.returns.grows page b small h) (had_open w d page (was.offered page d of ∙ old))
       at (inr new) = given.rooms page d of (bit_tells f p' v valid between same page d of (right_in_one_place f p'.list between.legal page) bit).0 new
 
   pub given_pages : ArePagesSame f p'.list v

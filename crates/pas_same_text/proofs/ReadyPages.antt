@@ -122,10 +122,10 @@ module _ (k : ℕ) (d : Directory) (page : ℕ) where
       at e IsAtPage.Deeds may none = deed_there (deed_in (es ++ base) page) none
       at e IsAtPage.Backs may none = may.1 none
 
-  unowned : (w : World) → deed_in w.events page ≡ None → deeds k d page w ≡ shows (Event.Deed k page d) w
+  pub unowned : (w : World) → deed_in w.events page ≡ None → deeds k d page w ≡ shows (Event.Deed k page d) w
   unowned w none = ap (λ (o : Option Directory). if is_none o then shows (Event.Deed k page d) w else w) none
 
-  owned : (w : World) → deed_in w.events page ≢ None → deeds k d page w ≡ w
+  pub owned : (w : World) → deed_in w.events page ≢ None → deeds k d page w ≡ w
   owned w some = at (deed_in w.events page) some
     where
       at : (o : Option Directory) → o ≢ None → (if is_none o then shows (Event.Deed k page d) w else w) ≡ w

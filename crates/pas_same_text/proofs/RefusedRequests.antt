@@ -74,6 +74,7 @@ module _ (f : Profile) (k name : ℕ) (p : Progress) (w : World) (d : Directory)
     offers = λ q ne h. h;
     free = λ q b ne small h. h;
     deeds = λ q ne. refl;
+    guarded = λ q ne none. none;
   }
 
   beside : (q : ℕ) → suc q ≢ q

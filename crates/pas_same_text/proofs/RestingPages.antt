@@ -1,5 +1,5 @@
 -- Pages whenever all actors are at rest: a page with room that nobody keeps is offered, and an offered page is offered in the text where it has room.
-use Rattle.std.proofs.Common.{◌≡◌, ℕ, zero, suc, ◌+◌, ◌*◌, ◌/◌, ◌%◌, ◌<◌, ◌≤◌, ◌==◌, Bool, true, false, not, ◌&&◌, ◌||◌, List, Option, None, Some, inl, inr, refl, ap, sym, ◌∙◌, arith}
+use Rattle.std.proofs.Common.{◌≡◌, ℕ, zero, suc, ◌+◌, ◌*◌, ◌/◌, ◌%◌, ◌<◌, ◌≤◌, ◌==◌, Bool, true, false, not, ◌&&◌, List, Option, None, Some, inl, inr, refl, ap, sym, ◌∙◌, arith}
 use Rattle.std.proofs.lemmas.Bool.{eq-eqb, eqb-true, false≢true, true≢false, and_cases, and_from, not_from_false, false_from_ne_true}
 use Rattle.pas_bits.specs.Bits.{has_bit}
 use Rattle.pas_profile.specs.Directories.{number_of, deed_word_of, deed_word_numbered, directory_read, IsKind}
@@ -11,8 +11,7 @@ use Rattle.pas_profile.specs.declared.word.Word.TheVariants as Word
 use Rattle.pas_profile.proofs.Codecs.{numbered, deed_word_of-positive, read-deed_word_of, directory_from_profile, same_from_deed_word}
 use Rattle.pas_machine.specs.State.{deed_in}
 use Rattle.pas_steps.specs.Clear.{IsClear}
-use Rattle.pas_steps.specs.Lists.{part, word_after, visible}
-use Rattle.std.specs.List.{list_any}
+use Rattle.pas_steps.specs.Lists.{Whole, part, word_after, visible}
 use Rattle.pas_steps.specs.Views.{usable_by, usable_by_kind}
 use Rattle.pas_core.specs.Good.{word_of_deed}
 use Rattle.pas_core.specs.Rights.{eligible_bit, IsUsableFree, IsRightOffered, IsRightInOnePlace}
@@ -20,11 +19,12 @@ use Rattle.pas_core.proofs.Deeds.{deed_of, directory_is_of}
 use Rattle.pas_core.proofs.Offers.{offered_at_rest}
 use Rattle.pas_core.proofs.Rights.{right_in_one_place}
 use Rattle.pas_answers.specs.Answers.{Progress}
-use Rattle.pas_one_text.specs.State.{Guard, World}
+use Rattle.pas_one_text.specs.State.{World}
 use Rattle.pas_one_text.specs.Pages.{each_of, is_same, is_of, is_kept, is_guarded, is_free, has_room, is_offered}
 use Rattle.pas_same_text.specs.Same.{HasSame}
 use Rattle.pas_same_text.specs.Acts.{IsBetween}
-use Rattle.pas_same_text.proofs.FreeGrains.{free_same}
+use Rattle.pas_same_text.specs.Words.{free_bit}
+use Rattle.pas_same_text.proofs.FreeGrains.{free_unless}
 use Rattle.pas_same_text.proofs.KeptPages.{keeper, nobody_keeps}
 use Rattle.pas_same_text.proofs.Tests.{and_first, and_second}
 
@@ -70,6 +70,33 @@ not-no : (x : Bool) → not x ≡ false → x ≡ true
 not-no true h = refl
 not-no false h = absurd (true≢false h)
 
+-- the bit of grain b of a page
+pub bit_at : (l : Whole) (page b : ℕ) → b < 256 → free_bit l (256 * page + b) ≡ has_bit (word_after l (Word.Free page (b / 64))) (b % 64)
+bit_at l page b small =
+    let at_page : (256 * page + b) / 256 ≡ page = omega (arith, small) in
+    let at_word : (256 * page + b) / 64 % 4 ≡ b / 64 = omega (arith, small) in
+    let at_bit : (256 * page + b) % 64 ≡ b % 64 = omega (arith, small) in
+    ap (λ (q : ℕ). has_bit (word_after l (Word.Free q ((256 * page + b) / 64 % 4))) ((256 * page + b) % 64)) at_page
+    ∙ (ap (λ (u : ℕ). has_bit (word_after l (Word.Free page u)) ((256 * page + b) % 64)) at_word
+    ∙ ap (λ (x : ℕ). has_bit (word_after l (Word.Free page (b / 64))) x) at_bit)
+
+-- the page has room for a block of the directory, and no guard has it
+abbrev pub is_open : World → Directory → ℕ → Bool
+is_open w d page = not (is_guarded w page) && has_room w d page
+
+pub is_opened : (w : World) (d : Directory) (page : ℕ) → is_guarded w page ≡ false → has_room w d page ≡ true → is_open w d page ≡ true
+is_opened w d page none room = and_from (not (is_guarded w page)) (has_room w d page) (not_from_false (is_guarded w page) none) room
+
+pub open_unguarded : (w : World) (d : Directory) (page : ℕ) → is_open w d page ≡ true → is_guarded w page ≡ false
+open_unguarded w d page h = no-not (is_guarded w page) (and_first (not (is_guarded w page)) (has_room w d page) h)
+
+pub open_room : (w : World) (d : Directory) (page : ℕ) → is_open w d page ≡ true → has_room w d page ≡ true
+open_room w d page h = and_second (not (is_guarded w page)) (has_room w d page) h
+
+-- an offered page is so
+pub had_open : (w : World) (d : Directory) (page : ℕ) → is_offered w d page ≡ true → is_open w d page ≡ true
+had_open w d page h = and_second (not (is_kept w page)) (is_open w d page) (and_second (is_of w d page) (not (is_kept w page) && is_open w d page) h)
+
 module _ (f : Profile) (p : Progress) (w : World) (valid : IsValid f) (between : IsBetween f p) (same : HasSame f p w) where
   pub clear_of : (k : ℕ) → k ≤ f.threads → IsClear (part k p.list)
   clear_of zero le = between.rest.scavenger.clear
@@ -85,22 +112,15 @@ module _ (f : Profile) (p : Progress) (w : World) (valid : IsValid f) (between :
   word_now : (page : ℕ) (d : Directory) → deed_in (visible p.list) page ≡ Some d → word_after p.list (Word.Deed page) ≡ deed_word_of d
   word_now page d is = deed_of f p.list between.legal page ∙ ap word_of_deed is
 
-  pub free_at : (page b : ℕ) → b < 256 → is_free w page b ≡ has_bit (word_after p.list (Word.Free page (b / 64))) (b % 64)
-  free_at page b small =
-      let at_page : (256 * page + b) / 256 ≡ page = omega (arith, small) in
-      let at_word : (256 * page + b) / 64 % 4 ≡ b / 64 = omega (arith, small) in
-      let at_bit : (256 * page + b) % 64 ≡ b % 64 = omega (arith, small) in
-      free_same f p w valid between same page b small
-      ∙ (ap (λ (q : ℕ). has_bit (word_after p.list (Word.Free q ((256 * page + b) / 64 % 4))) ((256 * page + b) % 64)) at_page
-      ∙ (ap (λ (u : ℕ). has_bit (word_after p.list (Word.Free page u)) ((256 * page + b) % 64)) at_word
-      ∙ ap (λ (x : ℕ). has_bit (word_after p.list (Word.Free page (b / 64))) x) at_bit))
+  pub free_at : (page b : ℕ) → b < 256 → is_guarded w page ≡ false → is_free w page b ≡ has_bit (word_after p.list (Word.Free page (b / 64))) (b % 64)
+  free_at page b small none = free_unless f p w valid between same page b small none ∙ bit_at p.list page b small
 
-  usable_at : (page b : ℕ) (d : Directory) → b < 256 → IsDirectoryOf f d → word_after p.list (Word.Deed page) ≡ deed_word_of d → usable_by_kind d.kind b ≡ true → is_free w page b ≡ true → IsUsableFree p.list page (b / 64) (b % 64)
-  usable_at page b d small of word usable free =
+  usable_at : (page b : ℕ) (d : Directory) → b < 256 → IsDirectoryOf f d → word_after p.list (Word.Deed page) ≡ deed_word_of d → is_guarded w page ≡ false → usable_by_kind d.kind b ≡ true → is_free w page b ≡ true → IsUsableFree p.list page (b / 64) (b % 64)
+  usable_at page b d small of word none usable free =
       let whole : 64 * (b / 64) + b % 64 ≡ b = omega arith in
       record {
         small = omega arith;
-        free = sym (free_at page b small) ∙ free;
+        free = sym (free_at page b small none) ∙ free;
         usable = ap (λ (n : ℕ). usable_by (directory_read n) (64 * (b / 64) + b % 64)) word
             ∙ (ap (λ (o : Option Directory). usable_by o (64 * (b / 64) + b % 64)) (read-deed_word_of d (directory_from_profile f d valid of))
             ∙ (ap (usable_by_kind d.kind) whole ∙ usable));
@@ -115,16 +135,17 @@ module _ (f : Profile) (p : Progress) (w : World) (valid : IsValid f) (between :
 
   pub offered_bit : (page : ℕ) (d : Directory) → IsDirectoryOf f d → is_offered w d page ≡ true → eligible_bit p.list (number_of d) page ≡ true
   offered_bit page d of h =
-      let own : is_of w d page ≡ true = and_first (is_of w d page) (not (is_kept w page) && (not (is_guarded w page) && has_room w d page)) h in
-      let rest : (not (is_kept w page) && (not (is_guarded w page) && has_room w d page)) ≡ true = and_second (is_of w d page) (not (is_kept w page) && (not (is_guarded w page) && has_room w d page)) h in
-      let kept : is_kept w page ≡ false = no-not (is_kept w page) (and_first (not (is_kept w page)) (not (is_guarded w page) && has_room w d page) rest) in
-      let room : has_room w d page ≡ true = and_second (not (is_guarded w page)) (has_room w d page) (and_second (not (is_kept w page)) (not (is_guarded w page) && has_room w d page) rest) in
+      let own : is_of w d page ≡ true = and_first (is_of w d page) (not (is_kept w page) && is_open w d page) h in
+      let rest : (not (is_kept w page) && is_open w d page) ≡ true = and_second (is_of w d page) (not (is_kept w page) && is_open w d page) h in
+      let kept : is_kept w page ≡ false = no-not (is_kept w page) (and_first (not (is_kept w page)) (is_open w d page) rest) in
+      let open_page : is_open w d page ≡ true = had_open w d page h in
+      let room : has_room w d page ≡ true = open_room w d page open_page in
       let o : Fails 0 256 (λ b. not (usable_by_kind d.kind b && is_free w page b)) = some_fails 256 0 (λ b. not (usable_by_kind d.kind b && is_free w page b)) (no-not (each_of 0 256 (λ b. not (usable_by_kind d.kind b && is_free w page b))) room) in
       let both : (usable_by_kind d.kind o.number && is_free w page o.number) ≡ true = not-no (usable_by_kind d.kind o.number && is_free w page o.number) o.fails in
       let small : o.number < 256 = o.high in
       let word : word_after p.list (Word.Deed page) ≡ deed_word_of d = word_now page d (deed_now page d of own) in
       offered_where page o.number d small of word kept
-      (usable_at page o.number d small of word (and_first (usable_by_kind d.kind o.number) (is_free w page o.number) both) (and_second (usable_by_kind d.kind o.number) (is_free w page o.number) both))
+      (usable_at page o.number d small of word (open_unguarded w d page open_page) (and_first (usable_by_kind d.kind o.number) (is_free w page o.number) both) (and_second (usable_by_kind d.kind o.number) (is_free w page o.number) both))
 
   -- ---- AN OFFERED PAGE has a deed of its directory, and nobody keeps it
   pub deed_from_word : (page : ℕ) (d : Directory) (o : Option Directory) → deed_in (visible p.list) page ≡ o → word_of_deed o ≡ deed_word_of d → IsKind d.kind → is_same d o ≡ true
@@ -145,13 +166,7 @@ module _ (f : Profile) (p : Progress) (w : World) (valid : IsValid f) (between :
       )
   bit_tells page d of (inr (inr (inr parked))) h = absurd (false≢true (sym (parked.not_offered (number_of d)) ∙ h))
 
-  -- no page is guarded
-  unguarded : (page : ℕ) → is_guarded w page ≡ false
-  unguarded page = ap (λ (gs : List Guard). list_any (λ g. (g.low == page) || (g.high == page)) gs) same.guards
-
-  pub bit_offered : (page : ℕ) (d : Directory) → IsDirectoryOf f d → eligible_bit p.list (number_of d) page ≡ true → has_room w d page ≡ true → is_offered w d page ≡ true
-  bit_offered page d of h room =
+  pub bit_offered : (page : ℕ) (d : Directory) → IsDirectoryOf f d → eligible_bit p.list (number_of d) page ≡ true → is_open w d page ≡ true → is_offered w d page ≡ true
+  bit_offered page d of h open_page =
       let told = bit_tells page d of (right_in_one_place f p.list between.legal page) h in
-      and_from (is_of w d page) (not (is_kept w page) && (not (is_guarded w page) && has_room w d page)) told.0
-      (and_from (not (is_kept w page)) (not (is_guarded w page) && has_room w d page) (not_from_false (is_kept w page) told.1)
-      (and_from (not (is_guarded w page)) (has_room w d page) (not_from_false (is_guarded w page) (unguarded page)) room))
+      and_from (is_of w d page) (not (is_kept w page) && is_open w d page) told.0 (and_from (not (is_kept w page)) (is_open w d page) (not_from_false (is_kept w page) told.1) open_page)

@@ -28,7 +28,7 @@ use Rattle.pas_same_text.specs.Acts.{IsTaken, HandsOnOwn, KeepsIndexes}
 use Rattle.pas_same_text.proofs.StillIndexes.{same_indexes, minds_keep, flushes_keep, stops_keep, idle_keeps, logs_keep, frees_keep, what_keeps, class_keeps, places_keep, run_keeps, pass_keeps}
 
 -- a request takes out what was named for it
-request_indexes : (f : Profile) (k name heap : ℕ) (route : Route) (room align : ℕ) (w : World) → (serves f k name heap route room align w).indexes ≡ after_request route heap (room / 4096) w.indexes
+pub request_indexes : (f : Profile) (k name heap : ℕ) (route : Route) (room align : ℕ) (w : World) → (serves f k name heap route room align w).indexes ≡ after_request route heap (room / 4096) w.indexes
 request_indexes f k name heap (Route.Class class) room align w =
     same_indexes w (serves f k name heap (Route.Class class) room align w) (class_keeps f k name heap class (find (is_for heap class) (locals_of w k)) w)
 request_indexes f k name heap Route.Bitfit room align w =
@@ -84,7 +84,7 @@ lowered_keeps g w =
     let low : World = minds g.low fewer in
     same_indexes low (minds g.high low) (minds_keep g.high low) ∙ same_indexes fewer low (minds_keep g.low fewer)
 
-all_lowered_keep : (gs : List Guard) (w : World) → (each lowers gs w).indexes ≡ w.indexes
+pub all_lowered_keep : (gs : List Guard) (w : World) → (each lowers gs w).indexes ≡ w.indexes
 all_lowered_keep [] w = refl
 all_lowered_keep (g ∷ gs) w = all_lowered_keep gs (lowers g w) ∙ lowered_keeps g w
 

@@ -77,7 +77,7 @@ first_here : (n : ℕ) (more : List ℕ) → has_number (n ∷ more) n ≡ true
 first_here n more = or_left (n == n) (has_number more n) (eq-eqb n n refl)
 
 -- the head of the list is the lowest bit that is set
-pub head_lowest : (s : Slots) (n start : ℕ) (more : List ℕ) → ((g : ℕ) → has_number (n ∷ more) g ≡ is_set s.starts g) → IsRising (n ∷ more) → IsLowestSet s.starts 0 start → n ≡ start
+head_lowest : (s : Slots) (n start : ℕ) (more : List ℕ) → ((g : ℕ) → has_number (n ∷ more) g ≡ is_set s.starts g) → IsRising (n ∷ more) → IsLowestSet s.starts 0 start → n ≡ start
 head_lowest s n start more slots rising lowest = elim (or_cases (n == start) (has_number more start) (slots start ∙ lowest.set)) [
   | inl here ↦ eqb-true n start here
   | inr later ↦
@@ -95,9 +95,26 @@ rest_at n g more false e all =
     ap (λ (t : Bool). not t && has_number more g) (sym (ne_eqb g n (λ same. ne (sym same))))
 
 -- what is left without its head has the bits that are left without the lowest
-pub rest_same : (s s' : Slots) (n start : ℕ) (more : List ℕ) → ((g : ℕ) → has_number (n ∷ more) g ≡ is_set s.starts g) → IsRising (n ∷ more) → n ≡ start → IsWithoutSlot s s' start → (g : ℕ) → has_number more g ≡ is_set s'.starts g
+rest_same : (s s' : Slots) (n start : ℕ) (more : List ℕ) → ((g : ℕ) → has_number (n ∷ more) g ≡ is_set s.starts g) → IsRising (n ∷ more) → n ≡ start → IsWithoutSlot s s' start → (g : ℕ) → has_number more g ≡ is_set s'.starts g
 rest_same s s' n start more slots rising is without g =
     rest_at n g more (n == g) refl rising.0
     ∙ (ap (λ (t : Bool). not (g == n) && t) (slots g)
     ∙ (ap (λ (x : ℕ). not (g == x) && is_set s.starts g) is
     ∙ sym (without.starts g)))
+
+-- its lowest slot is given: the text has it at the head, and the others are left
+pub slot_given : (s s' : Slots) (l : Local) (n start : ℕ) (more : List ℕ) → IsSameLocal s l → l.slots ≡ n ∷ more → IsLowestSet s.starts 0 start → IsWithoutSlot s s' start → (n ≡ start) × IsSameLocal s' (record l { slots = more })
+slot_given s s' l n start more same is lowest without =
+    let bits : (x : ℕ) → has_number (n ∷ more) x ≡ is_set s.starts x = λ x. ap (λ (xs : List ℕ). has_number xs x) (sym is) ∙ same.slots x in
+    let rising : IsRising (n ∷ more) = subst IsRising is same.rising in
+    let head : n ≡ start = head_lowest s n start more bits rising lowest in (
+      head,
+      record {
+        page = same.page ∙ sym without.page;
+        heap = same.heap ∙ sym without.heap;
+        class = same.class ∙ sym without.class;
+        keeps = same.keeps ∙ sym without.right;
+        slots = rest_same s s' n start more bits rising head without;
+        rising = rising.1;
+      },
+    )

@@ -1,7 +1,7 @@
 -- WHAT A SEARCH DOES to hints and offers, where no other actor makes a step: it hints no page but one that was hinted, and offers none but one that was
 -- offered; the page on which it may make a deed, and which it may back, is apart.
 use Rattle.std.proofs.Common.{◌≡◌, ◌≢◌, ℕ, ◌+◌, ◌*◌, ◌/◌, ◌%◌, ◌<◌, ◌==◌, Bool, true, false, ◌&&◌, ◌||◌, if◌then◌else◌, List, [], ◌∷◌, ◌++◌, Option, None, Some, ◌⊎◌, inl, inr, refl, ap, sym, ◌∙◌, subst, arith}
-use Rattle.std.proofs.lemmas.Bool.{true≢false, false≢true, eqb-true, false_from_ne_true}
+use Rattle.std.proofs.lemmas.Bool.{true≢false, false≢true, eqb-true, or_from, false_from_ne_true}
 use Rattle.std.proofs.lemmas.Option.{same_Some}
 use Rattle.pas_bits.specs.Bits.{has_bit}
 use Rattle.pas_profile.specs.Directories.{number_of, deed_word_of, deed_word_numbered}
@@ -89,7 +89,7 @@ module _ (f : Profile) (k : ℕ) (l : Whole) where
   free_moves (EndSized name room) a g bit held lends h = absurd (true≢false lends)
   free_moves s a g bit held lends h = h
 
-  stays_free : (g : ℕ) (xs : List Made) → Legal f (triples k xs ++ l) → LendsNone xs → free_bit l g ≡ true → (free_bit (triples k xs ++ l) g || holds xs g) ≡ true
+  pub stays_free : (g : ℕ) (xs : List Made) → Legal f (triples k xs ++ l) → LendsNone xs → free_bit l g ≡ true → (free_bit (triples k xs ++ l) g || holds xs g) ≡ true
   stays_free g [] legal lends free = ap (λ (t : Bool). t || false) free
   stays_free g (m ∷ xs) legal lends free =
       ap (λ (t : Bool). t || held_after (grain_move m.step m.answer g) (holds xs g)) (free_step f (triples k xs ++ l) (epoch_of (part k (triples k xs ++ l))) m.step m.answer g legal.0.of_region legal.0.answer_is)
@@ -99,10 +99,9 @@ module _ (f : Profile) (k : ℕ) (l : Whole) where
   word_read page word s v ReadsFree.Looks = refl
   word_read page word s v (ReadsFree.Takes mask) = refl
 
-  pub free_shown : (page b : ℕ) (r : Readings) (xs : List Made) → Legal f (triples k xs ++ l) → LendsNone xs → b < 256 → free_bit l (page * 256 + b) ≡ true → Once (ShowsHere page (b / 64) r) xs → r b ≡ true
-  free_shown page b r [] legal lends small free h = absurd h
-  free_shown page b r (m ∷ xs) legal lends small free (inr h) = free_shown page b r xs legal.1 lends.1 small free h
-  free_shown page b r (m ∷ xs) legal lends small free (inl s) =
+  -- a reading is of the grain that is free at that moment, or that the call holds
+  shown_is : (page b : ℕ) (r : Readings) (m : Made) (xs : List Made) → Legal f (triples k (m ∷ xs) ++ l) → b < 256 → ShowsHere page (b / 64) r m xs → r b ≡ (free_bit (triples k xs ++ l) (page * 256 + b) || holds xs (page * 256 + b))
+  shown_is page b r m xs legal small s =
       let g : ℕ = page * 256 + b in
       let whole : 64 * (b / 64) + b % 64 ≡ b = omega arith in
       let at_page : g / 256 ≡ page = omega (arith, small) in
@@ -114,7 +113,24 @@ module _ (f : Profile) (k : ℕ) (l : Whole) where
       ∙ (s.2 (b % 64) (omega arith)
       ∙ (ap (λ (x : ℕ). has_bit m.answer (b % 64) || holds xs (page * 256 + x)) whole
       ∙ (ap (λ (x : ℕ). has_bit m.answer x || holds xs g) at_bit
-      ∙ (ap (λ (x : ℕ). has_bit x (g % 64) || holds xs g) answer ∙ stays_free g xs legal.1 lends.1 free))))
+      ∙ ap (λ (x : ℕ). has_bit x (g % 64) || holds xs g) answer)))
+
+  pub free_shown : (page b : ℕ) (r : Readings) (xs : List Made) → Legal f (triples k xs ++ l) → LendsNone xs → b < 256 → free_bit l (page * 256 + b) ≡ true → Once (ShowsHere page (b / 64) r) xs → r b ≡ true
+  free_shown page b r [] legal lends small free h = absurd h
+  free_shown page b r (m ∷ xs) legal lends small free (inr h) = free_shown page b r xs legal.1 lends.1 small free h
+  free_shown page b r (m ∷ xs) legal lends small free (inl s) = shown_is page b r m xs legal small s ∙ stays_free (page * 256 + b) xs legal.1 lends.1 free
+
+  -- .. and the other way round: what was read as free, or was the call's own, was free before the search
+  pub shown_free : (page b : ℕ) (r : Readings) (xs : List Made) → Legal f (triples k xs ++ l) → LendsNone xs → Always ReturnsDuly xs → b < 256 → Once (ShowsHere page (b / 64) r) xs → r b ≡ true → free_bit l (page * 256 + b) ≡ true
+  shown_free page b r [] legal lends due small h read = absurd h
+  shown_free page b r (m ∷ xs) legal lends due small (inr h) read = shown_free page b r xs legal.1 lends.1 due.1 small h read
+  shown_free page b r (m ∷ xs) legal lends due small (inl s) read = by_bit (free_bit l (page * 256 + b)) refl
+    where
+      by_bit : (t : Bool) → free_bit l (page * 256 + b) ≡ t → free_bit l (page * 256 + b) ≡ true
+      by_bit true is = is
+      by_bit false is =
+          let used = stays_used (page * 256 + b) xs legal.1 lends.1 due.1 is in
+          absurd (false≢true (sym (shown_is page b r m xs legal small s ∙ or_from (free_bit (triples k xs ++ l) (page * 256 + b)) (holds xs (page * 256 + b)) used.0 used.1) ∙ read))
 
   -- a grain that was read as free was so before the search
   pub read_free : (page word b g : ℕ) (xs : List Made) → Legal f (triples k xs ++ l) → LendsNone xs → Always ReturnsDuly xs → b < 64 → free_word_at g ≡ Word.Free page word → g % 64 ≡ b → Once (ReadsAllFree page word) xs → free_bit l g ≡ true

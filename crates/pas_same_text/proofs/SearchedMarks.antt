@@ -1,5 +1,5 @@
 -- THE MARKS of pages after a request that searched, from one state where all actors are at rest to another: of each page but the one that serves.
-use Rattle.std.proofs.Common.{◌≡◌, ◌≢◌, ℕ, ◌<◌, ◌==◌, true, List, [], ◌∷◌, ◌++◌, Some, ◌⊎◌, inl, inr, refl, ap, sym, ◌∙◌, subst}
+use Rattle.std.proofs.Common.{◌≡◌, ◌≢◌, ℕ, ◌<◌, ◌==◌, true, false, List, [], ◌∷◌, ◌++◌, Some, ◌⊎◌, inl, inr, refl, ap, sym, ◌∙◌, subst}
 use Rattle.std.proofs.lemmas.Bool.{cases_eq}
 use Rattle.std.specs.List.{list_any}
 use Rattle.pas_profile.specs.Directories.{number_of}
@@ -23,22 +23,22 @@ use Rattle.pas_search.specs.Kinds.{IsReturnOf, ReturnsDuly, EventsAt, AreSearch,
 use Rattle.pas_cache.specs.Kinds.{allocating}
 use Rattle.pas_answers.specs.Answers.{Progress}
 use Rattle.pas_one_text.specs.State.{World}
-use Rattle.pas_one_text.specs.Pages.{is_free, is_hinted, is_offered}
+use Rattle.pas_one_text.specs.Pages.{is_free, is_hinted, is_guarded, is_offered}
 use Rattle.pas_same_text.specs.Same.{HasSame, ArePagesSame}
 use Rattle.pas_same_text.specs.Acts.{IsBetween}
-use Rattle.pas_same_text.proofs.GivenPages.{room_grows, had_room}
+use Rattle.pas_same_text.proofs.GivenPages.{open_grows}
 use Rattle.pas_same_text.proofs.GivingBack.{HintsPage, OffersPage, hinted_stays, hinted_by, offered_by}
-use Rattle.pas_same_text.proofs.RestingPages.{clear_of, deed_now, bit_tells, bit_offered, offered_bit}
+use Rattle.pas_same_text.proofs.RestingPages.{had_open, clear_of, deed_now, bit_tells, bit_offered, offered_bit}
 use Rattle.pas_same_text.proofs.SearchMarks.{hint_was, was_offered, own_bit}
 
 -- a page that the search offers was got
-offers_got : (q : ℕ) (xs : List Made) → Always ReturnsDuly xs → OffersPage q xs → Once (GetsHere q) xs
+pub offers_got : (q : ℕ) (xs : List Made) → Always ReturnsDuly xs → OffersPage q xs → Once (GetsHere q) xs
 offers_got q [] due h = absurd h
 offers_got q (m ∷ xs) due (inl h) = inr (due.0.0 q (subst (IsReturnOf q) (sym h.1) (IsReturnOf.Offers h.0)))
 offers_got q (m ∷ xs) due (inr h) = inr (offers_got q xs due.1 h)
 
 -- Actor k went from p to p' by a search, and steps after it that mark no page but the one that serves. The text has the same events, blocks and caches at both ends, and the
--- same hints. Free grains of other pages stay free, and their deeds are the same.
+-- same hints. Free grains of other pages stay free, their deeds are the same, and none of them becomes guarded.
 pub record IsSearchedTo (f : Profile) (k : ℕ) (p p' : Progress) (w v : World) (d : Directory) (page : ℕ) (searched after : List Made) : Type 0 where
   pub valid : IsValid f
   pub before : IsBetween f p
@@ -55,6 +55,7 @@ pub record IsSearchedTo (f : Profile) (k : ℕ) (p p' : Progress) (w v : World) 
   pub offers : (q : ℕ) → page ≢ q → OffersPage q (after ++ searched) → OffersPage q searched
   pub free : (q b : ℕ) → page ≢ q → b < 256 → is_free w q b ≡ true → is_free v q b ≡ true
   pub deeds : (q : ℕ) → page ≢ q → deed_in v.events q ≡ deed_in w.events q
+  pub guarded : (q : ℕ) → page ≢ q → is_guarded w q ≡ false → is_guarded v q ≡ false
 
 module _ (f : Profile) (k : ℕ) (p p' : Progress) (w v : World) (d : Directory) (page : ℕ) (searched after : List Made) (s : IsSearchedTo f k p p' w v d page searched after) where
   abbrev l : Whole
@@ -112,7 +113,7 @@ module _ (f : Profile) (k : ℕ) (p p' : Progress) (w v : World) (d : Directory)
       ap (λ (es : List Event). deed_in es q) (sym s.old.events) ∙ (sym (s.deeds q ne) ∙ (ap (λ (es : List Event). deed_in es q) s.now.events ∙ deed_now f p' v s.valid s.between s.now q e of told.0)) in
       let o = at (offered_by k steps l (number_of e) q (ap (λ (m : Whole). eligible_bit m (number_of e) q) (sym s.list) ∙ bit)) in
       let was : is_offered w e q ≡ true = s.was.offered q e of ∙ own_bit f l e o.0 q first of deed o.1 in
-      bit_offered f p' v s.valid s.between s.now q e of bit (room_grows w v e q (λ b small h. s.free q b ne small h) (had_room w e q was))
+      bit_offered f p' v s.valid s.between s.now q e of bit (open_grows w v e q (s.guarded q ne) (λ b small h. s.free q b ne small h) (had_open w e q was))
     where
       at : (eligible_bit l (number_of e) q ≡ true) ⊎ OffersPage q steps → (n : ℕ) × (eligible_bit l n q ≡ true)
       at (inl old) = (number_of e, old)

@@ -30,6 +30,7 @@ use Rattle.pas_one_text.specs.Pages.{page_numbers, is_none, is_unowned}
 use Rattle.pas_one_text.specs.Pages.{is_offered as is_offered_text}
 use Rattle.pas_one_text.specs.Searches.{some_of, page_or, refusal, searched}
 use Rattle.pas_same_text.specs.Searched.{IsSearch}
+use Rattle.pas_same_text.proofs.RestingPages.{open_unguarded, had_open}
 
 -- ---- the first number that passes a test
 first_at : (test : ℕ → Bool) (from : ℕ) (rest : Option ℕ) (t : Bool) → test from ≡ t → t ≡ false → (if test from then Some from else rest) ≡ rest
@@ -69,10 +70,15 @@ module _ (no_fit : Readings → Type 0) (f : Profile) (d : Directory) (k : ℕ) 
     bit_is : (q : ℕ) → eligible_bit l (number_of d) q ≡ is_offered (number_of d) (spot_of l q)
     bit_is q = (spotted f l first q).eligible (number_of d)
 
+    -- a page on which it doesn't fit doesn't serve; where a guard has it, it isn't offered
+    unfit_over : (q : ℕ) → IsPage f q → no_fit (free_of_page l q) → (t : Bool) → is_offered_text w d q ≡ t → serves q ≡ false
+    unfit_over q of unfit true offered = ap (λ (t : Bool). is_offered_text w d q && t) (s.fits_same.none q of (open_unguarded w d q (had_open w d q offered)) unfit) ∙ no_more (is_offered_text w d q)
+    unfit_over q of unfit false offered = ap (λ (t : Bool). t && some_of (fits q)) offered
+
     -- a page that didn't fit or was read as not offered serves in the text neither
     passed_over : (q end : ℕ) → IsPage f q → q < end → Searched no_fit d end steps → serves q ≡ false
     passed_over q end of lt all = elim (all q of.0 lt) [
-      | inl unfit ↦ ap (λ (t : Bool). is_offered_text w d q && t) (s.fits_same.none q of (unfit_entry no_fit f k l q steps s.fewer s.legal s.lends_none unfit)) ∙ no_more (is_offered_text w d q)
+      | inl unfit ↦ unfit_over q of (unfit_entry no_fit f k l q steps s.fewer s.legal s.lends_none unfit) (is_offered_text w d q) refl
       | inr zero_read ↦
           let bit : eligible_bit l (number_of d) q ≡ false = elim (cases_Bool (has_right (part k l) q)) [
             | inl has ↦ right_not_offered f l first k (number_of d) q has
@@ -88,8 +94,8 @@ module _ (no_fit : Readings → Type 0) (f : Profile) (d : Directory) (k : ℕ) 
         let lacks : has_right (part k l) page ≡ false = entry_lacks f k l d page read.0 s.valid first (s.rights page) (offered_deed f (triples k read.0 ++ l) d page s.directory read.1 read.3) in
         let bit : eligible_bit l (number_of d) page ≡ true =
         bit_is page ∙ (ap (is_offered (number_of d)) (sym (spot_same f k l page read.0 read.1 lacks read.2)) ∙ (sym ((spotted f (triples k read.0 ++ l) read.1 page).eligible (number_of d)) ∙ read.3)) in
-        let here : serves page ≡ true =
-        ap (λ (t : Bool). t && some_of (fits page)) (s.pages.offered page d s.directory ∙ bit) ∙ s.fits_same.some page of fit in
+        let offered : is_offered_text w d page ≡ true = s.pages.offered page d s.directory ∙ bit in
+        let here : serves page ≡ true = ap (λ (t : Bool). t && some_of (fits page)) offered ∙ s.fits_same.some page of (open_unguarded w d page (had_open w d page offered)) fit in
         let low = of.0 in let high = of.1 in
         let found : find serves (page_numbers f) ≡ Some page =
         find_first serves f.pages 1 page low (omega (arith, high)) here (λ q above below. passed_over q page (above, omega (arith, below, high)) below from.searched) in

@@ -1,7 +1,7 @@
 -- STOPS: a flush, and then all local allocators of the cache go.
 use Rattle.std.proofs.Common.{◌≡◌, ℕ, ◌+◌, ◌*◌, ◌/◌, ◌%◌, ◌<◌, ◌≤◌, ◌==◌, Bool, true, false, not, ◌&&◌, if◌then◌else◌, List, [], ◌∷◌, ◌++◌, map, ◌⊎◌, inl, inr, refl, ap, sym, ◌∙◌, subst, arith}
 use Rattle.std.specs.Prelude.{All}
-use Rattle.std.proofs.lemmas.Bool.{false≢true, eq-eqb, or_left, or_right}
+use Rattle.std.proofs.lemmas.Bool.{false≢true, eq-eqb, eqb-true, or_left, or_right}
 use Rattle.std.proofs.lemmas.Bool.Decides.{nat_tests}
 use Rattle.std.proofs.lemmas.List.Elements.{All-head, All-tail}
 use Rattle.pas_bits.specs.Masks.{is_set, HasMember}
@@ -45,7 +45,7 @@ use Rattle.pas_answers.specs.Answers.{Progress, records_of, with_steps, with_rec
 use Rattle.pas_answers.specs.Answers.{with_cache as with_cached}
 use Rattle.pas_one_text.specs.State.{Local, World, cache_of, locals_of}
 use Rattle.pas_one_text.specs.Frees.{flushes, gives_up_all, stops}
-use Rattle.pas_one_text.specs.Pages.{is_of, has_room}
+use Rattle.pas_one_text.specs.Pages.{is_of}
 use Rattle.pas_same_text.specs.Same.{IsSame, HasSame, IsSameCache, AreSameLocals, AreSameCaches, lives_in, has_number}
 use Rattle.pas_same_text.specs.Acts.{IsBetween, AreBlocksUsable}
 use Rattle.pas_same_text.specs.Words.{free_bit}
@@ -53,12 +53,13 @@ use Rattle.pas_same_text.proofs.CacheLists.{same_own, same_with, same_again}
 use Rattle.pas_same_text.proofs.FlushActs.{flush_to, flush_records, events_recorded, ended_room, lived}
 use Rattle.pas_same_text.proofs.FlushedLogs.{IsFlushedTo, IsEndedOn, OnlyFewer}
 use Rattle.pas_same_text.proofs.Flushes.{visible_steps}
-use Rattle.pas_same_text.proofs.FreeGrains.{free_same, holder_is}
+use Rattle.pas_same_text.proofs.FreeGrains.{cached_held, held_by, never_both, held_still}
 use Rattle.pas_same_text.proofs.GivenBack.{returns_then, has_both}
-use Rattle.pas_same_text.proofs.GivenPages.{IsGivenBack, room_from, covered_not_held, free_left, given_pages}
+use Rattle.pas_same_text.proofs.GivenPages.{IsGivenBack, open_from, covered_not_held, free_left, given_pages}
 use Rattle.pas_same_text.proofs.GivenUp.{IsGivenUp, AllOfRegion, unique_of, all_up}
 use Rattle.pas_same_text.proofs.GivingBack.{IsMarked, marked_parts, hint_marks, offer_marks, offered_of_region, hints_both, epoch_stays_by}
-use Rattle.pas_same_text.proofs.RestingPages.{deed_now, free_at}
+use Rattle.pas_same_text.proofs.OuterPages.{guards_as, still_unguarded}
+use Rattle.pas_same_text.proofs.RestingPages.{is_open, bit_at, deed_now}
 use Rattle.pas_same_text.proofs.StillIndexes.{same_guards, stops_keep}
 use Rattle.pas_same_text.proofs.StopSteps.{IsMarkedBy, IsMarkedIn, AllClasses, ReadsRoom, room_earlier, grain_read, all_marked, all_hints}
 
@@ -94,7 +95,7 @@ one_of f v q steps slots known (IsMarkedIn.There s rest o) =
     record { own = r.own; marked = r.marked; known = r.known; has = λ g h. or_right (covers s g) (any_covers rest g) (r.has g h) }
 
 -- a slot's first grain is one that blocks of its page's directory may cover
-slot_usable : (right : Bool) (class b : ℕ) → 1 ≤ class_grains class → IsSlotStart class b → usable_by_kind (kind_of_class (not right) class) b ≡ true
+pub slot_usable : (right : Bool) (class b : ℕ) → 1 ≤ class_grains class → IsSlotStart class b → usable_by_kind (kind_of_class (not right) class) b ≡ true
 slot_usable true class b some slot = let within = slot.within in let lt : b < usable_grains class = omega (arith, within, some) in grind (arith, nat_tests, lt)
 slot_usable false class b some slot = refl
 
@@ -148,19 +149,23 @@ module _ (f : Profile) (k : ℕ) (p : Progress) (w : World) (flushed stopped : L
     events = events;
     live = up.live ∙ (to.live ∙ ap lives_in (sym up.events));
     caches = same_again f p.caches v.caches k own c' (subst (AreSameCaches f (with_cached (with_cached p.caches k own) k c')) (sym up.caches) (same_with f (with_cached p.caches k own) vf.caches k c' (record (cache_of vf k) { locals = [] }) thread to.same new_same));
-    guards = same_guards w v (stops_keep f k w) ∙ same.guards;
+    guards = guards_as p.books w v (same_guards w v (stops_keep f k w)) same.guards;
   }
 
   -- ---- grains that an actor holds then
-  held_at : (j g : ℕ) (t : Bool) → (j == k) ≡ t → any_covers (if t then c' else p.caches j).locals g ≡ true → ((j == k) ≡ false) × (any_covers (p.caches j).locals g ≡ true)
+  held_at : (j g : ℕ) (t : Bool) → (j == k) ≡ t → any_covers (if t then c' else p.caches j).locals g ≡ true → any_covers (p.caches j).locals g ≡ true
   held_at j g true e held = absurd (false≢true (sym (ap (λ (d : Cached). any_covers d.locals g) cache) ∙ held))
-  held_at j g false e held = (e, held)
+  held_at j g false e held = held
 
-  held_before : (j g : ℕ) → holds (part j p'.list) g ≡ true → ((j == k) ≡ false) × (holds (part j p.list) g ≡ true)
-  held_before j g held =
-      let is : IsThread f j = holder_is f p' v valid after has j g held in
-      let was = held_at j g (j == k) refl (sym ((after.rest.working j is).locals.grains g) ∙ held) in
-      (was.0, (before.rest.working j is).locals.grains g ∙ was.1)
+  held_before : (j g : ℕ) → holds (part j p'.list) g ≡ true → holds (part j p.list) g ≡ true
+  held_before j g held = held_still f p p' before after refl j g (held_at j g (j == k) refl) held
+
+  -- actor k holds none of its cache's grains
+  lets_go : (g : ℕ) → any_covers c.locals g ≡ true → holds (part k p'.list) g ≡ true → ⊥
+  lets_go g cached held = elim (held_by f p' after k g held) [
+    | inl again ↦ false≢true (sym (ap (λ (d : Cached). any_covers d.locals g) (same_own p.caches k c' ∙ cache)) ∙ again)
+    | inr outer ↦ never_both f p before k g (g / 256) cached outer
+  ]
 
   fewer : OnlyFewer w.events v.events
   fewer = subst (OnlyFewer w.events) (sym up.events) to.fewer
@@ -178,7 +183,7 @@ module _ (f : Profile) (k : ℕ) (p : Progress) (w : World) (flushed stopped : L
       let stays : word_after p'.list (Word.Deed q) ≡ word_after p.list (Word.Deed q) = deed_same freeing refl k (stopped ++ flushed) p.list q all_kinds in
       same_from_deed_word d (home_of s) of.kind local.directory.kind (sym now ∙ (stays ∙ (ap (λ (x : ℕ). word_after p.list (Word.Deed x)) (sym page) ∙ (sym word ∙ some))))
 
-  slot_room : (s : Slots) (q : ℕ) (d : Directory) → IsDirectoryOf f d → is_of v d q ≡ true → IsLocal f (part k p.list) s → ((g : ℕ) → covers s g ≡ true → any_covers c.locals g ≡ true) → s.page ≡ q → HasMember s.starts → has_room v d q ≡ true
+  slot_room : (s : Slots) (q : ℕ) (d : Directory) → IsDirectoryOf f d → is_of v d q ≡ true → IsLocal f (part k p.list) s → ((g : ℕ) → covers s g ≡ true → any_covers c.locals g ≡ true) → s.page ≡ q → HasMember s.starts → is_open v d q ≡ true
   slot_room s q d of is local in_cache page m =
       let b : ℕ = m.0 in
       let small : b < 256 = m.1 in
@@ -191,19 +196,19 @@ module _ (f : Profile) (k : ℕ) (p : Progress) (w : World) (flushed stopped : L
       let covered : covers s g ≡ true =
       ap (λ (t : Bool). t && is_set s.starts (start_of s.class (g % 256))) (eq-eqb s.page (g / 256) (page ∙ sym at_page))
       ∙ (ap (λ (x : ℕ). is_set s.starts (start_of s.class x)) at_grain ∙ (ap (is_set s.starts) first ∙ m.2)) in
-      let held : holds (part k p.list) g ≡ true = (before.rest.working k thread).locals.grains g ∙ in_cache g covered in
+      let held : holds (part k p.list) g ≡ true = cached_held f p before k g thread (in_cache g covered) in
       let free : free_bit p'.list g ≡ true = free_left f p'.list valid after.legal g
-      (λ j now. let was = held_before j g now in false≢true (sym was.0 ∙ one_holder f p.list valid before.legal j k g was.1 held))
-      (λ a b' lives of_it. covered_not_held f p.list valid before.legal g a b' (lived f p p' w v to.pages valid before after same.pages.events has usable fewer (λ j x now. (held_before j x now).1) a b' lives) of_it k held) in
-      room_from v d q b small (ap (λ (x : Directory). usable_by_kind x.kind b) (home_is s q d of is local page) ∙ slot_usable s.right s.class b some slot) (free_same f p' v valid after has q b small ∙ free)
+      (λ j now. let is_own : j ≡ k = eqb-true j k (one_holder f p.list valid before.legal j k g (held_before j g now) held) in lets_go g (in_cache g covered) (subst (λ (i : ℕ). holds (part i p'.list) g ≡ true) is_own now))
+      (λ a b' lives of_it. covered_not_held f p.list valid before.legal g a b' (lived f p p' w v to.pages valid before after same.pages.events has usable fewer held_before a b' lives) of_it k held) in
+      open_from f p' v valid after has d q b small (ap (λ (x : Directory). usable_by_kind x.kind b) (home_is s q d of is local page) ∙ slot_usable s.right s.class b some slot) free
 
-  read_room : (s : Slots) (q : ℕ) (d : Directory) → IsDirectoryOf f d → is_of v d q ≡ true → IsLocal f (part k p.list) s → s.page ≡ q → ReadsRoom q (home_of s) stopped → has_room v d q ≡ true
+  read_room : (s : Slots) (q : ℕ) (d : Directory) → IsDirectoryOf f d → is_of v d q ≡ true → IsLocal f (part k p.list) s → s.page ≡ q → ReadsRoom q (home_of s) stopped → is_open v d q ≡ true
   read_room s q d of is local page r =
       let all : ReadsRoom q (home_of s) (stopped ++ flushed) = room_earlier q (home_of s) stopped flushed r in
-      room_from v d q all.grain all.small (ap (λ (x : Directory). usable_by_kind x.kind all.grain) (home_is s q d of is local page) ∙ all.usable)
-      (free_at f p' v valid after has q all.grain all.small ∙ grain_read freeing refl f k p.list q all.grain (stopped ++ flushed) after.legal all_kinds all.read)
+      open_from f p' v valid after has d q all.grain all.small (ap (λ (x : Directory). usable_by_kind x.kind all.grain) (home_is s q d of is local page) ∙ all.usable)
+      (bit_at p'.list q all.grain all.small ∙ grain_read freeing refl f k p.list q all.grain (stopped ++ flushed) after.legal all_kinds all.read)
 
-  marked_room : (q : ℕ) (d : Directory) → IsDirectoryOf f d → is_of v d q ≡ true → (o : IsOneOf f (part k p.list) q stopped c.locals) → HasMember o.own.starts ⊎ ReadsRoom q (home_of o.own) stopped → has_room v d q ≡ true
+  marked_room : (q : ℕ) (d : Directory) → IsDirectoryOf f d → is_of v d q ≡ true → (o : IsOneOf f (part k p.list) q stopped c.locals) → HasMember o.own.starts ⊎ ReadsRoom q (home_of o.own) stopped → is_open v d q ≡ true
   marked_room q d of is o (inl some) = slot_room o.own q d of is o.known o.has o.marked.page some
   marked_room q d of is o (inr read) = read_room o.own q d of is o.known o.marked.page read
 
@@ -222,9 +227,10 @@ module _ (f : Profile) (k : ℕ) (p : Progress) (w : World) (flushed stopped : L
     ];
     rooms = λ q d of is offer. elim (marked_parts q stopped flushed (offer_marks q (stopped ++ flushed) offer)) [
       | inl first ↦ let o = one_of f (part k p.list) q stopped c.locals known (stop_marks q first) in marked_room q d of is o o.marked.room
-      | inr later ↦ ended_room f p p' w v to.pages valid before after same.pages.events has usable fewer (λ j g now. (held_before j g now).1) q d of is
+      | inr later ↦ ended_room f p p' w v to.pages valid before after same.pages.events has usable fewer held_before q d of is
           (subst (λ (es : List Event). IsEndedOn w.events es to.pages q) (sym up.events) (to.marks q (offered_of_region f k p.list q (stopped ++ flushed) after.legal offer) later))
     ];
+    guarded = λ q none. still_unguarded w v q (same_guards w v (stops_keep f k w)) none;
   }
 
   shown : events_by k (part k p.list) (stopped ++ flushed) ≡ events_by k (part k p.list) flushed

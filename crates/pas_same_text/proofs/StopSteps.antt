@@ -52,7 +52,7 @@ grain_read ks no_take f k l page g (m ∷ xs) legal only (inl h) =
     let at : m.answer ≡ word_after (triples k xs ++ l) (Word.Free page (g / 64)) = legal.0.answer_is ∙ ap (λ s. word_after (triples k xs ++ l) (target s)) h.0 in
     free_stays ks no_take k (m ∷ []) (triples k xs ++ l) page (g / 64) (g % 64) (only.0, tt) (ap (λ n. has_bit n (g % 64)) (sym at) ∙ h.1)
 
-room_later : (page : ℕ) (d : Directory) (ys xs : List Made) → ReadsRoom page d xs → ReadsRoom page d (ys ++ xs)
+pub room_later : (page : ℕ) (d : Directory) (ys xs : List Made) → ReadsRoom page d xs → ReadsRoom page d (ys ++ xs)
 room_later page d ys xs r = record { grain = r.grain; small = r.small; usable = r.usable; read = once_later _ ys xs r.read }
 
 pub room_earlier : (page : ℕ) (d : Directory) (ys xs : List Made) → ReadsRoom page d ys → ReadsRoom page d (ys ++ xs)
@@ -149,7 +149,7 @@ marked_later s q ys xs o = record { page = o.page; room = elim o.room [ inl some
 marked_earlier : (s : Slots) (q : ℕ) (ys xs : List Made) → IsMarkedBy s q ys → IsMarkedBy s q (ys ++ xs)
 marked_earlier s q ys xs o = record { page = o.page; room = elim o.room [ inl some ↦ inl some | inr r ↦ inr (room_earlier q (home_of s) ys xs r) ] }
 
-one_marked : (s : Slots) (q : ℕ) (steps : List Made) → IsClass s.class → StopStepsAt (home_of s) s steps → IsMarked q steps → IsMarkedBy s q steps
+pub one_marked : (s : Slots) (q : ℕ) (steps : List Made) → IsClass s.class → StopStepsAt (home_of s) s steps → IsMarked q steps → IsMarkedBy s q steps
 one_marked s q steps is h marked = subst (IsMarkedBy s q) (sym h.steps_are) (elim (marked_parts q h.left h.back (subst (IsMarked q) h.steps_are marked)) [
   | inl first ↦ marked_earlier s q h.left h.back (left_marked s s.right q h.left h.leaves first)
   | inr later ↦ marked_later s q h.left h.back (back_marked s h.mask q h.back is h.grains h.puts later)

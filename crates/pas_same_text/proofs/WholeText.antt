@@ -31,11 +31,11 @@ use Rattle.pas_same_text.specs.Acts.{AreBlocksUsable}
 use Rattle.pas_same_text.proofs.EntrySteps.{read_deed}
 
 -- ==== THE START
-many_numbers : (n from : ℕ) → length (map (λ k. no_cache) (numbers_from from n)) ≡ n
+pub many_numbers : (n from : ℕ) → length (map (λ k. no_cache) (numbers_from from n)) ≡ n
 many_numbers zero from = refl
 many_numbers (suc n) from = ap suc (many_numbers n (from + 1))
 
-none_used : (n from k : ℕ) → cache_in (map (λ k. no_cache) (numbers_from from n)) k ≡ no_cache
+pub none_used : (n from k : ℕ) → cache_in (map (λ k. no_cache) (numbers_from from n)) k ≡ no_cache
 none_used zero from k = refl
 none_used (suc n) from k = by_place (k == 1) (cache_in (map (λ k. no_cache) (numbers_from (from + 1) n)) (k - 1)) (none_used n (from + 1) (k - 1))
   where
@@ -53,7 +53,7 @@ pub start_same : (f : Profile) → IsSame f at_start (opened f)
 start_same f = record {
   pages = record { events = refl; live = refl; hinted = λ page. sym (none_of_zero (page % 64)); offered = λ page d of. sym (none_of_zero (page % 64)) };
   caches = start_caches f;
-  guards = refl;
+  guards = record { each = λ keeper. refl };
   names = refl;
   records = refl;
   epoch = refl;

@@ -1,34 +1,70 @@
 -- WHAT AN ACT OWES: from a state that is the replay's it leads to one that is.
-use Rattle.std.specs.Prelude.{ℕ, ◌/◌, ◌%◌, ◌<◌, ◌≡◌, true, List, length, Some}
+use Rattle.std.specs.Prelude.{ℕ, ◌/◌, ◌%◌, ◌<◌, ◌≤◌, ◌≡◌, ◌⊎◌, true, false, ◌||◌, List, [], length, Some, All}
 use Rattle.pas_bits.specs.Masks.{HasMember}
 use Rattle.pas_profile.specs.Profiles.{IsValid}
 use Rattle.pas_profile.specs.declared.directory.Directory.{Directory}
 use Rattle.pas_profile.specs.declared.event.Event.{Event}
 use Rattle.pas_profile.specs.declared.profile.Profile.{Profile}
-use Rattle.pas_machine.specs.State.{Live, live_in, deed_in}
+use Rattle.pas_machine.specs.State.{Live, live_in, deed_in, backed_in}
 use Rattle.pas_core.specs.Good.{IsPartOf}
-use Rattle.pas_steps.specs.Views.{usable_by_kind}
+use Rattle.pas_steps.specs.Clear.{IsClear, HasNothing}
+use Rattle.pas_steps.specs.Views.{View, holds, has_right, usable_by_kind}
 use Rattle.pas_steps.specs.Lists.{Whole, part, visible, Legal}
 use Rattle.pas_core.specs.Stamps.{AllStamped, AllKeepToEnds}
 use Rattle.pas_large.specs.Doors.{Indexes}
 use Rattle.pas_segregated.specs.declared.slots.Slots.{Slots}
-use Rattle.pas_cache.specs.Locals.{local_for}
+use Rattle.pas_free_log.specs.Conditions.{IsEntryOf}
+use Rattle.pas_cache.specs.Contents.{Cached}
+use Rattle.pas_cache.specs.Locals.{local_for, any_covers, any_keeps, IsLocal, AreApart}
+use Rattle.pas_guard.specs.Books.{is_outer, Each, IsGuardOf, KnowsGuard}
+use Rattle.pas_guard.specs.Books.{AreApart as AreGuardsApart}
+use Rattle.pas_guard.specs.Keepers.{IsBeside}
+use Rattle.pas_guard.specs.declared.book.Guard.{Guard}
 use Rattle.pas_trace.specs.Acts.{Act}
 use Rattle.pas_trace.specs.EveryPlan.{IsThread}
-use Rattle.pas_answers.specs.Answers.{Progress}
+use Rattle.pas_answers.specs.Answers.{Caches, Books, Progress}
 use Rattle.pas_answers.specs.Indexes.{indexes_after}
 use Rattle.pas_answers.specs.Reaching.{Advances}
-use Rattle.pas_answers.specs.Rests.{AreAtRest}
 use Rattle.pas_one_text.specs.State.{World}
 use Rattle.pas_one_text.specs.Order.{acts_on}
 use Rattle.pas_same_text.specs.Same.{IsSame, HasSame}
 
--- what is so of a replay between two acts: its list is legal, and all actors are at rest, each with a cache: the region has no keepers
+-- ---- actors between two acts
+-- The actor holds exactly the grains of the unused slots of these local allocators and of the outer pages of these guards, has exactly the rights that the local
+-- allocators keep, is clear, and knows what is said of the pages. It is a thread, which has no guard up, or a keeper, which caches nothing.
+pub record HasBoth (f : Profile) (locals : List Slots) (guards : List Guard) (v : View) : Type 0 where
+  pub grains : (g : ℕ) → holds v g ≡ (any_covers locals g || is_outer guards (g / 256))
+  pub rights : (page : ℕ) → has_right v page ≡ any_keeps locals page
+  pub clear : IsClear v
+  pub known : All (IsLocal f v) locals
+  pub apart : AreApart locals
+  pub guards_apart : AreGuardsApart guards
+  pub guards_of_region : Each (IsGuardOf f) guards
+  pub guards_known : Each (KnowsGuard v) guards
+  pub one_kind : (locals ≡ []) ⊎ (guards ≡ [])
+
+-- .. and there is room in its cache for what it logs
+pub record IsResting (f : Profile) (c : Cached) (guards : List Guard) (v : View) : Type 0 where
+  pub locals : HasBoth f c.locals guards v
+  pub few : length c.locals ≤ 32
+  pub entries : All (IsEntryOf f) c.log
+  pub few_entries : length c.log ≤ 64
+
+-- Each actor of the region rests with its cache and its book, and nobody else has a guard up. The outer pages of a guard stand beside its block, and aren't backed.
+-- The scavenger has nothing.
+pub record AreResting (f : Profile) (caches : Caches) (books : Books) (l : Whole) : Type 0 where
+  pub working : (k : ℕ) → IsThread f k → IsResting f (caches k) (books k) (part k l)
+  pub none : (k : ℕ) → (IsThread f k → ⊥) → books k ≡ []
+  pub beside : (k : ℕ) → Each IsBeside (books k)
+  pub bare : (k page : ℕ) → is_outer (books k) page ≡ true → backed_in (visible l) page ≡ false
+  pub scavenger : HasNothing (part 0 l)
+
+-- what is so of a replay between two acts: its list is legal, and all actors rest
 pub record IsBetween (f : Profile) (p : Progress) : Type 0 where
   pub legal : Legal f p.list
-  pub rest : AreAtRest f.threads f p.caches p.books p.list
+  pub rest : AreResting f p.caches p.books p.list
 
--- .. and the events, the live blocks and the caches of the text are its own
+-- .. and the events, the live blocks, the caches and the guards of the text are its own
 pub record IsAtRest (f : Profile) (p : Progress) (w : World) : Type 0 where
   pub valid : IsValid f
   pub between : IsBetween f p

@@ -1,6 +1,9 @@
 pub mod Same
 pub mod Words
 pub mod Acts
+pub mod Known
+pub mod Requests
 pub mod Entries
-pub mod Plans
 pub mod Searched
+pub mod Seats
+pub mod Told

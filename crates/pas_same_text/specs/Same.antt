@@ -1,6 +1,6 @@
 -- WHEN A STATE OF THE TEXT, which has no words or views, is that of a replay, which has a list of steps.
-use Rattle.std.specs.Prelude.{ℕ, ◌<◌, ◌≡◌, ◌==◌, Bool, List, [], ◌∷◌, length, reverse}
-use Rattle.std.specs.List.{AllByRecursion, list_any}
+use Rattle.std.specs.Prelude.{ℕ, ◌<◌, ◌≡◌, ◌==◌, Bool, List, [], ◌∷◌, length, map, reverse}
+use Rattle.std.specs.List.{AllByRecursion, list_any, filter}
 use Rattle.pas_bits.specs.Masks.{is_set}
 use Rattle.pas_profile.specs.Directories.{number_of}
 use Rattle.pas_profile.specs.Profiles.{IsDirectoryOf}
@@ -13,9 +13,10 @@ use Rattle.pas_steps.specs.Lists.{Whole, word_after, visible}
 use Rattle.pas_core.specs.Rights.{empty_bit, eligible_bit}
 use Rattle.pas_segregated.specs.declared.slots.Slots.{Slots}
 use Rattle.pas_cache.specs.Contents.{Cached}
+use Rattle.pas_guard.specs.declared.book.Guard.{Guard as BookGuard}
 use Rattle.pas_trace.specs.EveryPlan.{IsThread}
-use Rattle.pas_answers.specs.Answers.{Caches, Progress}
-use Rattle.pas_one_text.specs.State.{Local, Cache, World, live_after, cache_in}
+use Rattle.pas_answers.specs.Answers.{Caches, Books, Progress}
+use Rattle.pas_one_text.specs.State.{Local, Cache, Guard, World, live_after, cache_in}
 use Rattle.pas_one_text.specs.Pages.{is_offered, is_hinted}
 
 -- ---- caches
@@ -49,10 +50,19 @@ pub record IsSameCache (c : Cached) (own : Cache) : Type 0 where
   pub noted : own.noted ≡ c.noted
   pub began : own.began ≡ c.idle_since
 
--- of each thread there is one
+-- of each actor of the region there is one; those of keepers hold nothing
 pub record AreSameCaches (f : Profile) (caches : Caches) (own : List Cache) : Type 0 where
   pub many : length own ≡ f.threads
   pub each : (k : ℕ) → IsThread f k → IsSameCache (caches k) (cache_in own k)
+
+-- ---- guards
+-- a guard of a keeper's book, as the text has it
+abbrev pub told_guard : ℕ → BookGuard → Guard
+told_guard keeper g = record { keeper = keeper; low = g.low; high = g.high; block = g.block.name }
+
+-- those of each keeper are the ones of its book, in the order in which they went up
+pub record AreSameGuards (books : Books) (guards : List Guard) : Type 0 where
+  pub each : (keeper : ℕ) → filter (λ g. g.keeper == keeper) guards ≡ map (told_guard keeper) (books keeper)
 
 -- ---- pages
 -- the blocks that live after the events
@@ -60,12 +70,12 @@ abbrev pub lives_in : List Event → List Block
 lives_in [] = []
 lives_in (e ∷ es) = live_after e (lives_in es)
 
--- the events are those that the list shows, the caches are the same, and no guard is up: so what is free and what is kept follows
+-- the events are those that the list shows, and the caches and the guards that are up are the same: so what is free and what is kept follows
 pub record HasSame (f : Profile) (p : Progress) (w : World) : Type 0 where
   pub events : w.events ≡ visible p.list
   pub live : w.live ≡ lives_in w.events
   pub caches : AreSameCaches f p.caches w.caches
-  pub guards : w.guards ≡ []
+  pub guards : AreSameGuards p.books w.guards
 
 -- the events are those that the list shows, and the bits of hints and of offers are those of its words
 pub record ArePagesSame (f : Profile) (l : Whole) (w : World) : Type 0 where
@@ -78,7 +88,7 @@ pub record ArePagesSame (f : Profile) (l : Whole) (w : World) : Type 0 where
 pub record IsSame (f : Profile) (p : Progress) (w : World) : Type 0 where
   pub pages : ArePagesSame f p.list w
   pub caches : AreSameCaches f p.caches w.caches
-  pub guards : w.guards ≡ []
+  pub guards : AreSameGuards p.books w.guards
   pub names : w.names ≡ p.names
   pub records : p.records ≡ reverse w.records
   pub epoch : w.epoch ≡ word_after p.list Word.Epoch

@@ -1,5 +1,5 @@
 //! What each act owes: from a state of the text that is the replay's it leads to one that is. Each law is the contract of an empty function.
-ghost use Rattle.std.specs.Prelude.{ℕ, ◌+◌, ◌*◌, ◌<◌, ◌≡◌, List, [], ◌∷◌, ◌++◌, true, Ok};
+ghost use Rattle.std.specs.Prelude.{ℕ, ◌+◌, ◌*◌, ◌<◌, ◌≤◌, ◌≡◌, ◌↔◌, List, [], ◌∷◌, ◌++◌, true, None, Some, Ok, ◌||◌, false};
 ghost use Rattle.pas_profile.specs.declared.name.Name.{Name};
 ghost use Rattle.pas_profile.specs.declared.profile.Profile.{Profile};
 ghost use Rattle.pas_trace.specs.Acts.{Act};
@@ -10,6 +10,7 @@ ghost use Rattle.pas_profile.specs.declared.directory.Route.{Route};
 ghost use Rattle.pas_profile.specs.Directories.{number_of};
 ghost use Rattle.pas_profile.specs.Profiles.{IsValid, IsAdmitted, IsPage, IsDirectoryOf};
 ghost use Rattle.pas_profile.specs.declared.event.NoRoom.{NoRoom};
+ghost use Rattle.pas_search.specs.Kinds.{ReturnsDuly};
 ghost use Rattle.pas_search.specs.Telling.{IsTrueReason};
 ghost use Rattle.pas_profile.specs.declared.directory.Directory.{Directory};
 ghost use Rattle.pas_profile.specs.declared.event.Event.{Event};
@@ -17,26 +18,34 @@ ghost use Rattle.pas_machine.specs.Machine.{Run};
 ghost use Rattle.pas_free_log.specs.declared.ending.Outcome.{Outcome};
 ghost use Rattle.pas_free_log.specs.declared.log.Entry.{Entry};
 ghost use Rattle.pas_one_text.specs.Frees.{ends, flushes};
-ghost use Rattle.pas_same_text.specs.Same.{IsSame, lives_in};
-ghost use Rattle.pas_same_text.specs.Plans.{AllProved};
+ghost use Rattle.pas_same_text.specs.Same.{IsSame, lives_in, ArePagesSame};
+ghost use Rattle.pas_same_text.specs.Known.{ArePlanned, IsCarried, AreKnown, KeepsSame};
+ghost use Rattle.pas_same_text.specs.Requests.{RequestStaysSame};
+ghost use Rattle.pas_same_text.specs.Told.{IsTold};
 ghost use Rattle.pas_same_text.specs.Searched.{IsSearch};
 ghost use Rattle.pas_search.specs.Searches.{FromOffered, ByDeed};
 ghost use Rattle.pas_one_text.specs.Searches.{refusal, searched};
+ghost use Rattle.pas_answers.specs.Indexes.{ActIsNamedBy, indexes_after_all};
 ghost use Rattle.pas_answers.specs.Reaching.{Reaches};
-ghost use Rattle.pas_answers.specs.Replays.{IsReplay, at_start, phases_of, region_of, keepers_of, acts_of_plan};
-ghost use Rattle.pas_answers.specs.Rests.{AllAtRest};
+ghost use Rattle.pas_answers.specs.Replays.{IsReplay, at_start, phases_of, region_of, threads_of, keepers_of, acts_of_plan};
 ghost use Rattle.pas_answers.specs.Ways.{InOrder};
-ghost use Rattle.pas_one_text.specs.Order.{acts_on, opened, replayed};
+ghost use Rattle.pas_one_text.specs.Order.{acts_on, opened, replayed, order_text};
 ghost use Rattle.pas_one_text.specs.Reports.{text_of};
 ghost use Rattle.pas_report.specs.Lines.{lines_of};
 ghost use Rattle.pas_report.specs.Marks.{marks_after};
 ghost use Rattle.pas_report.specs.Reports.{report_text};
 ghost use Rattle.pas_report.specs.Rests.{AreStamped, AreTrueMarks};
-ghost use Rattle.pas_large.specs.Doors.{no_ranges};
+ghost use Rattle.pas_large.specs.Doors.{Indexes, no_ranges};
+ghost use Rattle.pas_trace.specs.Plans.{IsPlanOf};
+ghost use Rattle.pas_trace.specs.declared.item.Request.{Request};
+ghost use Rattle.pas_large.specs.Finds.{MayFind, FoundRun, finding};
+ghost use Rattle.pas_large.specs.Telling.{IsWholePage, IsUsablePage, HasNoUsableRun, IsLowestRun, IsNamedWhole};
 ghost use Rattle.pas_trace.specs.declared.plan.Plan.{Plan};
 ghost use Rattle.pas_report.specs.declared.record.Record.{Record};
 ghost use Rattle.pas_same_text.specs.Entries.{IsShown, IsEntryEvent, HaveOutcomes, events_of_flush, are_unsized, onto, HasShown, IsFlushOf};
+ghost use Rattle.pas_steps.specs.Kinds.{Only};
 ghost use Rattle.pas_steps.specs.Lists.{Whole, part, visible, Legal};
+ghost use Rattle.pas_steps.specs.Past.{Always};
 ghost use Rattle.pas_steps.specs.Desks.{triples};
 ghost use Rattle.pas_steps.specs.declared.step.Made.{Made};
 ghost use Rattle.pas_free_log.specs.declared.noting.EndedRun.{EndedRun};
@@ -44,8 +53,10 @@ ghost use Rattle.pas_steps.specs.Views.{has_right};
 ghost use Rattle.pas_core.specs.Rights.{eligible_bit, free_of_page};
 ghost use Rattle.pas_answers.specs.Answers.{Progress};
 ghost use Rattle.pas_one_text.specs.State.{World, each};
-ghost use Rattle.pas_one_text.specs.Pages.{is_free, is_kept, is_offered, has_room};
-ghost use Rattle.pas_same_text.specs.Acts.{IsBetween, IsAtRest, StaysSame, StaysSameWhere, HasUsableBlocks, KeepsUsable, AreEndsStamped, KeepsStamped, KeepsIndexes, HasLogRoom, HasCachedSlot};
+ghost use Rattle.pas_one_text.specs.Indexes.{named_first};
+ghost use Rattle.pas_one_text.specs.Runs.{large_of, is_whole, is_usable, named_run, lowest_run};
+ghost use Rattle.pas_one_text.specs.Pages.{is_free, is_kept, is_offered, has_room, is_guarded};
+ghost use Rattle.pas_same_text.specs.Acts.{IsBetween, IsAtRest, IsTaken, StaysSame, StaysSameWhere, HasUsableBlocks, KeepsUsable, AreEndsStamped, KeepsStamped, KeepsIndexes, HasLogRoom, HasCachedSlot};
 ghost use Rattle.pas_same_text.specs.Words.{free_bit};
 
 use pas_core::laws::Fitting;
@@ -80,14 +91,15 @@ pub fn frees_stay_the_same()
     ensures named_sized { (f : Profile) (line k name room : ℕ) → IsThread f k → StaysSameWhere (HasLogRoom k) f (Act.Operates (record { line = line; actor = k; what = FreeSized name room })) }
 {}
 
-/// Whenever all actors are at rest, no guard is up, and the events, the live blocks and the caches are the same: a grain is free in the text exactly where its bit is set, and a
-/// page is kept exactly where some actor has its right. A page with room that nobody keeps is offered, and an offered page is offered in the text where it has room.
+/// Whenever all actors are at rest, and the events, the live blocks, the caches and the guards are the same: a grain is free in the text exactly where its bit is set, or where its page is
+/// an outer one of a guard, whose keeper has it then; and a page is kept exactly where some actor has its right. A page with room that nobody keeps and no guard has is offered, and an
+/// offered page is offered in the text where it has room and no guard has it.
 pub fn states_are_told()
-    ensures free { (f : Profile) (p : Progress) (w : World) → IsAtRest f p w → (page b : ℕ) → b < 256 → is_free w page b ≡ free_bit p.list (256 * page + b) }
+    ensures free { (f : Profile) (p : Progress) (w : World) → IsAtRest f p w → (page b : ℕ) → b < 256 → is_free w page b ≡ (free_bit p.list (256 * page + b) || is_guarded w page) }
     ensures kept { (f : Profile) (p : Progress) (w : World) → IsAtRest f p w → (page : ℕ) → is_kept w page ≡ true → (k : ℕ) × (has_right (part k p.list) page ≡ true) }
     ensures keeps { (f : Profile) (p : Progress) (w : World) → IsAtRest f p w → (k page : ℕ) → has_right (part k p.list) page ≡ true → is_kept w page ≡ true }
     ensures offered { (f : Profile) (p : Progress) (w : World) → IsAtRest f p w → (page : ℕ) (d : Directory) → IsDirectoryOf f d → is_offered w d page ≡ true → eligible_bit p.list (number_of d) page ≡ true }
-    ensures offers { (f : Profile) (p : Progress) (w : World) → IsAtRest f p w → (page : ℕ) (d : Directory) → IsDirectoryOf f d → eligible_bit p.list (number_of d) page ≡ true → has_room w d page ≡ true → is_offered w d page ≡ true }
+    ensures offers { (f : Profile) (p : Progress) (w : World) → IsAtRest f p w → (page : ℕ) (d : Directory) → IsDirectoryOf f d → eligible_bit p.list (number_of d) page ≡ true → is_guarded w page ≡ false → has_room w d page ≡ true → is_offered w d page ≡ true }
 {}
 
 /// A request of a class for which the thread's cache has a slot gives the lowest one, in the same name, and the local allocator is the one used last.
@@ -129,12 +141,12 @@ pub fn stops_stay_the_same()
     ensures ends { (f : Profile) (k : ℕ) → IsThread f k → StaysSameWhere HasUsableBlocks f (Act.Ends k) }
 {}
 
-/// Whatever act a replay goes on by, with no guard up before and after it, each live block lies on grains that blocks of its page's directory may cover after it, where that was so before.
+/// Whatever act a replay goes on by, a keeper's too, each live block lies on grains that blocks of its page's directory may cover after it, where that was so before.
 pub fn blocks_stay_usable()
     ensures { (f : Profile) (act : Act) → KeepsUsable f act }
 {}
 
-/// Each page where a block ended is stamped between two acts, whatever they are, as long as no guard is up: so its stamp is the greatest epoch of an end there, at any moment between acts.
+/// Each page where a block ended is stamped between two acts, whatever they are, a keeper's too: so its stamp is the greatest epoch of an end there, at any moment between acts.
 pub fn stamps_are_kept()
     ensures start { AreEndsStamped [] }
     ensures keeps { (f : Profile) (act : Act) → KeepsStamped f act }
@@ -148,19 +160,56 @@ pub fn indexes_stay_the_same()
     ensures act { (f : Profile) (act : Act) → KeepsIndexes f act }
 {}
 
-/// Acts one after the other keep the text, where all actors are at rest between them: all acts but a pass and those of keepers, and of requests those of a class
-/// for which a slot is cached and bit-fit ones. Before the first act the text's state is the replay's.
+/// EACH ACT keeps the text and its indexes, whatever it is, by what is known of it in a replay. So do acts one after the other, with all actors at
+/// rest between them, which carry what each of them needs: that only keepers have guards up, that live blocks lie on grains that they may cover, that pages are stamped, and that the
+/// indexes are those of the text. Before the first act it is so.
 pub fn acts_stay_the_same()
-    ensures start { (f : Profile) → IsSame f at_start (opened f) }
-    ensures acts { (f : Profile) (acts : List Act) (p p' : Progress) (is : Reaches f acts p p') (w : World) → IsValid f → Legal f p'.list → AllAtRest f.threads f acts p p' is → AllProved f acts p p' is → HasUsableBlocks p → IsSame f p w → IsSame f p' (each (acts_on f) acts w) }
+    ensures start { (threads : ℕ) (f : Profile) → threads ≤ f.threads → IsCarried threads f at_start (opened f) (no_ranges f.heaps) }
+    ensures act { (threads : ℕ) (f : Profile) (act : Act) → KeepsSame threads f act }
+    ensures acts { (threads : ℕ) (f : Profile) (acts : List Act) (p p' : Progress) (is : Reaches f acts p p') (w : World) (indexes : Indexes) → ArePlanned threads f acts
+        → AreKnown threads f acts p p' is indexes → IsCarried threads f p w indexes → IsCarried threads f p' (each (acts_on f) acts w) (indexes_after_all f acts p p' is indexes) }
 {}
 
 /// The text of a state that is the replay's is what is written of that replay: the lines of its records, and then the report of the machine that its events reach, with
-/// the marks after its list. So it is of the replay of a plan in the order of the text, where all its acts are such.
+/// the marks after its list.
 pub fn texts_are_told()
-    ensures state { (f : Profile) (p : Progress) (w : World) → IsValid f → Legal f p.list → AreTrueMarks f p.list → IsSame f p w → text_of f w ≡ lines_of p.records ++ report_text f (visible p.list) (marks_after p.list) }
-    ensures replay { (plan : Plan) (whole : Whole) (records : List Record) (is : IsReplay InOrder plan whole records) → IsValid (region_of plan) → AllProved (region_of plan) (acts_of_plan plan) at_start is.reached is.answers
-        → text_of (region_of plan) (replayed (region_of plan) (keepers_of plan) (phases_of plan)) ≡ lines_of records ++ report_text (region_of plan) (visible whole) (marks_after whole) }
+    ensures { (f : Profile) (p : Progress) (w : World) → IsValid f → Legal f p.list → AreTrueMarks f p.list → IsSame f p w → text_of f w ≡ lines_of p.records ++ report_text f (visible p.list) (marks_after p.list) }
+{}
+
+/// WHAT IS WRITTEN OF A REPLAY in the order of the text is told by the replay as a function, for each plan of a text, with keepers or without: its lines, its report, its records and its
+/// events. So the text that `order_text` has for the bytes is what is written of any replay of their plan. Where there are no keepers that is the replay of the phases.
+pub fn replays_are_told()
+    ensures acts { (text : List ℕ) (plan : Plan) (whole : Whole) (records : List Record) → IsPlanOf text plan → IsReplay InOrder plan whole records
+        → IsTold plan whole records (each (acts_on (region_of plan)) (acts_of_plan plan) (opened (region_of plan))) }
+    ensures bytes { (bytes : List ℕ) (plan : Plan) (whole : Whole) (records : List Record) → IsPlanOf bytes plan → IsReplay InOrder plan whole records
+        → order_text bytes ≡ Some (lines_of records ++ report_text (region_of plan) (visible whole) (marks_after whole)) }
+    ensures unguarded { (text : List ℕ) (plan : Plan) (whole : Whole) (records : List Record) → IsPlanOf text plan → IsReplay InOrder plan whole records → keepers_of plan ≡ 0
+        → IsTold plan whole records (replayed (region_of plan) (keepers_of plan) (phases_of plan)) }
+{}
+
+/// Whatever a request is, one of an operation or one for the block that replaces another: by what is known of it, it keeps the text.
+pub fn requests_stay_the_same()
+    ensures { (f : Profile) (k : ℕ) (r : Request) → RequestStaysSame f k r }
+{}
+
+/// In the replay of a plan each act is of one of its threads, of one of its keepers, or of the scavenger, and asks for what the region admits.
+pub fn acts_are_planned()
+    ensures { (text : List ℕ) (plan : Plan) → IsPlanOf text plan → ArePlanned (threads_of plan) (region_of plan) (acts_of_plan plan) }
+{}
+
+/// The text of bytes that are a trace is that of the replay of any plan of them: of its phases, with as many keepers, in its region, where its threads alone are actors. Where
+/// it has no keepers, that is the region of its replays.
+pub fn bytes_are_told()
+    ensures text { (bytes : List ℕ) (plan : Plan) → IsPlanOf bytes plan → order_text bytes ≡ Some (text_of plan.profile (replayed plan.profile (keepers_of plan) (phases_of plan))) }
+    ensures unguarded { (bytes : List ℕ) (plan : Plan) → IsPlanOf bytes plan → keepers_of plan ≡ 0 → order_text bytes ≡ Some (text_of (region_of plan) (replayed (region_of plan) (keepers_of plan) (phases_of plan))) }
+{}
+
+/// A plan's keepers are actors of the region of its replays, and have a cache each there, which nobody uses: the text is that of the region where its threads alone are
+/// actors. So, with keepers or without, the text of bytes that are a trace is what the acts of any plan of them come to in the region of its replays.
+pub fn wider_texts_are_the_same()
+    ensures plan { (bytes : List ℕ) (plan : Plan) → IsPlanOf bytes plan
+        → text_of plan.profile (replayed plan.profile (keepers_of plan) (phases_of plan)) ≡ text_of (region_of plan) (each (acts_on (region_of plan)) (acts_of_plan plan) (opened (region_of plan))) }
+    ensures bytes { (bytes : List ℕ) (plan : Plan) → IsPlanOf bytes plan → order_text bytes ≡ Some (text_of (region_of plan) (each (acts_on (region_of plan)) (acts_of_plan plan) (opened (region_of plan)))) }
 {}
 
 /// A search that found a page found the one that the text finds: the lowest offered page on which something fits, or where there is none, the lowest that nobody has.
@@ -178,4 +227,46 @@ pub fn refusals_are_told()
 /// A bit-fit request gives the lowest place of the page that is searched for, which gets a deed and memory where it has none; or it is refused, and changes no page.
 pub fn bitfit_requests_stay_the_same()
     ensures { (f : Profile) (line k name heap size align : ℕ) → IsThread f k → IsAdmitted f size align heap → route_in f size align ≡ Route.Bitfit → StaysSame f (Act.Operates (record { line = line; actor = k; what = Alloc name heap size align })) }
+{}
+
+/// A request of a class gives the lowest slot that the thread's cache has for it. Where it has none, place for a local allocator is made first: the spent one goes, or where there is none and
+/// the cache is full, the one used longest ago. Then slots are taken of the page that is searched for, and the lowest is given; or the request is refused, for the reason that the text says.
+pub fn class_requests_stay_the_same()
+    ensures { (f : Profile) (line k name heap size align class : ℕ) → IsThread f k → IsAdmitted f size align heap → route_in f size align ≡ Route.Class class → StaysSame f (Act.Operates (record { line = line; actor = k; what = Alloc name heap size align })) }
+{}
+
+/// Whenever all actors are at rest and the pages are the same: a page may be one of a run in the text exactly where it is usable in the replay, and the run that the text gives is the
+/// lowest usable one. The run that is named for a request serves in the text exactly where each of its pages is whole.
+pub fn runs_are_told()
+    ensures whole { (f : Profile) (p : Progress) (w : World) (heap page : ℕ) → IsAtRest f p w → ArePagesSame f p.list w → IsDirectoryOf f (large_of heap) → (is_whole w heap page ≡ true) ↔ IsWholePage (large_of heap) p.list page }
+    ensures usable { (f : Profile) (p : Progress) (w : World) (heap page : ℕ) → IsAtRest f p w → ArePagesSame f p.list w → IsDirectoryOf f (large_of heap) → (is_usable w heap page ≡ true) ↔ IsUsablePage (large_of heap) p.list page }
+    ensures lowest { (f : Profile) (p : Progress) (w : World) (heap n first : ℕ) → IsAtRest f p w → ArePagesSame f p.list w → IsDirectoryOf f (large_of heap) → 1 ≤ n → IsLowestRun f (large_of heap) n p.list first → lowest_run f w heap n ≡ Some first }
+    ensures none { (f : Profile) (p : Progress) (w : World) (heap n : ℕ) → IsAtRest f p w → ArePagesSame f p.list w → IsDirectoryOf f (large_of heap) → HasNoUsableRun f (large_of heap) n p.list → lowest_run f w heap n ≡ None }
+    ensures named { (f : Profile) (p : Progress) (w : World) (heap n first : ℕ) → IsAtRest f p w → ArePagesSame f p.list w → IsDirectoryOf f (large_of heap) → 1 ≤ n → (named_run w heap n ≡ Some first) ↔ IsNamedWhole f (large_of heap) n p.list (named_first w heap n) first }
+{}
+
+/// Where no other actor makes a step meanwhile, the run of n pages that a search found is the lowest one that was usable before it.
+pub fn lone_searches_find_the_lowest_run()
+    ensures { (f : Profile) (k : ℕ) (l : Whole) (d : Directory) (n first : ℕ) (steps : List Made) → IsDirectoryOf f d → MayFind d (part k l) → Legal f (triples k steps ++ l) → Only finding steps → Always ReturnsDuly steps
+        → FoundRun f d n steps first → IsLowestRun f d n l first }
+{}
+
+/// A request for whole pages gives the run that the heap's index names, where it is whole, or else the lowest usable one: its pages get deeds and memory where they have none. Or it is
+/// refused, and changes no page.
+pub fn pages_requests_stay_the_same()
+    ensures { (f : Profile) (line k name heap size align : ℕ) (indexes : Indexes) → IsThread f k → IsAdmitted f size align heap → route_in f size align ≡ Route.Large
+        → (p p' : Progress) (w : World) → w.indexes ≡ indexes → (taken : IsTaken f (Act.Operates (record { line = line; actor = k; what = Alloc name heap size align })) p p' w)
+        → ActIsNamedBy f indexes (Act.Operates (record { line = line; actor = k; what = Alloc name heap size align })) p p' taken.advances → IsSame f p' (acts_on f (Act.Operates (record { line = line; actor = k; what = Alloc name heap size align })) w) }
+{}
+
+/// Where each page on which a block ended is stamped: a pass examines just the pages that are hinted when it begins, upwards, and each comes to the outcome that the text says of it: it
+/// is bare, in use by its lowest word with a grain that isn't free, kept by a cache, or young by its stamp, or its memory goes back. The hints that are left are those of the text, and each page is
+/// offered as before.
+pub fn passes_stay_the_same()
+    ensures { (f : Profile) → StaysSameWhere (λ p. AreEndsStamped p.list) f Act.MakesPass }
+{}
+
+/// At the close a keeper lowers all its guards: their outer pages are anybody's again, which is said, and no page is hinted for it, since none of them has memory.
+pub fn guards_go_down()
+    ensures { (f : Profile) (keeper : ℕ) → IsThread f keeper → StaysSame f (Act.Lowers keeper) }
 {}

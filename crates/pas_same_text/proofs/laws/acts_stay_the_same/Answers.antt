@@ -1,10 +1,13 @@
 -- Acts one after the other.
-use Rattle.pas_same_text.proofs.AllActs.{acts_stay}
-use Rattle.pas_same_text.proofs.WholeText.{start_same}
+use Rattle.pas_same_text.proofs.AllActs.{acts_carried, start_carried}
+use Rattle.pas_same_text.proofs.OneAct.{act_same}
 use Rattle.pas_same_text.proofs.laws.acts_stay_the_same.Goals as goal
 
 pub returns-clause-start : goal.returns-clause-start
-returns-clause-start c = λ f. start_same f
+returns-clause-start c = λ threads f few. start_carried threads f few
+
+pub returns-clause-act : goal.returns-clause-act
+returns-clause-act c = λ threads f act. act_same threads f act
 
 pub returns-clause-acts : goal.returns-clause-acts
-returns-clause-acts c = λ f acts p p' is w valid legal rests proved usable same. acts_stay f acts p p' is w valid legal rests proved usable same
+returns-clause-acts c = λ threads f acts p p' is w indexes planned known carried. acts_carried threads f acts p p' is w indexes planned known carried

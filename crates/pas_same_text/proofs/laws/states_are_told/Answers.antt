@@ -1,7 +1,7 @@
 -- States of the text beside words and views.
 use Rattle.pas_same_text.proofs.FreeGrains.{free_same}
 use Rattle.pas_same_text.proofs.KeptPages.{keeper, kept_by}
-use Rattle.pas_same_text.proofs.RestingPages.{offered_bit, bit_offered}
+use Rattle.pas_same_text.proofs.RestingPages.{is_opened, offered_bit, bit_offered}
 use Rattle.pas_same_text.proofs.laws.states_are_told.Goals as goal
 
 pub returns-clause-free : goal.returns-clause-free
@@ -17,4 +17,4 @@ pub returns-clause-offered : goal.returns-clause-offered
 returns-clause-offered c = λ f p w rest page d of offered. offered_bit f p w rest.valid rest.between rest.same page d of offered
 
 pub returns-clause-offers : goal.returns-clause-offers
-returns-clause-offers c = λ f p w rest page d of bit room. bit_offered f p w rest.valid rest.between rest.same page d of bit room
+returns-clause-offers c = λ f p w rest page d of bit none room. bit_offered f p w rest.valid rest.between rest.same page d of bit (is_opened w d page none room)

@@ -1,10 +1,6 @@
--- The text of a state, and of a replay.
-use Rattle.pas_same_text.proofs.AllActs.{text_written}
+-- The text of a state.
 use Rattle.pas_same_text.proofs.WholeText.{text_told}
 use Rattle.pas_same_text.proofs.laws.texts_are_told.Goals as goal
 
-pub returns-clause-state : goal.returns-clause-state
-returns-clause-state c = λ f p w valid legal true_marks same. text_told f p w valid legal true_marks same
-
-pub returns-clause-replay : goal.returns-clause-replay
-returns-clause-replay c = λ plan whole records is valid proved. text_written plan whole records is valid proved
+pub returns : goal.returns
+returns c = λ f p w valid legal true_marks same. text_told f p w valid legal true_marks same

@@ -1,0 +1,190 @@
+-- WHO ACTS in the replay of a plan: one of its threads, the scavenger, or one of its keepers, which are the actors behind the threads. What they ask for is admitted.
+use Rattle.std.proofs.Common.{◌≡◌, ◌≢◌, ℕ, zero, suc, ◌+◌, ◌<◌, ◌≤◌, Bool, true, false, cond, List, [], ◌∷◌, ◌++◌, map, Option, None, Some, MatchOption, refl, sym, arith}
+use Rattle.std.specs.Prelude.{not}
+use Rattle.std.specs.List.{AllByRecursion, filter}
+use Rattle.pas_profile.specs.Profiles.{IsValid, IsAdmitted}
+use Rattle.pas_profile.specs.Requests.{route_in}
+use Rattle.pas_profile.specs.declared.directory.Route.{Route}
+use Rattle.pas_profile.proofs.Lists.{all_both}
+use Rattle.pas_profile.proofs.Sizes.{large_for}
+use Rattle.pas_trace.specs.Acts.{Act, Settles, StopsIdle, Wakes, Ends, Lowers, region_of, threads_of, keepers_of, acts_of_plan, act_kept, is_active, numbers_from, threads_where, active_threads, idle_threads, acts_of_chore, acts_of_work, acts_of_op, acts_of_ops, phase_acts, close_acts, acts_from, acts_of}
+use Rattle.pas_trace.specs.Asked.{work_of, of_task, request_of, request_in, keeper_of, keeper_in}
+use Rattle.pas_trace.specs.EveryPlan.{all_ops, asked_after, operations_of, IsActorBy, IsActorOf, IsSoundTask, IsSoundWork, AreSound, AreKept}
+use Rattle.pas_trace.specs.Plans.{IsPlanOf, ops_of}
+use Rattle.pas_trace.specs.declared.item.Request.{Request}
+use Rattle.pas_trace.specs.declared.plan.Chore.{Chore}
+use Rattle.pas_trace.specs.declared.plan.Op.{Op}
+use Rattle.pas_trace.specs.declared.plan.Plan.{Plan}
+use Rattle.pas_trace.specs.declared.plan.Task.{Task}
+use Rattle.pas_trace.specs.declared.plan.Work.{Work}
+use Rattle.pas_trace.proofs.EveryPlan.{every_plan, keepers_among, threads_among}
+use Rattle.pas_trace.proofs.Keepers.{plan_actors}
+use Rattle.pas_same_text.specs.Known.{IsAdmittedWhat, IsGuardedWhat, IsPlanned, ArePlanned}
+use Rattle.pas_same_text.specs.Seats.{IsThreadOf, IsKeeperOf}
+
+-- ---- several numbers, and acts of each of several actors
+all_from : (P : ℕ → Type 0) (k n : ℕ) → ((j : ℕ) → k ≤ j → j < k + n → P j) → AllByRecursion P (numbers_from k n)
+all_from P k zero each = tt
+all_from P k (suc n) each = (each k (omega arith) (omega arith), all_from P (k + 1) n (λ j low high. each j (omega (arith, low)) (omega (arith, high))))
+
+all_chosen : (P : ℕ → Type 0) (chosen : ℕ → Bool) (ks : List ℕ) → AllByRecursion P ks → AllByRecursion P (filter chosen ks)
+all_chosen P chosen [] all = tt
+all_chosen P chosen (k ∷ ks) all = by_choice (chosen k) (filter chosen ks) (all_chosen P chosen ks all.1)
+  where
+    by_choice : (t : Bool) (rest : List ℕ) → AllByRecursion P rest → AllByRecursion P (cond t (k ∷ rest) rest)
+    by_choice true rest are = (all.0, are)
+    by_choice false rest are = are
+
+one_each : (P : ℕ → Type 0) (Q : Act → Type 0) (to : ℕ → Act) → ((k : ℕ) → P k → Q (to k)) → (ks : List ℕ) → AllByRecursion P ks → AllByRecursion Q (map to ks)
+one_each P Q to each [] all = tt
+one_each P Q to each (k ∷ ks) all = (each k all.0, one_each P Q to each ks all.1)
+
+module _ (plan : Plan) where
+  abbrev IsOwn : ℕ → Type 0
+  IsOwn k = IsThreadOf (threads_of plan) k
+
+  abbrev AreOwn : List Act → Type 0
+  AreOwn acts = ArePlanned (threads_of plan) (region_of plan) acts
+
+  all_own : AllByRecursion IsOwn (numbers_from 1 (threads_of plan))
+  all_own = all_from IsOwn 1 (threads_of plan) (λ j low high. (low, omega (arith, high)))
+
+  own_where : (chosen : ℕ → Bool) → AllByRecursion IsOwn (threads_where chosen (threads_of plan))
+  own_where chosen = all_chosen IsOwn chosen (numbers_from 1 (threads_of plan)) all_own
+
+  -- ---- the acts of an operation
+  chore_own : (idle : List ℕ) (chore : Chore) → AllByRecursion IsOwn idle → AreOwn (acts_of_chore idle chore)
+  chore_own idle (Chore.Tick epoch) idles = ((tt, tt), tt)
+  chore_own idle Chore.Pass idles = ((tt, tt), tt)
+  chore_own idle (Chore.Idle n) idles = ((tt, tt), one_each IsOwn (IsPlanned (threads_of plan) (region_of plan)) (λ k. StopsIdle k n) (λ k is. (is, tt)) idle idles)
+
+  -- the actor that keeps the guard of a request of thread k, if it is guarded
+  abbrev KeepsIt : ℕ → Option ℕ → Type 0
+  KeepsIt k o = MatchOption o (Unit {0}) (λ keeper. (keeper ≡ threads_of plan + k) × (plan.guard ≢ 0))
+
+  kept_own : (keeper : Option ℕ) (op : Op) → IsOwn op.actor → IsAdmittedWhat (region_of plan) op.what → ((k : ℕ) → keeper ≡ Some k → IsGuardedWhat (region_of plan) k op.what) → KeepsIt op.actor keeper → AreOwn (act_kept keeper op ∷ (Settles op.actor ∷ []))
+  kept_own None op thread admitted guarded keeps = ((thread, admitted), ((thread, tt), tt))
+  kept_own (Some keeper) op thread admitted guarded keeps =
+      let some = thread.0 in
+      let is = keeps.0 in
+      let among = keepers_among plan.guard (threads_of plan) op.actor keeps.1 thread.1 in
+      ((((omega (arith, some, is), omega (arith, is, among)), thread), (admitted, guarded keeper refl)), ((thread, tt), tt))
+
+  work_own : (idle : List ℕ) (op : Op) (work : Work) → AllByRecursion IsOwn idle → IsActorBy plan.profile work op.actor → IsAdmittedWhat (region_of plan) op.what → ((k : ℕ) → of_task keeper_of work ≡ Some k → IsGuardedWhat (region_of plan) k op.what) → KeepsIt op.actor (of_task keeper_of work) → AreOwn (acts_of_work idle op work)
+  work_own idle op (Work.Own task) idles actor admitted guarded keeps = kept_own (keeper_of task) op actor admitted guarded keeps
+  work_own idle op (Work.Chore chore) idles actor admitted guarded keeps = chore_own idle chore idles
+
+  -- ---- what is asked for: what the profile admits, its region does
+  region_admits : (size align heap : ℕ) → IsAdmitted plan.profile size align heap → IsAdmitted (region_of plan) size align heap
+  region_admits size align heap admitted = record { within = admitted.within; aligned = admitted.aligned; of_profile = admitted.of_profile }
+
+  abbrev IsAdmittedHere : Request → Type 0
+  IsAdmittedHere r = IsAdmitted (region_of plan) r.size r.align r.heap
+
+  task_admitted : (asked : List ℕ) (task : Task) → IsSoundTask plan.profile asked task → MatchOption (request_of task) (Unit {0}) IsAdmittedHere
+  task_admitted asked (Task.Request name heap size align) sound = region_admits size align heap sound.0
+  task_admitted asked (Task.Guarded keeper name heap size align) sound = region_admits size align heap sound.0
+  task_admitted asked (Task.Free name room) sound = tt
+  task_admitted asked (Task.FreeRaw block room) sound = tt
+  task_admitted asked (Task.Remake name old heap size align) sound = region_admits size align heap sound.0
+  task_admitted asked Task.Flush sound = tt
+  task_admitted asked Task.Stop sound = tt
+
+  work_admitted : (asked : List ℕ) (work : Work) → IsSoundWork plan.profile asked work → MatchOption (of_task request_of work) (Unit {0}) IsAdmittedHere
+  work_admitted asked (Work.Own task) sound = task_admitted asked task sound
+  work_admitted asked (Work.Chore chore) sound = tt
+
+  -- .. and what is guarded is for whole pages
+  abbrev IsLargeHere : Request → Type 0
+  IsLargeHere r = route_in (region_of plan) r.size r.align ≡ Route.Large
+
+  task_large : (asked : List ℕ) (task : Task) → IsSoundTask plan.profile asked task → (k : ℕ) → keeper_of task ≡ Some k → MatchOption (request_of task) (Unit {0}) IsLargeHere
+  task_large asked (Task.Request name heap size align) sound k is = cc
+  task_large asked (Task.Guarded keeper name heap size align) sound k is = sym (large_for (region_of plan).classes size align sound.2)
+  task_large asked (Task.Free name room) sound k is = tt
+  task_large asked (Task.FreeRaw block room) sound k is = tt
+  task_large asked (Task.Remake name old heap size align) sound k is = cc
+  task_large asked Task.Flush sound k is = tt
+  task_large asked Task.Stop sound k is = tt
+
+  work_large : (asked : List ℕ) (work : Work) → IsSoundWork plan.profile asked work → (k : ℕ) → of_task keeper_of work ≡ Some k → MatchOption (of_task request_of work) (Unit {0}) IsLargeHere
+  work_large asked (Work.Own task) sound k is = task_large asked task sound k is
+  work_large asked (Work.Chore chore) sound k is = tt
+
+  -- ---- the acts of phases
+  record IsOwnOp (op : Op) : Type 0 where
+    actor : IsActorOf plan.profile op.what op.actor
+    admitted : IsAdmittedWhat (region_of plan) op.what
+    large : (k : ℕ) → keeper_in op.what ≡ Some k → MatchOption (request_in op.what) (Unit {0}) IsLargeHere
+    keeps : KeepsIt op.actor (keeper_in op.what)
+
+  own_ops : (asked : List ℕ) (ops : List Op) → AreSound plan.profile asked ops → AreKept plan.profile plan.guard ops → AllByRecursion IsOwnOp ops
+  own_ops asked [] sound kept = tt
+  own_ops asked (op ∷ ops) sound kept = (record { actor = sound.0; admitted = work_admitted asked (work_of op.what) sound.1; large = λ k is. work_large asked (work_of op.what) sound.1 k is; keeps = kept.0 }, own_ops (asked_after op.what asked) ops sound.2 kept.1)
+
+  ops_own : (idle : List ℕ) (ops : List Op) → AllByRecursion IsOwn idle → AllByRecursion IsOwnOp ops → AreOwn (acts_of_ops idle ops)
+  ops_own idle [] idles all = tt
+  ops_own idle (op ∷ ops) idles all =
+      all_both (IsPlanned (threads_of plan) (region_of plan)) (acts_of_op idle op) (acts_of_ops idle ops) (work_own idle op (work_of op.what) idles all.0.actor all.0.admitted (λ k is. (is, all.0.large k is)) all.0.keeps) (ops_own idle ops idles all.1)
+
+  phase_own : (ops : List Op) → AllByRecursion IsOwnOp ops → AreOwn (phase_acts (threads_of plan) ops)
+  phase_own ops all =
+      let idle : List ℕ = idle_threads (threads_of plan) ops in
+      let active : List ℕ = active_threads (threads_of plan) ops in
+      all_both (IsPlanned (threads_of plan) (region_of plan)) (map Wakes active) (acts_of_ops idle ops)
+      (one_each IsOwn (IsPlanned (threads_of plan) (region_of plan)) Wakes (λ k is. (is, tt)) active (own_where (is_active ops))) (ops_own idle ops (own_where (λ k. not (is_active ops k))) all)
+
+  close_own : AreOwn (close_acts (threads_of plan) (keepers_of plan))
+  close_own =
+      let actors = plan_actors plan in
+      let keepers : List ℕ = numbers_from (threads_of plan + 1) (keepers_of plan) in
+      let own : Act → Type 0 = IsPlanned (threads_of plan) (region_of plan) in (
+        (tt, tt),
+        all_both own (map Ends (numbers_from 1 (threads_of plan))) (map Lowers keepers) (one_each IsOwn own Ends (λ k is. (is, tt)) (numbers_from 1 (threads_of plan)) all_own)
+            (one_each (IsKeeperOf (threads_of plan) (region_of plan)) own Lowers (λ k is. (is, tt)) keepers
+            (all_from (IsKeeperOf (threads_of plan) (region_of plan)) (threads_of plan + 1) (keepers_of plan) (λ j low high. (omega (arith, low), omega (arith, high, actors))))),
+      )
+
+  front : (xs ys : List Op) → AllByRecursion IsOwnOp (xs ++ ys) → AllByRecursion IsOwnOp xs
+  front [] ys all = tt
+  front (x ∷ xs) ys all = (all.0, front xs ys all.1)
+
+  back : (xs ys : List Op) → AllByRecursion IsOwnOp (xs ++ ys) → AllByRecursion IsOwnOp ys
+  back [] ys all = all
+  back (x ∷ xs) ys all = back xs ys all.1
+
+  later_own : (n : ℕ) (phases : List (List Op)) → AllByRecursion IsOwnOp (all_ops phases) → AreOwn (acts_from (threads_of plan) (keepers_of plan) n phases)
+  later_own n [] all = close_own
+  later_own n (phase ∷ phases) all = (
+    (tt, tt),
+    all_both (IsPlanned (threads_of plan) (region_of plan)) (phase_acts (threads_of plan) phase) (acts_from (threads_of plan) (keepers_of plan) (n + 1) phases)
+        (phase_own phase (front phase (all_ops phases) all)) (later_own (n + 1) phases (back phase (all_ops phases) all)),
+  )
+
+  phases_own : (phases : List (List Op)) → AllByRecursion IsOwnOp (all_ops phases) → AreOwn (acts_of (threads_of plan) (keepers_of plan) phases)
+  phases_own [] all = close_own
+  phases_own (phase ∷ phases) all = (later_own 1 (phase ∷ phases) all).1
+
+-- ---- THE PLAN OF A TEXT
+pub plan_acts : {text : List ℕ} {plan : Plan} → IsPlanOf text plan → ArePlanned (threads_of plan) (region_of plan) (acts_of_plan plan)
+plan_acts {text} {plan} is =
+    let sound = every_plan is in
+    phases_own plan (map ops_of plan.phases.phases.items) (own_ops plan [] (operations_of plan) sound.operations sound.keepers)
+
+pub plan_region : {text : List ℕ} {plan : Plan} → IsPlanOf text plan → IsValid (region_of plan)
+plan_region {text} {plan} is =
+    let sound = every_plan is in
+    let valid = sound.valid in
+    let among = threads_among plan.guard plan.profile.threads in
+    let some = valid.some_thread in
+    record {
+      some_page = valid.some_page;
+      pages = valid.pages;
+      classes = valid.classes;
+      some_thread = omega (arith, among, some);
+      threads = sound.actors;
+      some_age = valid.some_age;
+      age = valid.age;
+      some_heap = valid.some_heap;
+      heaps = valid.heaps;
+    }

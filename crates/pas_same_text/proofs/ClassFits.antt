@@ -1,0 +1,109 @@
+-- WHETHER A SLOT OF A CLASS FITS on a page: in the text exactly where it does by the free grains of the replay.
+use Rattle.std.proofs.Common.{◌≡◌, ℕ, ◌+◌, ◌*◌, ◌/◌, ◌%◌, ◌<◌, ◌≤◌, Bool, true, false, if◌then◌else◌, List, [], ◌∷◌, refl, ap, sym, ◌∙◌, arith}
+use Rattle.std.proofs.lemmas.Bool.{true≢false, eq-eqb, false_from_ne_true}
+use Rattle.std.proofs.lemmas.Nat.{div_below, mul-le}
+use Rattle.std.proofs.Math.Nat.{mul-mod_left, mod-add-div', suc-mul}
+use Rattle.std.specs.List.{list_any}
+use Rattle.pas_bits.specs.Bits.{has_bit}
+use Rattle.pas_profile.specs.Classes.{IsClass, class_grains, slots_of, IsSlotStart}
+use Rattle.pas_profile.specs.Profiles.{IsValid}
+use Rattle.pas_profile.specs.declared.profile.Profile.{Profile}
+use Rattle.pas_profile.proofs.ClassFacts.{class_grains_positive, usable_grains_le}
+use Rattle.pas_steps.specs.Effects.{free_word_at}
+use Rattle.pas_steps.specs.Lists.{word_after}
+use Rattle.pas_core.specs.Rights.{free_of_page}
+use Rattle.pas_rights.specs.Looks.{AllFree}
+use Rattle.pas_segregated.specs.Takes.{NoSlot}
+use Rattle.pas_answers.specs.Answers.{Progress}
+use Rattle.pas_one_text.specs.State.{World}
+use Rattle.pas_one_text.specs.Pages.{is_free, are_free, is_guarded}
+use Rattle.pas_one_text.specs.Searches.{some_of}
+use Rattle.pas_one_text.specs.Classes.{spaced, free_slots, first_row, row_from, slots_for}
+use Rattle.pas_same_text.specs.Same.{HasSame}
+use Rattle.pas_same_text.specs.Acts.{IsBetween}
+use Rattle.pas_same_text.specs.Searched.{FitsSame}
+use Rattle.pas_same_text.specs.Words.{free_bit}
+use Rattle.pas_same_text.proofs.FreeGrains.{free_unless, bit_unguarded}
+use Rattle.pas_same_text.proofs.GivenBack.{each_at, each_all}
+use Rattle.pas_same_text.proofs.SpacedPlaces.{some_filtered, in_spaced, from_spaced}
+
+-- the first few are some where some are
+some_row : (step : ℕ) (xs : List ℕ) → some_of (first_row step xs) ≡ some_of xs
+some_row step [] = refl
+some_row step (x ∷ xs) = ap (λ (t : Bool). some_of (if t then x ∷ row_from (x + step) step 3 xs else [])) (eq-eqb x x refl)
+
+some_slots : (shared : Bool) (w : World) (class page : ℕ) → some_of (slots_for shared w class page) ≡ some_of (free_slots w class page)
+some_slots false w class page = refl
+some_slots true w class page = some_row (class_grains class) (free_slots w class page)
+
+module _ (f : Profile) (p : Progress) (w : World) (valid : IsValid f) (between : IsBetween f p) (same : HasSame f p w) (class : ℕ) (is : IsClass class) where
+  abbrev step : ℕ
+  step = class_grains class
+
+  abbrev test : ℕ → ℕ → Bool
+  test page s = are_free w page s step
+
+  some_grains : 1 ≤ step
+  some_grains = class_grains_positive class is
+
+  bit_read : (page b : ℕ) → free_bit p.list (256 * page + b) ≡ free_of_page p.list page b
+  bit_read page b =
+      let turned : 256 * page + b ≡ page * 256 + b = omega arith in
+      let bit : (256 * page + b) % 64 ≡ b % 64 = omega arith in
+      ap (λ (g : ℕ). has_bit (word_after p.list (free_word_at g)) ((256 * page + b) % 64)) turned
+      ∙ ap (λ (x : ℕ). has_bit (word_after p.list (free_word_at (page * 256 + b))) x) bit
+
+  pub reading : (page b : ℕ) → b < 256 → is_guarded w page ≡ false → is_free w page b ≡ free_of_page p.list page b
+  reading page b small none = free_unless f p w valid between same page b small none ∙ bit_read page b
+
+  -- a page with a free grain is no keeper's
+  pub read_unguarded : (page b : ℕ) → b < 256 → free_of_page p.list page b ≡ true → is_guarded w page ≡ false
+  read_unguarded page b small free = bit_unguarded f p w valid between same page b small (bit_read page b ∙ free)
+
+  some_is : (shared : Bool) (page : ℕ) → some_of (slots_for shared w class page) ≡ list_any (test page) (spaced 0 step (slots_of class))
+  some_is shared page = some_slots shared w class page ∙ some_filtered (test page) (spaced 0 step (slots_of class))
+
+  -- a slot of the list is one of the class, and the other way round
+  pub slot_there : (i : ℕ) → i < slots_of class → IsSlotStart class (i * step)
+  slot_there i lt =
+      let one = suc-mul i step in
+      let most = mul-le (i + 1) step (slots_of class) step (omega (arith, lt)) (omega arith) in
+      let next : (i + 1) * step ≡ i * step + step = ap (λ (x : ℕ). x * step) (omega arith) ∙ (one ∙ omega arith) in
+      record { aligned = mul-mod_left i step; within = omega (arith, most, next) }
+
+  pub slot_index : (s : ℕ) → IsSlotStart class s → (i : ℕ) × (i < slots_of class) × (i * step ≡ s)
+  slot_index s slot =
+      let aligned = slot.aligned in
+      let within = slot.within in
+      let some = some_grains in
+      let times : s / step * step ≡ s = let m = mod-add-div' s step in omega (arith, m, aligned) in
+      (s / step, div_below s step (slots_of class) (omega (arith, some)) (omega (arith, within, some)), times)
+
+  -- it is free in the text exactly where its grains are in the replay
+  pub slot_tested : (page s : ℕ) → IsSlotStart class s → AllFree (free_of_page p.list page) s step → test page s ≡ true
+  slot_tested page s slot free =
+      let within = slot.within in
+      let most = usable_grains_le class is in
+      let some = some_grains in
+      let none : is_guarded w page ≡ false = read_unguarded page s (omega (arith, within, most, some)) (free s (omega (arith, within, most, some)) (omega arith) (omega (arith, some))) in
+      each_all step s (is_free w page) (λ b low high. reading page b (omega (arith, high, within, most)) none ∙ free b (omega (arith, high, within, most)) low high)
+
+  pub slot_free : (page s : ℕ) → is_guarded w page ≡ false → test page s ≡ true → AllFree (free_of_page p.list page) s step
+  slot_free page s none tested b small low high = sym (reading page b small none) ∙ each_at step s b (is_free w page) tested low high
+
+  there : (page s : ℕ) → IsSlotStart class s → AllFree (free_of_page p.list page) s step → list_any (test page) (spaced 0 step (slots_of class)) ≡ true
+  there page s slot free =
+      let o = slot_index s slot in
+      in_spaced (test page) (slots_of class) 0 step o.0 o.1 (ap (test page) (let times = o.2 in omega (arith, times)) ∙ slot_tested page s slot free)
+
+  pub class_fits : (shared : Bool) → FitsSame (NoSlot class) f p w (slots_for shared w class)
+  class_fits shared = record {
+    none = λ page of unguarded none. false_from_ne_true (some_of (slots_for shared w class page)) (λ h.
+        let o = from_spaced (test page) (slots_of class) 0 step (sym (some_is shared page) ∙ h) in
+        none (o.0 * step) (slot_there o.0 o.1) (slot_free page (o.0 * step) unguarded (ap (test page) (omega arith) ∙ o.2)));
+    some = λ page of unguarded fits. some_is shared page ∙ by_test page fits (list_any (test page) (spaced 0 step (slots_of class))) refl;
+  }
+    where
+      by_test : (page : ℕ) → (NoSlot class (free_of_page p.list page) → ⊥) → (t : Bool) → list_any (test page) (spaced 0 step (slots_of class)) ≡ t → t ≡ true
+      by_test page fits true e = refl
+      by_test page fits false e = absurd (fits (λ s slot free. true≢false (sym (there page s slot free) ∙ e)))

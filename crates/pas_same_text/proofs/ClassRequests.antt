@@ -1,0 +1,111 @@
+-- A REQUEST OF A CLASS, whatever the thread's cache has: a cached slot is given, or place is made and slots are fetched, of which one is given, or the request is refused.
+use Rattle.std.proofs.Common.{◌≡◌, ℕ, List, [], ◌∷◌, ◌++◌, Option, None, Some, Result, Ok, Err, inl, inr, refl, ap, sym, ◌∙◌, subst}
+use Rattle.pas_profile.specs.Profiles.{IsValid, IsAdmitted}
+use Rattle.pas_profile.specs.Requests.{class_home, route_in, room_in}
+use Rattle.pas_profile.specs.declared.directory.Directory.{Directory}
+use Rattle.pas_profile.specs.declared.directory.Route.{Route}
+use Rattle.pas_profile.specs.declared.event.NoRoom.{NoRoom}
+use Rattle.pas_profile.specs.declared.name.Block.{Block}
+use Rattle.pas_profile.specs.declared.profile.Profile.{Profile}
+use Rattle.pas_steps.specs.Lists.{part}
+use Rattle.pas_steps.specs.declared.step.Made.{Made}
+use Rattle.pas_segregated.specs.declared.slots.Slots.{Slots}
+use Rattle.pas_cache.specs.Changes.{GivesSlot}
+use Rattle.pas_cache.specs.Contents.{Cached}
+use Rattle.pas_cache.specs.Serves.{filling_in, IsObtained, IsAnswered, ServesClass}
+use Rattle.pas_report.specs.declared.record.Said.{Said as TheSaid}
+use Rattle.pas_trace.specs.Acts.{Act}
+use Rattle.pas_trace.specs.EveryPlan.{IsThread}
+use Rattle.pas_trace.specs.declared.plan.What.TheVariants.{Alloc}
+use Rattle.pas_answers.specs.Answers.{Progress, Named, named, Answer, having, IsServed, after_answer, said_of_request}
+use Rattle.pas_answers.specs.Answers.{block_of as block_answered}
+use Rattle.pas_one_text.specs.State.{World}
+use Rattle.pas_one_text.specs.Classes.{fetches, serves_class}
+use Rattle.pas_one_text.specs.Order.{serves}
+use Rattle.pas_same_text.specs.Same.{IsSame}
+use Rattle.pas_same_text.specs.Acts.{IsBetween, StaysSame}
+use Rattle.pas_same_text.proofs.CacheLists.{same_own}
+use Rattle.pas_same_text.proofs.CachedSlots.{cached_answered}
+use Rattle.pas_same_text.proofs.ClassGiven.{fetched_to, fetch_served}
+use Rattle.pas_same_text.proofs.FetchedClasses.{IsFetched, with_place, place_fetched, text_fetched, fetch_between, fetch_carried}
+use Rattle.pas_same_text.proofs.LoggedFrees.{after_with}
+use Rattle.pas_same_text.proofs.OneUp.{up_to}
+use Rattle.pas_same_text.proofs.RefusedClasses.{class_served_by, fetched_so, class_refused}
+
+module _ (f : Profile) (k name heap size align class : ℕ) (p p' : Progress) (w : World) (thread : IsThread f k) (admitted : IsAdmitted f size align heap) (route : route_in f size align ≡ Route.Class class) (valid : IsValid f) (before : IsBetween f p) (after : IsBetween f p') (same : IsSame f p w)
+    (a : Answer) (served : IsServed f k (record { name = name; heap = heap; size = size; align = align }) (having p.names (part k p.list) (p.caches k)) a) (reached : p' ≡ after_answer p k a) where
+  abbrev c : Cached
+  c = p.caches k
+
+  abbrev home : Directory
+  home = class_home f heap class
+
+  abbrev asked : World
+  asked = serves f k name heap (route_in f size align) (room_in f size align) align w
+
+  by_class : ServesClass (filling_in home class) f c a.cache a.steps served.answer
+  by_class = class_served_by f k name heap size align class p a route served
+
+  -- ---- slots were fetched, and one of them is given
+  module _ (block : Block) (is : served.answer ≡ Ok block) (slots rest : Slots) (fewer : List Slots) (steps given : List Made) (steps_are : a.steps ≡ given ++ steps) (gives : GivesSlot slots rest block given) (cache : a.cache ≡ record c { locals = fewer ++ rest ∷ [] })
+      (o : IsFetched f k heap class p w (Ok slots) fewer steps) where
+    abbrev p1 : Progress
+    p1 = up_to p k o.fetch.before fewer
+
+    abbrev w1 : World
+    w1 = with_place k heap class w
+
+    abbrev names : List Named
+    names = named name (Some block) ∷ p.names
+
+    -- the cache of the replay then
+    abbrev new : Cached
+    new = record (p1.caches k) { locals = (p1.caches k).locals ++ rest ∷ [] }
+
+    new_is : a.cache ≡ new
+    new_is = cache ∙ ap (λ (x : Cached). record x { locals = x.locals ++ rest ∷ [] }) (sym (same_own p.caches k (record c { locals = fewer })))
+
+    to : p' ≡ after_with p k (given ++ steps) None names new
+    to =
+        reached
+        ∙ (ap (λ (x : Option TheSaid). after_with p k a.steps x a.names a.cache) (served.said_is ∙ ap (said_of_request name) is)
+        ∙ (ap (λ (ns : List Named). after_with p k a.steps None ns a.cache) (served.names_are ∙ ap (λ (r : Result Block NoRoom). named name (block_answered r) ∷ p.names) is)
+        ∙ (ap (λ (x : Cached). after_with p k a.steps None names x) new_is
+        ∙ ap (λ (ms : List Made). after_with p k ms None names new) steps_are)))
+
+    end : IsBetween f (fetched_to p1 k name (given ++ o.fetch.searched) rest block)
+    end = fetch_between f k heap class p w (Ok slots) fewer steps o given None names new (subst (IsBetween f) to after)
+
+    ended : IsSame f (fetched_to p1 k name (given ++ o.fetch.searched) rest block) (fetches f k name heap class w1)
+    ended = fetch_served f k name heap class p1 w1 (place_fetched f k heap class p w (Ok slots) fewer steps o) slots rest block o.fetch.searched given o.fetch.refill gives end
+
+    given_so : IsSame f p' (serves_class f k name heap class w)
+    given_so =
+        subst (IsSame f p') (sym (text_fetched f k heap class p w (Ok slots) fewer steps o name))
+        (subst (λ (x : Progress). IsSame f x (fetches f k name heap class w1)) (sym to)
+        (fetch_carried f k heap class p w (Ok slots) fewer steps o given None names new (fetches f k name heap class w1) ended))
+
+  -- ---- a block was given
+  from_slots : (block : Block) → served.answer ≡ Ok block → (slots : Slots) (fewer : List Slots) (early given : List Made) → a.steps ≡ given ++ early → IsObtained (filling_in home class) f c.locals fewer early (Ok slots) → IsAnswered fewer a.cache.locals given (Ok slots) (Ok block) → IsSame f p' asked
+  from_slots block is slots fewer early given steps_are (inl t) ends = cached_answered f k name heap size align class p p' w thread route valid before after same (t.0, t.2.cached, t.2.some) a served reached
+  from_slots block is slots fewer early given steps_are (inr fetch) ends =
+      subst (λ (r : Route). IsSame f p' (serves f k name heap r (room_in f size align) align w)) (sym route)
+      (given_so block is slots ends.0 fewer early given steps_are ends.1 (by_class.cache ∙ ap (λ (ss : List Slots). record c { locals = ss }) ends.2)
+      (fetched_so f k name heap size align class p p' w thread admitted route valid before after same a served reached (Ok slots) fewer early given steps_are fetch))
+
+  from_found : (block : Block) → served.answer ≡ Ok block → (found : Result Slots NoRoom) (fewer : List Slots) (early given : List Made) → a.steps ≡ given ++ early → IsObtained (filling_in home class) f c.locals fewer early found → IsAnswered fewer a.cache.locals given found (Ok block) → IsSame f p' asked
+  from_found block is (Ok slots) fewer early given steps_are how ends = from_slots block is slots fewer early given steps_are how ends
+  from_found block is (Err why) fewer early given steps_are how ends = absurd ends
+
+  answered : (answer : Result Block NoRoom) → served.answer ≡ answer → IsSame f p' asked
+  answered (Ok block) is =
+      from_found block is by_class.locals.found by_class.locals.fewer by_class.locals.before by_class.locals.given by_class.locals.steps_are by_class.locals.obtained
+      (subst (IsAnswered by_class.locals.fewer a.cache.locals by_class.locals.given by_class.locals.found) is by_class.locals.ends)
+  answered (Err room) is = class_refused f k name heap size align class p p' w thread admitted route valid before after same a served reached room is
+
+  pub class_answered : IsSame f p' (serves f k name heap (route_in f size align) (room_in f size align) align w)
+  class_answered = answered served.answer refl
+
+pub class_same : (f : Profile) (line k name heap size align class : ℕ) → IsThread f k → IsAdmitted f size align heap → route_in f size align ≡ Route.Class class → StaysSame f (Act.Operates (record { line = line; actor = k; what = Alloc name heap size align }))
+class_same f line k name heap size align class thread admitted route p p' w taken =
+    class_answered f k name heap size align class p p' w thread admitted route taken.valid taken.before taken.after taken.same taken.advances.0 taken.advances.1 taken.advances.2

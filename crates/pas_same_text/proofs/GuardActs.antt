@@ -1,0 +1,260 @@
+-- GUARDED REQUESTS: the keeper lowers the guards whose blocks have ended, and tries to raise one; where it raises none, the thread makes the request as any.
+use Rattle.std.proofs.Common.{◌≡◌, ℕ, ◌+◌, ◌-◌, ◌*◌, ◌/◌, false, List, [], ◌∷◌, ◌++◌, Option, None, Some, refl, ap, sym, ◌∙◌, subst, arith, append_assoc}
+use Rattle.std.specs.List.{filter}
+use Rattle.pas_profile.specs.Blocks.{address_of}
+use Rattle.pas_profile.specs.Profiles.{IsValid, IsAdmitted, IsDirectoryOf}
+use Rattle.pas_profile.specs.Requests.{route_in, room_in}
+use Rattle.pas_profile.specs.declared.directory.Directory.{Directory}
+use Rattle.pas_profile.specs.declared.directory.Route.{Route}
+use Rattle.pas_profile.specs.declared.event.Event.{Event}
+use Rattle.pas_profile.specs.declared.name.Block.{Block}
+use Rattle.pas_profile.specs.declared.profile.Profile.{Profile}
+use Rattle.pas_steps.specs.Desks.{triples}
+use Rattle.pas_steps.specs.Events.{events_by}
+use Rattle.pas_steps.specs.Lists.{part, Legal}
+use Rattle.pas_steps.specs.Views.{View}
+use Rattle.pas_steps.specs.declared.step.Made.{Made}
+use Rattle.pas_steps.proofs.Parts.{part_of_own}
+use Rattle.pas_core.proofs.OneActor.{legal_before, legal_earlier}
+use Rattle.pas_cache.specs.Contents.{Cached}
+use Rattle.pas_large.specs.Doors.{Indexes, found_in}
+use Rattle.pas_large.specs.Finds.{MayFind}
+use Rattle.pas_guard.specs.Raises.{IsRaised, IsNotRaised}
+use Rattle.pas_guard.specs.declared.book.Guard.{Guard as BookGuard}
+use Rattle.pas_report.specs.declared.record.Record.{Record}
+use Rattle.pas_report.specs.declared.record.Said.{Said}
+use Rattle.pas_trace.specs.Acts.{Act, numbers_from}
+use Rattle.pas_trace.specs.EveryPlan.{IsThread}
+use Rattle.pas_trace.specs.declared.item.Request.{Request}
+use Rattle.pas_trace.specs.declared.plan.Op.{Op}
+use Rattle.pas_trace.specs.declared.plan.What.{What}
+use Rattle.pas_answers.specs.Answers.{Progress, with_book, records_of}
+use Rattle.pas_answers.specs.Guarding.{Tried, IsTried, said_of_guard, after_trying, after_giving}
+use Rattle.pas_answers.specs.Indexes.{after_request, after_tried, TriedIsNamedBy}
+use Rattle.pas_answers.specs.Reaching.{AnswersTried}
+use Rattle.pas_one_text.specs.State.{World, each}
+use Rattle.pas_one_text.specs.Searches.{backs}
+use Rattle.pas_one_text.specs.Runs.{large_of}
+use Rattle.pas_one_text.specs.Guards.{guards_of, lowers_ended, is_over, raises, guards}
+use Rattle.pas_one_text.specs.Order.{serves}
+use Rattle.pas_same_text.specs.Same.{IsSame}
+use Rattle.pas_same_text.specs.Acts.{IsBetween}
+use Rattle.pas_same_text.specs.Known.{IsKnown, IsKept, KeepsSame}
+use Rattle.pas_same_text.proofs.KeepersRest.{book_finds}
+use Rattle.pas_same_text.proofs.LoggedFrees.{nothing_more}
+use Rattle.pas_same_text.proofs.LowerActs.{sweep_same, ended_text}
+use Rattle.pas_same_text.proofs.MissedGuards.{missed_same}
+use Rattle.pas_same_text.proofs.PagesRequests.{pages_answered, named_large}
+use Rattle.pas_same_text.proofs.RaisedGuards.{raised_same}
+use Rattle.pas_same_text.proofs.ReadyPages.{shown}
+use Rattle.pas_same_text.proofs.RunEvents.{deeded, deeds_of}
+use Rattle.pas_same_text.proofs.SameIndexes.{request_indexes, all_lowered_keep}
+use Rattle.pas_same_text.proofs.SeatedActs.{own_book, other_book, swept, swept_between, raise_legal, raise_fits, lists, tried_between}
+use Rattle.pas_same_text.proofs.Seats.{thread_of, keeper_of}
+use Rattle.pas_same_text.proofs.StillIndexes.{each_keeps, backs_keep, same_indexes}
+use Rattle.pas_same_text.proofs.TriedRuns.{sought_text, missed_text}
+
+-- deeds change no index
+deeds_keep_indexes : (k : ℕ) (d : Directory) (qs : List ℕ) (w : World) → (shown (deeds_of k d qs) w).indexes ≡ w.indexes
+deeds_keep_indexes k d [] w = refl
+deeds_keep_indexes k d (q ∷ qs) w = deeds_keep_indexes k d qs w
+
+raised_indexes : (k name heap first n : ℕ) (w : World) → (raises k name heap first n w).indexes ≡ w.indexes
+raised_indexes k name heap first n w = same_indexes w (each (backs k) (numbers_from (first + 1) n) w) (each_keeps (backs k) (numbers_from (first + 1) n) (backs_keep k) w)
+
+module _ (threads : ℕ) (f : Profile) (keeper line k other name heap size align : ℕ) (p p' : Progress) (w : World) (indexes : Indexes)
+    (known : IsKnown threads f (Act.Guards keeper (record { line = line; actor = k; what = What.Guarded other name heap size align })) p p' w indexes) where
+  abbrev r : Request
+  r = record { name = name; heap = heap; size = size; align = align }
+
+  abbrev op : Op
+  op = record { line = line; actor = k; what = What.Guarded other name heap size align }
+
+  abbrev n : ℕ
+  n = room_in f size align / 4096
+
+  abbrev d : Directory
+  d = large_of heap
+
+  valid : IsValid f
+  valid = known.taken.valid
+
+  route : route_in f size align ≡ Route.Large
+  route = known.planned.1.1.1
+
+  admitted : IsAdmitted f size align heap
+  admitted = known.planned.1.0
+
+  of : IsDirectoryOf f d
+  of = record { heap = admitted.of_profile; kind = tt; class = tt }
+
+  thread : IsThread f k
+  thread = thread_of threads f k known.planned.0.1 known.seated.few
+
+  keeps : IsThread f keeper
+  keeps = keeper_of threads f keeper known.planned.0.0
+
+  uncached : (p.caches keeper).locals ≡ []
+  uncached = ap (λ (c : Cached). c.locals) (known.seated.uncached keeper known.planned.0.0)
+
+  abbrev wm : World
+  wm = lowers_ended keeper w
+
+  wm_indexes : wm.indexes ≡ indexes
+  wm_indexes = all_lowered_keep (filter (is_over w) (guards_of w keeper)) w ∙ known.indexes_are
+
+  -- ---- what the keeper did
+  module _ (t : Tried) (h : IsTried f keeper r (part keeper p.list) (p.books keeper) t) (legal : Legal f (after_trying p keeper t).list) where
+    abbrev pm : Progress
+    pm = swept f keeper r p t valid keeps known.taken.before uncached h legal
+
+    abbrev xs : List Made
+    xs = h.raise.searched
+
+    abbrev rest : List Made
+    rest = h.raise.after
+
+    between : IsBetween f pm
+    between = swept_between f keeper r p t valid keeps known.taken.before uncached h legal
+
+    same_m : IsSame f pm wm
+    same_m = subst (IsSame f pm) (sym (ended_text f keeper p w known.taken.same)) (sweep_same f keeper false p w h.swept h.left h.lowered valid keeps known.taken.before known.taken.same h.sweep between)
+
+    legal_raise : Legal f (triples keeper (rest ++ xs) ++ pm.list)
+    legal_raise = subst (λ (ms : List Made). Legal f (triples keeper ms ++ pm.list)) h.raise.steps_are (raise_legal f keeper r p t valid keeps known.taken.before uncached h legal)
+
+    legal_search : Legal f (triples keeper xs ++ pm.list)
+    legal_search = legal_earlier f keeper rest xs pm.list legal_raise
+
+    met : MayFind d (part keeper pm.list)
+    met = book_finds f heap h.left (part keeper pm.list) (raise_fits f keeper r p t valid keeps known.taken.before uncached h legal)
+
+    lists_are : triples keeper t.steps ++ p.list ≡ triples keeper (rest ++ xs) ++ pm.list
+    lists_are = sym (lists f keeper r p t valid keeps known.taken.before uncached h legal) ∙ ap (λ (ms : List Made). triples keeper ms ++ pm.list) h.raise.steps_are
+
+    book_before : pm.books keeper ≡ h.left
+    book_before = own_book p.books keeper h.left
+
+    -- the records after those of the sweep
+    abbrev own_events : List Event
+    own_events = events_by keeper (part keeper pm.list) (rest ++ xs)
+
+    events_same : events_by keeper (h.swept ++ part keeper p.list) h.raised ≡ own_events
+    events_same = ap (events_by keeper (h.swept ++ part keeper p.list)) h.raise.steps_are ∙ ap (λ (v : View). events_by keeper v (rest ++ xs)) (sym (part_of_own keeper h.swept p.list))
+
+    records_after : p.records ++ t.records ≡ pm.records ++ (records_of own_events ++ said_of_guard keeper name n t.block)
+    records_after =
+        ap (λ (rs : List Record). p.records ++ rs) h.records_are
+        ∙ (sym (append_assoc p.records h.lowered (records_of (events_by keeper (h.swept ++ part keeper p.list) h.raised) ++ said_of_guard keeper name n t.block))
+        ∙ ap (λ (es : List Event). (p.records ++ h.lowered) ++ (records_of es ++ said_of_guard keeper name n t.block)) events_same)
+
+  -- ==== A GUARD WENT UP
+  module _ (steps : List Made) (records : List Record) (block : Block) (guards' : List BookGuard) (h : IsTried f keeper r (part keeper p.list) (p.books keeper) (record { steps = steps; records = records; block = Some block; guards = guards' }))
+      (reached : p' ≡ after_giving (after_trying p keeper (record { steps = steps; records = records; block = Some block; guards = guards' })) name block) where
+    abbrev t : Tried
+    t = record { steps = steps; records = records; block = Some block; guards = guards' }
+
+    abbrev q : Progress
+    q = after_giving (after_trying p keeper t) name block
+
+    there : IsBetween f q
+    there = subst (IsBetween f) reached known.taken.after
+
+    abbrev before : Progress
+    before = pm t h there.legal
+
+    run : IsRaised f d n (before.books keeper) guards' h.raise.searched h.raise.after block
+    run = subst (λ (gs : List BookGuard). IsRaised f d n gs guards' h.raise.searched h.raise.after block) (sym (book_before t h there.legal)) h.raise.outcome
+
+    said_is : said_of_guard keeper name n (Some block) ≡ Record.Said keeper (Said.Guarded run.first (run.first + n + 1) name) ∷ []
+    said_is =
+        let at : address_of block.name ≡ (run.first + 1) * 4096 = ap (λ (b : Block). address_of b.name) run.block_is in
+        let low : address_of block.name / 4096 - 1 ≡ run.first = omega (arith, at) in
+        let high : address_of block.name / 4096 + n ≡ run.first + n + 1 = omega (arith, at) in
+        ap (λ (x : ℕ). Record.Said keeper (Said.Guarded x (address_of block.name / 4096 + n) name) ∷ []) low ∙ ap (λ (x : ℕ). Record.Said keeper (Said.Guarded run.first x name) ∷ []) high
+
+    up_same : IsSame f q (raises keeper name heap run.first n (shown (deeds_of keeper d (deeded h.raise.searched)) wm))
+    up_same = raised_same f keeper name heap n before q wm valid (between t h there.legal) (same_m t h there.legal) of h.raise.searched h.raise.after block guards' (legal_search t h there.legal) h.raise.kinds h.raise.rise h.raise.returns (met t h there.legal) run there
+        (lists_are t h there.legal) refl (own_book p.books keeper guards') (λ j ne. other_book p.books keeper j guards' ne ∙ sym (other_book p.books keeper j h.left ne)) refl
+        (records_after t h there.legal ∙ ap (λ (rs : List Record). before.records ++ (records_of (own_events t h there.legal) ++ rs)) said_is) refl
+
+    up_text : guards f keeper k (Some r) w ≡ raises keeper name heap run.first n (shown (deeds_of keeper d (deeded h.raise.searched)) wm)
+    up_text = sought_text f keeper heap n before wm valid (between t h there.legal) (same_m t h there.legal) of h.raise.searched (legal_search t h there.legal) h.raise.kinds h.raise.rise h.raise.returns (met t h there.legal) run.first run.found k name
+
+    up_act : IsSame f p' (guards f keeper k (Some r) w) × ((guards f keeper k (Some r) w).indexes ≡ indexes)
+    up_act = (
+      subst (λ (x : World). IsSame f p' x) (sym up_text) (subst (λ (y : Progress). IsSame f y (raises keeper name heap run.first n (shown (deeds_of keeper d (deeded h.raise.searched)) wm))) (sym reached) up_same),
+      ap (λ (x : World). x.indexes) up_text ∙ (raised_indexes keeper name heap run.first n (shown (deeds_of keeper d (deeded h.raise.searched)) wm) ∙ (deeds_keep_indexes keeper d (deeded h.raise.searched) wm ∙ wm_indexes)),
+    )
+
+  -- ==== NONE DID
+  module _ (steps : List Made) (records : List Record) (guards' : List BookGuard) (h : IsTried f keeper r (part keeper p.list) (p.books keeper) (record { steps = steps; records = records; block = None; guards = guards' }))
+      (is : AnswersTried f op r None (after_trying p keeper (record { steps = steps; records = records; block = None; guards = guards' })) p') (named : TriedIsNamedBy f indexes op r None (after_trying p keeper (record { steps = steps; records = records; block = None; guards = guards' })) p' is) where
+    abbrev none : Tried
+    none = record { steps = steps; records = records; block = None; guards = guards' }
+
+    abbrev left : Progress
+    left = after_trying p keeper none
+
+    legal_left : Legal f left.list
+    legal_left = legal_before f k is.0.steps left.list (subst (λ (y : Progress). Legal f y.list) is.2 known.taken.after.legal)
+
+    left_between : IsBetween f left
+    left_between = tried_between f keeper r p none valid keeps known.taken.before uncached h legal_left
+
+    abbrev after_sweep : Progress
+    after_sweep = pm none h legal_left
+
+    missed : IsNotRaised f d n h.left guards' h.raise.searched h.raise.after
+    missed = h.raise.outcome
+
+    abbrev tried : World
+    tried = shown (deeds_of keeper d (deeded h.raise.searched)) wm
+
+    searched_all : h.raise.after ++ h.raise.searched ≡ h.raise.searched
+    searched_all = ap (λ (ms : List Made). ms ++ h.raise.searched) missed.nothing
+
+    same_left : IsSame f left tried
+    same_left = missed_same f keeper heap n after_sweep left wm valid (between none h legal_left) (same_m none h legal_left) of h.raise.searched (legal_search none h legal_left) h.raise.kinds h.raise.rise h.raise.returns (met none h legal_left) missed.found left_between
+        (lists_are none h legal_left ∙ ap (λ (ms : List Made). triples keeper ms ++ after_sweep.list) searched_all) refl (ap (with_book p.books keeper) missed.same) refl
+        (records_after none h legal_left ∙ ap (λ (rs : List Record). after_sweep.records ++ rs) (nothing_more (records_of (own_events none h legal_left)) ∙ ap (λ (ms : List Made). records_of (events_by keeper (part keeper after_sweep.list) ms)) searched_all)) refl
+
+    down_text : guards f keeper k (Some r) w ≡ serves f k name heap (route_in f size align) (room_in f size align) align tried
+    down_text =
+        missed_text f keeper heap n after_sweep wm valid (between none h legal_left) (same_m none h legal_left) of h.raise.searched (legal_search none h legal_left) h.raise.kinds h.raise.rise h.raise.returns (met none h legal_left) missed.found k name
+        ∙ ap (λ (way : Route). serves f k name heap way (room_in f size align) align tried) (sym route)
+
+    tried_indexes : tried.indexes ≡ indexes
+    tried_indexes = deeds_keep_indexes keeper d (deeded h.raise.searched) wm ∙ wm_indexes
+
+    down_act : IsSame f p' (guards f keeper k (Some r) w) × ((guards f keeper k (Some r) w).indexes ≡ after_tried f op r None left p' is indexes)
+    down_act = (
+      subst (λ (x : World). IsSame f p' x) (sym down_text)
+          (pages_answered f k name heap size align left p' tried thread admitted route valid left_between known.taken.after same_left is.0 is.1 is.2
+          (named_large f r indexes is.0.found route named ∙ ap (λ (ix : Indexes). found_in ix heap n) (sym tried_indexes))),
+      ap (λ (x : World). x.indexes) down_text ∙ (request_indexes f k name heap (route_in f size align) (room_in f size align) align tried ∙ ap (λ (ix : Indexes). after_request (route_in f size align) heap n ix) tried_indexes),
+    )
+
+  -- ==== EITHER
+  either_act : (steps : List Made) (records : List Record) (block : Option Block) (guards' : List BookGuard) → IsTried f keeper r (part keeper p.list) (p.books keeper) (record { steps = steps; records = records; block = block; guards = guards' })
+      → (is : AnswersTried f op r block (after_trying p keeper (record { steps = steps; records = records; block = block; guards = guards' })) p') → TriedIsNamedBy f indexes op r block (after_trying p keeper (record { steps = steps; records = records; block = block; guards = guards' })) p' is
+      → IsSame f p' (guards f keeper k (Some r) w) × ((guards f keeper k (Some r) w).indexes ≡ after_tried f op r block (after_trying p keeper (record { steps = steps; records = records; block = block; guards = guards' })) p' is indexes)
+  either_act steps records (Some block) guards' h is named = up_act steps records block guards' h is
+  either_act steps records None guards' h is named = down_act steps records guards' h is named
+
+  guarded_kept : IsKept threads f (Act.Guards keeper op) p p' w indexes known
+  guarded_kept =
+      let t : Tried = known.taken.advances.0 in
+      let both = either_act t.steps t.records t.block t.guards known.taken.advances.1 known.taken.advances.2 known.named in
+      record { same = both.0; indexes_are = both.1 }
+
+-- ---- THE ACT
+by_what : (threads : ℕ) (f : Profile) (keeper line k : ℕ) (what : What) → KeepsSame threads f (Act.Guards keeper (record { line = line; actor = k; what = what }))
+by_what threads f keeper line k (What.Guarded other name heap size align) p p' w indexes known = guarded_kept threads f keeper line k other name heap size align p p' w indexes known
+by_what threads f keeper line k what p p' w indexes known = absurd (none_kept known.planned.1.1.0)
+  where
+    none_kept : None ≡ Some keeper → ⊥
+    none_kept is = cc
+
+pub guards_keep : (threads : ℕ) (f : Profile) (keeper : ℕ) (op : Op) → KeepsSame threads f (Act.Guards keeper op)
+guards_keep threads f keeper op = by_what threads f keeper op.line op.actor op.what

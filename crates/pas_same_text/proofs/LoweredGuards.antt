@@ -1,0 +1,238 @@
+-- GUARDS ARE LOWERED in the text: their outer pages are anybody's again, and nothing else changes but hints.
+use Rattle.std.proofs.Common.{◌≡◌, ℕ, ◌==◌, Bool, true, false, not, ◌||◌, if◌then◌else◌, List, [], ◌∷◌, ◌++◌, map, reverse, inl, inr, refl, ap, sym, ◌∙◌, subst, append_assoc}
+use Rattle.std.proofs.lemmas.Bool.{false≢true, true≢false, eq-eqb, eqb-true, or_cases, or_left, or_right, false_from_ne_true}
+use Rattle.std.specs.List.{list_any, filter}
+use Rattle.pas_profile.specs.Profiles.{IsPage}
+use Rattle.pas_profile.specs.declared.profile.Profile.{Profile}
+use Rattle.pas_report.specs.declared.record.Record.{Record}
+use Rattle.pas_report.specs.declared.record.Said.TheVariants as Said
+use Rattle.pas_guard.specs.Books.{is_outer_of, is_outer, AreApart}
+use Rattle.pas_guard.specs.declared.book.Guard.{Guard as BookGuard}
+use Rattle.pas_one_text.specs.State.{Guard, World, each}
+use Rattle.pas_one_text.specs.Pages.{is_guarded, minds}
+use Rattle.pas_one_text.specs.Guards.{without_guard, lowers}
+use Rattle.pas_same_text.specs.Same.{told_guard, has_number}
+use Rattle.pas_same_text.proofs.GivenBack.{Returns, OnlyHints, returns_nothing, returns_then, returns_like, minded_last, all_only_hints}
+use Rattle.pas_same_text.proofs.OuterPages.{has_outer}
+use Rattle.pas_same_text.proofs.SmallActs.{records_next}
+use Rattle.pas_same_text.proofs.StillIndexes.{same_guards, minds_keep}
+
+-- ---- which pages come back, what is said, and which guards are left
+abbrev pub outer_pages : List Guard → List ℕ
+outer_pages [] = []
+outer_pages (g ∷ gs) = g.low ∷ g.high ∷ outer_pages gs
+
+abbrev pub lowered_line : Guard → Record
+lowered_line g = Record.Said g.keeper (Said.Lowered g.low g.high)
+
+abbrev pub said_onto : List Guard → List Record → List Record
+said_onto [] rs = rs
+said_onto (g ∷ gs) rs = said_onto gs (lowered_line g ∷ rs)
+
+abbrev pub without : ℕ → List Guard → List Guard
+without low gs = filter (λ h. not (h.low == low)) gs
+
+abbrev pub without_all : List Guard → List Guard → List Guard
+without_all [] gs = gs
+without_all (g ∷ downs) gs = without_all downs (without g.low gs)
+
+abbrev pub AreOfRegion : Profile → List Guard → Type 0
+AreOfRegion f [] = Unit {0}
+AreOfRegion f (g ∷ gs) = IsPage f g.low × IsPage f g.high × AreOfRegion f gs
+
+-- these guards were lowered, in order
+pub record AreLowered (f : Profile) (downs : List Guard) (w v : World) : Type 0 where
+  pub events : v.events ≡ w.events
+  pub records : v.records ≡ said_onto downs w.records
+  pub live : v.live ≡ w.live
+  pub caches : v.caches ≡ w.caches
+  pub names : v.names ≡ w.names
+  pub epoch : v.epoch ≡ w.epoch
+  pub read : v.read ≡ w.read
+  pub guards : v.guards ≡ without_all downs w.guards
+  pub returns : Returns f (outer_pages downs) w v
+
+module _ (f : Profile) (g : Guard) (w : World) (low : IsPage f g.low) (high : IsPage f g.high) where
+  abbrev bare : World
+  bare = without_guard g w
+
+  abbrev minded : World
+  minded = minds g.high (minds g.low bare)
+
+  only : OnlyHints bare minded
+  only = all_only_hints (g.low ∷ g.high ∷ []) bare
+
+  one_guards : (lowers g w).guards ≡ without g.low w.guards
+  one_guards = same_guards (minds g.low bare) minded (minds_keep g.high (minds g.low bare)) ∙ same_guards bare (minds g.low bare) (minds_keep g.low bare)
+
+  within : (page : ℕ) → has_number (g.low ∷ g.high ∷ []) page ≡ true → IsPage f page
+  within page h = elim (or_cases (g.low == page) ((g.high == page) || false) h) [
+    | inl is ↦ subst (IsPage f) (eqb-true g.low page is) low
+    | inr more ↦ subst (IsPage f) (eqb-true g.high page (no_other (g.high == page) more)) high
+  ]
+    where
+      no_other : (x : Bool) → (x || false) ≡ true → x ≡ true
+      no_other true h = refl
+      no_other false h = h
+
+  one_returns : Returns f (g.low ∷ g.high ∷ []) w (lowers g w)
+  one_returns = returns_like f (g.low ∷ g.high ∷ []) w minded (lowers g w) (minded_last f (g.low ∷ g.high ∷ []) w bare within (λ page. refl) (λ page b small h. h) (λ page b of none small. refl) refl) refl refl refl refl
+
+  lowered_then : (downs : List Guard) (v : World) → AreLowered f downs (lowers g w) v → AreLowered f (g ∷ downs) w v
+  lowered_then downs v more = record {
+    events = more.events ∙ only.events;
+    records = more.records ∙ ap (λ (rs : List Record). said_onto downs (lowered_line g ∷ rs)) only.records;
+    live = more.live ∙ only.live;
+    caches = more.caches ∙ only.caches;
+    names = more.names ∙ only.names;
+    epoch = more.epoch ∙ only.epoch;
+    read = more.read ∙ only.read;
+    guards = more.guards ∙ ap (without_all downs) one_guards;
+    returns = returns_then f (g.low ∷ g.high ∷ []) (outer_pages downs) w (lowers g w) v one_returns more.returns;
+  }
+
+pub all_lowered : (f : Profile) (downs : List Guard) (w : World) → AreOfRegion f downs → AreLowered f downs w (each lowers downs w)
+all_lowered f [] w of = record { events = refl; records = refl; live = refl; caches = refl; names = refl; epoch = refl; read = refl; guards = refl; returns = returns_nothing f w }
+all_lowered f (g ∷ downs) w of = lowered_then f g w of.0 of.1 downs (each lowers downs (lowers g w)) (all_lowered f downs (lowers g w) of.2)
+
+-- ---- records
+pub said_reversed : (downs : List Guard) (rs ws : List Record) → rs ≡ reverse ws → rs ++ map lowered_line downs ≡ reverse (said_onto downs ws)
+said_reversed [] rs ws is = nothing_more rs ∙ is
+  where
+    nothing_more : (xs : List Record) → xs ++ [] ≡ xs
+    nothing_more [] = refl
+    nothing_more (x ∷ xs) = ap (λ (ys : List Record). x ∷ ys) (nothing_more xs)
+said_reversed (g ∷ downs) rs ws is =
+    sym (append_assoc rs (lowered_line g ∷ []) (map lowered_line downs)) ∙ said_reversed downs (rs ++ lowered_line g ∷ []) (lowered_line g ∷ ws) (records_next rs ws (lowered_line g) is)
+
+-- ---- no page becomes guarded
+fewer_at : (p : Guard → Bool) (g : Guard) (fs gs : List Guard) (t : Bool) → (list_any p fs ≡ true → list_any p gs ≡ true) → list_any p (if t then g ∷ fs else fs) ≡ true → (p g || list_any p gs) ≡ true
+fewer_at p g fs gs true more h = elim (or_cases (p g) (list_any p fs) h) [ inl here ↦ or_left (p g) (list_any p gs) here | inr later ↦ or_right (p g) (list_any p gs) (more later) ]
+fewer_at p g fs gs false more h = or_right (p g) (list_any p gs) (more h)
+
+fewer_any : (p q : Guard → Bool) (gs : List Guard) → list_any p (filter q gs) ≡ true → list_any p gs ≡ true
+fewer_any p q [] h = h
+fewer_any p q (g ∷ gs) h = fewer_at p g (filter q gs) gs (q g) (fewer_any p q gs) h
+
+less_guarded : (downs gs : List Guard) (page : ℕ) → list_any (has_outer page) (without_all downs gs) ≡ true → list_any (has_outer page) gs ≡ true
+less_guarded [] gs page h = h
+less_guarded (g ∷ downs) gs page h = fewer_any (has_outer page) (λ x. not (x.low == g.low)) gs (less_guarded downs (without g.low gs) page h)
+
+pub lowered_unguarded : (f : Profile) (downs : List Guard) (w v : World) (page : ℕ) → AreLowered f downs w v → is_guarded w page ≡ false → is_guarded v page ≡ false
+lowered_unguarded f downs w v page lowered none = false_from_ne_true (is_guarded v page) (λ h.
+    false≢true (sym none ∙ less_guarded downs w.guards page (ap (λ (gs : List Guard). list_any (has_outer page) gs) (sym lowered.guards) ∙ h)))
+
+-- ---- the guards of each keeper that are left
+-- two tests one after the other
+swapped_at : (p q : Guard → Bool) (g : Guard) (gs : List Guard) (s t : Bool) → p g ≡ s → q g ≡ t → filter p (filter q gs) ≡ filter q (filter p gs) → filter p (if t then g ∷ filter q gs else filter q gs) ≡ filter q (if s then g ∷ filter p gs else filter p gs)
+swapped_at p q g gs true true e u rest = ap (λ (b : Bool). if b then g ∷ filter p (filter q gs) else filter p (filter q gs)) e ∙ (ap (λ (xs : List Guard). g ∷ xs) rest ∙ sym (ap (λ (b : Bool). if b then g ∷ filter q (filter p gs) else filter q (filter p gs)) u))
+swapped_at p q g gs true false e u rest = rest ∙ sym (ap (λ (b : Bool). if b then g ∷ filter q (filter p gs) else filter q (filter p gs)) u)
+swapped_at p q g gs false true e u rest = ap (λ (b : Bool). if b then g ∷ filter p (filter q gs) else filter p (filter q gs)) e ∙ rest
+swapped_at p q g gs false false e u rest = rest
+
+swapped : (p q : Guard → Bool) (gs : List Guard) → filter p (filter q gs) ≡ filter q (filter p gs)
+swapped p q [] = refl
+swapped p q (g ∷ gs) = swapped_at p q g gs (p g) (q g) refl refl (swapped p q gs)
+
+swapped_all : (p : Guard → Bool) (downs gs : List Guard) → filter p (without_all downs gs) ≡ without_all downs (filter p gs)
+swapped_all p [] gs = refl
+swapped_all p (g ∷ downs) gs = swapped_all p downs (without g.low gs) ∙ ap (without_all downs) (swapped p (λ x. not (x.low == g.low)) gs)
+
+-- those of which the page is no outer one stay
+none_lost : (k low : ℕ) (gs : List BookGuard) → is_outer gs low ≡ false → without low (map (told_guard k) gs) ≡ map (told_guard k) gs
+none_lost k low [] none = refl
+none_lost k low (g ∷ gs) none = at (g.low == low) (g.high == low) (is_outer gs low) none (none_lost k low gs)
+  where
+    at : (x y r : Bool) → ((x || y) || r) ≡ false → (r ≡ false → without low (map (told_guard k) gs) ≡ map (told_guard k) gs)
+        → (if not x then told_guard k g ∷ without low (map (told_guard k) gs) else without low (map (told_guard k) gs)) ≡ told_guard k g ∷ map (told_guard k) gs
+    at true y r none rest = absurd (true≢false none)
+    at false true r none rest = absurd (true≢false none)
+    at false false r none rest = ap (λ (xs : List Guard). told_guard k g ∷ xs) (rest none)
+
+-- lows of other keepers' guards take none out
+pub others_stay : (k keeper : ℕ) (fallen gs : List BookGuard) → ((low : ℕ) → is_outer fallen low ≡ true → is_outer gs low ≡ false) → without_all (map (told_guard keeper) fallen) (map (told_guard k) gs) ≡ map (told_guard k) gs
+others_stay k keeper [] gs none = refl
+others_stay k keeper (g ∷ fallen) gs none =
+    ap (without_all (map (told_guard keeper) fallen)) (none_lost k g.low gs (none g.low (or_left (is_outer_of g g.low) (is_outer fallen g.low) (or_left (g.low == g.low) (g.high == g.low) (eq-eqb g.low g.low refl)))))
+    ∙ others_stay k keeper fallen gs (λ low h. none low (or_right (is_outer_of g low) (is_outer fallen low) h))
+
+-- ---- of the keeper itself: those are left that don't pass the test
+-- an outer page of some of them is one of all
+some_at : (g : BookGuard) (fs gs : List BookGuard) (page : ℕ) (s : Bool) → (is_outer fs page ≡ true → is_outer gs page ≡ true) → is_outer (if s then g ∷ fs else fs) page ≡ true → (is_outer_of g page || is_outer gs page) ≡ true
+some_at g fs gs page true more h = elim (or_cases (is_outer_of g page) (is_outer fs page) h) [ inl here ↦ or_left (is_outer_of g page) (is_outer gs page) here | inr later ↦ or_right (is_outer_of g page) (is_outer gs page) (more later) ]
+some_at g fs gs page false more h = or_right (is_outer_of g page) (is_outer gs page) (more h)
+
+pub some_outer : (t : BookGuard → Bool) (gs : List BookGuard) (page : ℕ) → is_outer (filter t gs) page ≡ true → is_outer gs page ≡ true
+some_outer t [] page h = h
+some_outer t (g ∷ gs) page h = some_at g (filter t gs) gs page (t g) (some_outer t gs page) h
+
+not_some : (t : BookGuard → Bool) (gs : List BookGuard) (page : ℕ) → is_outer gs page ≡ false → is_outer (filter t gs) page ≡ false
+not_some t gs page none = false_from_ne_true (is_outer (filter t gs) page) (λ h. false≢true (sym none ∙ some_outer t gs page h))
+
+-- an outer page of the first is none of the others
+first_apart : (g : BookGuard) (gs : List BookGuard) (page : ℕ) → AreApart (g ∷ gs) → is_outer_of g page ≡ true → is_outer gs page ≡ false
+first_apart g gs page apart h = elim (or_cases (g.low == page) (g.high == page) h) [
+  | inl low ↦ ap (is_outer gs) (sym (eqb-true g.low page low)) ∙ apart.0
+  | inr high ↦ ap (is_outer gs) (sym (eqb-true g.high page high)) ∙ apart.1
+]
+
+split_at : (t : BookGuard → Bool) (g : BookGuard) (gs : List BookGuard) (page : ℕ) (s : Bool) → AreApart (g ∷ gs) → (is_outer (filter t gs) page ≡ true → is_outer (filter (λ x. not (t x)) gs) page ≡ false) → is_outer (if s then g ∷ filter t gs else filter t gs) page ≡ true
+    → is_outer (if not s then g ∷ filter (λ x. not (t x)) gs else filter (λ x. not (t x)) gs) page ≡ false
+split_at t g gs page true apart more h = elim (or_cases (is_outer_of g page) (is_outer (filter t gs) page) h) [
+  | inl here ↦ not_some (λ x. not (t x)) gs page (first_apart g gs page apart here)
+  | inr later ↦ more later
+]
+split_at t g gs page false apart more h = false_from_ne_true (is_outer_of g page || is_outer (filter (λ x. not (t x)) gs) page) (λ both. elim (or_cases (is_outer_of g page) (is_outer (filter (λ x. not (t x)) gs) page) both) [
+  | inl here ↦ false≢true (sym (first_apart g gs page apart here) ∙ some_outer t gs page h)
+  | inr later ↦ false≢true (sym (more h) ∙ later)
+])
+
+pub apart_split : (t : BookGuard → Bool) (gs : List BookGuard) (page : ℕ) → AreApart gs → is_outer (filter t gs) page ≡ true → is_outer (filter (λ g. not (t g)) gs) page ≡ false
+apart_split t [] page apart h = absurd (false≢true h)
+apart_split t (g ∷ gs) page apart h = split_at t g gs page (t g) apart (apart_split t gs page apart.2) h
+
+-- a guard whose low page is none of theirs stays before them
+turned : (a b : ℕ) → (a == b) ≡ false → (b == a) ≡ false
+turned a b none = false_from_ne_true (b == a) (λ h. false≢true (sym none ∙ eq-eqb a b (sym (eqb-true b a h))))
+
+none_first : (g : BookGuard) (page : ℕ) (rest : Bool) → (is_outer_of g page || rest) ≡ false → ((g.low == page) ≡ false) × (rest ≡ false)
+none_first g page rest none = by_test (g.low == page) (g.high == page) rest none
+  where
+    by_test : (x y r : Bool) → ((x || y) || r) ≡ false → (x ≡ false) × (r ≡ false)
+    by_test true y r h = absurd (true≢false h)
+    by_test false true r h = absurd (true≢false h)
+    by_test false false r h = (refl, h)
+
+first_stays : (k keeper : ℕ) (g : BookGuard) (fallen : List BookGuard) (gs : List Guard) → is_outer fallen g.low ≡ false → without_all (map (told_guard keeper) fallen) (told_guard k g ∷ gs) ≡ told_guard k g ∷ without_all (map (told_guard keeper) fallen) gs
+first_stays k keeper g [] gs none = refl
+first_stays k keeper g (d ∷ fallen) gs none =
+    let both = none_first d g.low (is_outer fallen g.low) none in
+    ap (λ (t : Bool). without_all (map (told_guard keeper) fallen) (if not t then told_guard k g ∷ without d.low gs else without d.low gs)) (turned d.low g.low both.0)
+    ∙ first_stays k keeper g fallen (without d.low gs) both.1
+
+own_at : (k : ℕ) (t : BookGuard → Bool) (g : BookGuard) (gs : List BookGuard) (s : Bool) → AreApart (g ∷ gs) → without_all (map (told_guard k) (filter t gs)) (map (told_guard k) gs) ≡ map (told_guard k) (filter (λ x. not (t x)) gs)
+    → without_all (map (told_guard k) (if s then g ∷ filter t gs else filter t gs)) (told_guard k g ∷ map (told_guard k) gs) ≡ map (told_guard k) (if not s then g ∷ filter (λ x. not (t x)) gs else filter (λ x. not (t x)) gs)
+own_at k t g gs true apart rest =
+    ap (λ (b : Bool). without_all (map (told_guard k) (filter t gs)) (if not b then told_guard k g ∷ without g.low (map (told_guard k) gs) else without g.low (map (told_guard k) gs))) (eq-eqb g.low g.low refl)
+    ∙ (ap (without_all (map (told_guard k) (filter t gs))) (none_lost k g.low gs apart.0) ∙ rest)
+own_at k t g gs false apart rest = first_stays k k g (filter t gs) (map (told_guard k) gs) (not_some t gs g.low apart.0) ∙ ap (λ (xs : List Guard). told_guard k g ∷ xs) rest
+
+pub own_left : (k : ℕ) (t : BookGuard → Bool) (gs : List BookGuard) → AreApart gs → without_all (map (told_guard k) (filter t gs)) (map (told_guard k) gs) ≡ map (told_guard k) (filter (λ g. not (t g)) gs)
+own_left k t [] apart = refl
+own_left k t (g ∷ gs) apart = own_at k t g gs (t g) apart (own_left k t gs apart.2)
+
+-- ---- of all keepers, where these guards of one are lowered
+pub left_of : (books : ℕ → List BookGuard) (keeper k : ℕ) (fallen : List BookGuard) (gs : List Guard) → filter (λ g. g.keeper == k) gs ≡ map (told_guard k) (books k)
+    → filter (λ g. g.keeper == k) (without_all (map (told_guard keeper) fallen) gs) ≡ without_all (map (told_guard keeper) fallen) (map (told_guard k) (books k))
+left_of books keeper k fallen gs is = swapped_all (λ g. g.keeper == k) (map (told_guard keeper) fallen) gs ∙ ap (without_all (map (told_guard keeper) fallen)) is
+
+-- ---- the outer pages, as numbers
+pub outer_number : (k : ℕ) (gs : List BookGuard) (page : ℕ) → is_outer gs page ≡ true → has_number (outer_pages (map (told_guard k) gs)) page ≡ true
+outer_number k [] page h = h
+outer_number k (g ∷ gs) page h = elim (or_cases (is_outer_of g page) (is_outer gs page) h) [
+  | inl here ↦ elim (or_cases (g.low == page) (g.high == page) here) [
+    | inl low ↦ or_left (g.low == page) ((g.high == page) || has_number (outer_pages (map (told_guard k) gs)) page) low
+    | inr high ↦ or_right (g.low == page) ((g.high == page) || has_number (outer_pages (map (told_guard k) gs)) page) (or_left (g.high == page) (has_number (outer_pages (map (told_guard k) gs)) page) high)
+  ]
+  | inr later ↦ or_right (g.low == page) ((g.high == page) || has_number (outer_pages (map (told_guard k) gs)) page) (or_right (g.high == page) (has_number (outer_pages (map (told_guard k) gs)) page) (outer_number k gs page later))
+]

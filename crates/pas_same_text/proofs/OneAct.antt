@@ -1,0 +1,150 @@
+-- ONE ACT keeps the text, by all that is known of it.
+use Rattle.std.proofs.Common.{◌≡◌, ℕ, ◌≤◌, Bool, if◌then◌else◌, List, Option, None, Some, inl, inr, refl, sym, subst}
+use Rattle.pas_profile.specs.Profiles.{IsAdmitted}
+use Rattle.pas_profile.specs.Requests.{route_in}
+use Rattle.pas_profile.specs.declared.directory.Route.{Route}
+use Rattle.pas_profile.specs.declared.name.Block.{Block}
+use Rattle.pas_profile.specs.declared.profile.Profile.{Profile}
+use Rattle.pas_steps.specs.Lists.{part}
+use Rattle.pas_large.specs.Doors.{Indexes}
+use Rattle.pas_trace.specs.Acts.{Act}
+use Rattle.pas_trace.specs.declared.item.Request.{Request}
+use Rattle.pas_trace.specs.EveryPlan.{IsThread}
+use Rattle.pas_trace.specs.declared.plan.What.{What}
+use Rattle.pas_answers.specs.Answers.{Progress, Named, Answer, having, standing_for, request_for, IsServed, IsRemadeBy, after_answer}
+use Rattle.pas_answers.specs.Calls.{block_behind}
+use Rattle.pas_answers.specs.Indexes.{unless_suited, request_made, IsNamedBy}
+use Rattle.pas_one_text.specs.State.{World}
+use Rattle.pas_one_text.specs.Order.{keeps_block, replaces, remakes, acts_on}
+use Rattle.pas_same_text.specs.Same.{IsSame}
+use Rattle.pas_same_text.specs.Acts.{IsBetween, HandsOnOwn}
+use Rattle.pas_same_text.specs.Known.{IsKnown, KeepsSame}
+use Rattle.pas_same_text.specs.Seats.{IsActOf}
+use Rattle.pas_same_text.specs.Requests.{IsAsked, AnswersSame, RequestStaysSame}
+use Rattle.pas_same_text.proofs.BackActs.{flush_act, stop_act, end_act, idle_act, raw_act, raw_sized_act, free_act, free_sized_act, remakes_idly}
+use Rattle.pas_same_text.proofs.BitfitRequests.{bitfit_answered}
+use Rattle.pas_same_text.proofs.ClassRequests.{class_answered}
+use Rattle.pas_same_text.proofs.GuardActs.{guards_keep}
+use Rattle.pas_same_text.proofs.LowerActs.{lower_act}
+use Rattle.pas_same_text.proofs.PagesRequests.{pages_answered, named_large}
+use Rattle.pas_same_text.proofs.PassActs.{pass_same}
+use Rattle.pas_same_text.proofs.Replaced.{replaced_same}
+use Rattle.pas_same_text.proofs.SameIndexes.{indexes_kept}
+use Rattle.pas_same_text.proofs.Seats.{thread_of, keeper_of}
+use Rattle.pas_same_text.proofs.SmallActs.{phase_same, close_same, wake_same, reading_same, tick_same, settling_same}
+
+-- ---- a request, by its route
+by_route : (f : Profile) (k : ℕ) (r : Request) (p : Progress) (a : Answer) (w : World) (route : Route) → route_in f r.size r.align ≡ route → IsAsked f k r p a w → AnswersSame f k r p a w
+by_route f k r p a w (Route.Class class) e asked =
+    class_answered f k r.name r.heap r.size r.align class p (after_answer p k a) w asked.thread asked.admitted e asked.valid asked.before asked.after asked.same a asked.served refl
+by_route f k r p a w Route.Bitfit e asked =
+    bitfit_answered f k r.name r.heap r.size r.align p (after_answer p k a) w asked.thread asked.admitted e asked.valid asked.before asked.after asked.same a asked.served refl
+by_route f k r p a w Route.Large e asked =
+    pages_answered f k r.name r.heap r.size r.align p (after_answer p k a) w asked.thread asked.admitted e asked.valid asked.before asked.after asked.same a asked.served refl (named_large f r w.indexes a.found e asked.named)
+
+pub request_same : (f : Profile) (k : ℕ) (r : Request) → RequestStaysSame f k r
+request_same f k r p a w asked = by_route f k r p a w (route_in f r.size r.align) refl asked
+
+-- ---- an operation, whose act is known of
+module _ (threads : ℕ) (f : Profile) (line k : ℕ) (what : What) (p p' : Progress) (w : World) (indexes : Indexes) (known : IsKnown threads f (Act.Operates (record { line = line; actor = k; what = what })) p p' w indexes) where
+  thread : IsThread f k
+  thread = thread_of threads f k known.planned.0 known.seated.few
+
+  abbrev a : Answer
+  a = known.taken.advances.0
+
+  reached : p' ≡ after_answer p k a
+  reached = known.taken.advances.2
+
+  after : IsBetween f (after_answer p k a)
+  after = subst (IsBetween f) reached known.taken.after
+
+  named_in_text : (r : Request) (found : Option ℕ) → IsNamedBy f indexes (Some r) found → IsNamedBy f w.indexes (Some r) found
+  named_in_text r found named = subst (λ (ix : Indexes). IsNamedBy f ix (Some r) found) (sym known.indexes_are) named
+
+  -- one that is a request
+  asked : (r : Request) → IsAdmitted f r.size r.align r.heap → IsServed f k r (having p.names (part k p.list) (p.caches k)) a → IsNamedBy f indexes (Some r) a.found → AnswersSame f k r p a w
+  asked r admitted served named = request_same f k r p a w record {
+    valid = known.taken.valid;
+    thread = thread;
+    admitted = admitted;
+    before = known.taken.before;
+    after = after;
+    same = known.taken.same;
+    served = served;
+    named = named_in_text r a.found named;
+  }
+
+  -- a reallocation. A block that is replaced is of some heap of the region
+  remade : (name old heap size align : ℕ) (meant : Option (Option Block)) → IsAdmitted f size align heap → IsRemadeBy f k name size align meant (having p.names (part k p.list) (p.caches k)) a
+      → IsNamedBy f indexes (request_made (What.Remake name old heap size align) (block_behind meant)) a.found → IsSame f p' (remakes f k name size align meant w)
+  remade name old heap size align None admitted is named = absurd is
+  remade name old heap size align (Some None) admitted is named = remakes_idly f k name size align (Some None) p p' w a tt known.taken.same reached is
+  remade name old heap size align (Some (Some block)) admitted (inl kept) named = remakes_idly f k name size align (Some (Some block)) p p' w a kept.suited known.taken.same reached (inl kept)
+  remade name old heap size align (Some (Some block)) admitted (inr moved) named =
+      let r : Request = request_for block name size align in
+      let own : IsAdmitted f size align block.heap = record { within = admitted.within; aligned = admitted.aligned; of_profile = moved.of_region } in
+      let found : IsNamedBy f indexes (Some r) moved.placed.found =
+      subst (λ (o : Option ℕ). IsNamedBy f indexes (Some r) o) moved.found_is (subst (λ (t : Bool). IsNamedBy f indexes (unless_suited t r) a.found) moved.unsuited named) in
+      subst (λ (q : Progress). IsSame f q (remakes f k name size align (Some (Some block)) w)) (sym reached)
+      (subst (λ (t : Bool). IsSame f (after_answer p k a) (if t then keeps_block k name block w else replaces f k name block size align w)) (sym moved.unsuited)
+      (replaced_same f k r block p a w refl known.taken.valid thread own known.taken.before after known.taken.same known.usable moved (named_in_text r moved.placed.found found) (request_same f k r)))
+
+-- the state that it comes to is that of the replay
+abbrev LeavesSame : ℕ → Profile → Act → Type 0
+LeavesSame threads f act = (p p' : Progress) (w : World) (indexes : Indexes) → IsKnown threads f act p p' w indexes → IsSame f p' (acts_on f act w)
+
+operation_same : (threads : ℕ) (f : Profile) (line k : ℕ) (what : What) → LeavesSame threads f (Act.Operates (record { line = line; actor = k; what = what }))
+operation_same threads f line k (What.Alloc name heap size align) p p' w indexes known =
+    subst (λ (q : Progress). IsSame f q (acts_on f (Act.Operates (record { line = line; actor = k; what = What.Alloc name heap size align })) w)) (sym known.taken.advances.2)
+    (asked threads f line k (What.Alloc name heap size align) p p' w indexes known (record { name = name; heap = heap; size = size; align = align }) known.planned.1 known.taken.advances.1 known.named)
+operation_same threads f line k (What.Guarded keeper name heap size align) p p' w indexes known =
+    subst (λ (q : Progress). IsSame f q (acts_on f (Act.Operates (record { line = line; actor = k; what = What.Guarded keeper name heap size align })) w)) (sym known.taken.advances.2)
+    (asked threads f line k (What.Guarded keeper name heap size align) p p' w indexes known (record { name = name; heap = heap; size = size; align = align }) known.planned.1 known.taken.advances.1 known.named)
+operation_same threads f line k (What.Free name) p p' w indexes known = free_act f line k name (thread_of threads f k known.planned.0 known.seated.few) p p' w known.usable known.taken
+operation_same threads f line k (What.FreeSized name room) p p' w indexes known = free_sized_act f line k name room (thread_of threads f k known.planned.0 known.seated.few) p p' w known.usable known.taken
+operation_same threads f line k (What.Raw block) p p' w indexes known = raw_act f line k block (thread_of threads f k known.planned.0 known.seated.few) p p' w known.usable known.taken
+operation_same threads f line k (What.RawSized room block) p p' w indexes known = raw_sized_act f line k room block (thread_of threads f k known.planned.0 known.seated.few) p p' w known.usable known.taken
+operation_same threads f line k (What.Remake name old heap size align) p p' w indexes known =
+    subst (λ (ns : List Named). IsSame f p' (remakes f k name size align (standing_for ns old) w)) (sym known.taken.same.names)
+    (remade threads f line k (What.Remake name old heap size align) p p' w indexes known name old heap size align (standing_for p.names old) known.planned.1 known.taken.advances.1 known.named)
+operation_same threads f line k What.Flush p p' w indexes known = flush_act f line k (thread_of threads f k known.planned.0 known.seated.few) p p' w known.usable known.taken
+operation_same threads f line k What.Stop p p' w indexes known = stop_act f line k (thread_of threads f k known.planned.0 known.seated.few) p p' w known.usable known.taken
+operation_same threads f line k (What.Tick e) p p' w indexes known = absurd known.taken.advances.1
+operation_same threads f line k What.Pass p p' w indexes known = absurd known.taken.advances.1
+operation_same threads f line k (What.Idle n) p p' w indexes known = absurd known.taken.advances.1
+
+-- ---- AN ACT that is no guarded request
+abbrev IsOwn : Act → Type 0
+IsOwn (Act.Guards keeper op) = ⊥
+IsOwn act = Unit {0}
+
+own_same : (threads : ℕ) (f : Profile) (act : Act) → IsOwn act → LeavesSame threads f act
+own_same threads f (Act.Operates op) own p p' w indexes known = operation_same threads f op.line op.actor op.what p p' w indexes known
+own_same threads f (Act.Guards keeper op) own p p' w indexes known = absurd own
+own_same threads f (Act.Settles k) own p p' w indexes known = settling_same f k (thread_of threads f k known.planned.0 known.seated.few) p p' w known.taken
+own_same threads f (Act.Ticks epoch) own p p' w indexes known = tick_same f epoch p p' w known.taken
+own_same threads f Act.MakesPass own p p' w indexes known = pass_same f p p' w known.stamped known.taken
+own_same threads f Act.ReadsEpoch own p p' w indexes known = reading_same f p p' w known.taken
+own_same threads f (Act.StopsIdle k n) own p p' w indexes known = idle_act f k n (thread_of threads f k known.planned.0 known.seated.few) p p' w known.usable known.taken
+own_same threads f (Act.MarksPhase n) own p p' w indexes known = phase_same f n p p' w known.taken
+own_same threads f (Act.Wakes k) own p p' w indexes known = wake_same f k (thread_of threads f k known.planned.0 known.seated.few) p p' w known.taken
+own_same threads f Act.MarksClose own p p' w indexes known = close_same f p p' w known.taken
+own_same threads f (Act.Ends k) own p p' w indexes known = end_act f k (thread_of threads f k known.planned.0 known.seated.few) p p' w known.usable known.taken
+own_same threads f (Act.Lowers keeper) own p p' w indexes known = lower_act f keeper (keeper_of threads f keeper known.planned.0) p p' w known.taken
+
+hands_on_own : (threads : ℕ) (f : Profile) (act : Act) → IsOwn act → IsActOf threads f act → threads ≤ f.threads → HandsOnOwn f act
+hands_on_own threads f (Act.Settles k) own is few = thread_of threads f k is few
+hands_on_own threads f (Act.Guards keeper op) own is few = own
+hands_on_own threads f act own is few = tt
+
+own_kept : (threads : ℕ) (f : Profile) (act : Act) → IsOwn act → KeepsSame threads f act
+own_kept threads f act own p p' w indexes known = record {
+  same = own_same threads f act own p p' w indexes known;
+  indexes_are = indexes_kept f act p p' w indexes (hands_on_own threads f act own known.planned.0 known.seated.few) known.taken known.indexes_are;
+}
+
+-- ---- AN ACT
+pub act_same : (threads : ℕ) (f : Profile) (act : Act) → KeepsSame threads f act
+act_same threads f (Act.Guards keeper op) = guards_keep threads f keeper op
+act_same threads f act = own_kept threads f act tt

@@ -1,0 +1,320 @@
+-- A REQUEST FOR WHOLE PAGES: by the run that the heap's index named, where it is whole, or else by the lowest usable one; or it is refused, and changes no page.
+use Rattle.std.proofs.Common.{◌≡◌, ℕ, ◌*◌, ◌/◌, ◌≤◌, true, List, ◌∷◌, ◌++◌, Option, None, Some, Result, Ok, Err, ◌⊎◌, inl, inr, refl, ap, sym, ◌∙◌, subst, arith, append_assoc}
+use Rattle.std.proofs.lemmas.Bool.{true≢false}
+use Rattle.pas_profile.specs.Blocks.{address_of}
+use Rattle.pas_profile.specs.Profiles.{IsValid, IsAdmitted, IsDirectoryOf}
+use Rattle.pas_profile.specs.Requests.{route_in, room_in, is_shared, kind_of_route, directory_for}
+use Rattle.pas_profile.specs.declared.directory.Directory.{Directory}
+use Rattle.pas_profile.specs.declared.directory.Route.{Route}
+use Rattle.pas_profile.specs.declared.event.NoRoom.{NoRoom}
+use Rattle.pas_profile.specs.declared.name.Block.{Block}
+use Rattle.pas_profile.specs.declared.profile.Profile.{Profile}
+use Rattle.pas_steps.specs.Agreement.{Agreed}
+use Rattle.pas_steps.specs.Calls.{nothing, Does}
+use Rattle.pas_steps.specs.Desks.{triples}
+use Rattle.pas_steps.specs.Kinds.{Kinds, Only, kind_of, place_of, is_in, apart, showing, looking}
+use Rattle.pas_steps.specs.Lists.{Whole, part, Legal}
+use Rattle.pas_steps.specs.Past.{Always}
+use Rattle.pas_steps.specs.Views.{View}
+use Rattle.pas_steps.specs.declared.step.Made.{Made}
+use Rattle.pas_steps.proofs.Adding.{triples_append}
+use Rattle.pas_steps.proofs.Apart.{in_apart, no_event, only_both, only_within}
+use Rattle.pas_steps.proofs.Calls.{still_clear}
+use Rattle.pas_steps.proofs.Parts.{part_of_own}
+use Rattle.pas_steps.proofs.Past.{always_both, always_map}
+use Rattle.pas_core.proofs.Nexts.{agreed_steps}
+use Rattle.pas_core.proofs.OneActor.{legal_earlier}
+use Rattle.pas_search.specs.Kinds.{AreSearch, AreQuiet, IsQuiet, ReturnsDuly, searching}
+use Rattle.pas_search.proofs.Returns.{duly_both, duly_none}
+use Rattle.pas_large.specs.Allocates.{IsAllocatedLarge, IsAllocatedNamed, IsServedNamed, IsScanned}
+use Rattle.pas_large.specs.Alone.{GoesByDoor}
+use Rattle.pas_large.specs.Doors.{Indexes, found_in}
+use Rattle.pas_large.specs.Finds.{MayFind, finding}
+use Rattle.pas_large.specs.Pages.{claiming_old}
+use Rattle.pas_large.specs.Telling.{IsLowestRun, IsNamedWhole}
+use Rattle.pas_large.proofs.Allocates.{holds_whole, scans_only}
+use Rattle.pas_large.proofs.Alone.{goes_by_door, refused_alone}
+use Rattle.pas_large.proofs.Pages.{rise_none, knew_before}
+use Rattle.pas_cache.specs.Contents.{Cached}
+use Rattle.pas_cache.specs.Serves.{ServesPages, ServesBy, wanted_for}
+use Rattle.pas_cache.proofs.Routes.{large_size, pages_asked, may_find}
+use Rattle.pas_report.specs.declared.record.Said.{Said as TheSaid}
+use Rattle.pas_trace.specs.Acts.{Act}
+use Rattle.pas_trace.specs.EveryPlan.{IsThread}
+use Rattle.pas_trace.specs.declared.item.Request.{Request}
+use Rattle.pas_trace.specs.declared.plan.What.TheVariants.{Alloc}
+use Rattle.pas_answers.specs.Answers.{Progress, Named, named, Answer, having, IsServed, after_answer, said_of_request}
+use Rattle.pas_answers.specs.Answers.{block_of as block_answered}
+use Rattle.pas_answers.specs.Indexes.{IsNamedBy, ActIsNamedBy}
+use Rattle.pas_cache.specs.Calls.{IsNamed}
+use Rattle.pas_one_text.specs.State.{World}
+use Rattle.pas_one_text.specs.Indexes.{loses_named}
+use Rattle.pas_one_text.specs.Searches.{refusal, refuses}
+use Rattle.pas_one_text.specs.Runs.{large_of, named_run, lowest_run, run_or, serves_run, gives_pages}
+use Rattle.pas_one_text.specs.Order.{serves, acts_on}
+use Rattle.pas_same_text.specs.Same.{IsSame, HasSame}
+use Rattle.pas_same_text.specs.Acts.{IsBetween, IsTaken}
+use Rattle.pas_same_text.proofs.LoggedFrees.{after_with}
+use Rattle.pas_same_text.proofs.RefusedRequests.{refused_to, refused_same}
+use Rattle.pas_same_text.proofs.RunGiven.{GaveRun, given_to, run_given}
+use Rattle.pas_same_text.proofs.RunsFound.{DeedsInRun, lowest_alone, deeds_in_run}
+use Rattle.pas_same_text.proofs.RunsSame.{lowest_found, none_lowest, named_whole, whole_named}
+
+-- ---- the indexes are no part of what is the same
+pub loses_same : (f : Profile) (p : Progress) (w : World) (heap n : ℕ) → IsSame f p w → IsSame f p (loses_named heap n w)
+loses_same f p w heap n same = record {
+  pages = record { events = same.pages.events; live = same.pages.live; hinted = same.pages.hinted; offered = same.pages.offered };
+  caches = same.caches;
+  guards = same.guards;
+  names = same.names;
+  records = same.records;
+  epoch = same.epoch;
+  read = same.read;
+}
+
+-- ---- what was tried leaves the actor as it was
+find_again : (f : Profile) (d : Directory) (v : View) (xs : List Made) → MayFind d v → Agreed f v xs → Does nothing v (xs ++ v) → MayFind d (xs ++ v)
+find_again f d v xs met agreed does = record { lacks = λ p knows. does.right p ∙ met.lacks p (knew_before f d p xs v agreed knows); clear = still_clear does met.clear }
+
+-- ---- steps of kinds without an event
+quiet_by : (ks : Kinds) → apart ks showing ≡ true → (steps : List Made) → Only ks steps → AreQuiet steps
+quiet_by ks out steps = always_map (λ m before. is_in ks (kind_of m.step) ≡ true) (λ m before. IsQuiet m) steps (λ m before is k epoch. no_event k epoch m.step m.answer (in_apart ks showing (place_of (kind_of m.step)) out is))
+
+-- ---- a run that was given
+-- steps that make no deed
+no_deeds : (d : Directory) (first n : ℕ) (steps : List Made) → Only claiming_old steps → DeedsInRun d first n steps
+no_deeds d first n steps = always_map (λ m before. is_in claiming_old (kind_of m.step) ≡ true) _ steps (λ m before is page e same zero. absurd (true≢false (sym is ∙ ap (λ s. is_in claiming_old (kind_of s)) same)))
+
+module _ (f : Profile) (k : ℕ) (l : Whole) (d : Directory) (n : ℕ) (found : Option ℕ) (tried rest : List Made) (block : Block) (of : IsDirectoryOf f d) (old : Only claiming_old tried) (returns : Always ReturnsDuly tried) (legal : Legal f (triples k (rest ++ tried) ++ l)) (met : MayFind d (part k l)) where
+  named_gave : (is : IsAllocatedNamed f d n found tried rest block) → GaveRun f d is.first n tried rest block
+  named_gave is = record {
+    kinds = only_within claiming_old finding tried refl old;
+    returns = returns;
+    deeds_in = no_deeds d is.first n tried old;
+    rise = rise_none claiming_old tried refl old;
+    pages = is.holds_it.got;
+    backs = is.backs;
+    back_kinds = is.back_kinds;
+    back_order = is.back_order;
+    word = is.word;
+    answer = is.answer;
+    block_is = is.block_is;
+    left = is.left;
+    left_kinds = is.left_kinds;
+    left_order = is.left_order;
+    after_is = is.after_is;
+    gave = is.gave;
+  }
+
+  module _ (searched after : List Made) (kinds : Only finding searched) (due : Always ReturnsDuly searched) (rest_is : rest ≡ after ++ searched) (is : IsAllocatedLarge f d n (searched ++ tried) after block) where
+    abbrev xs : List Made
+    xs = searched ++ tried
+
+    whole_steps : rest ++ tried ≡ after ++ xs
+    whole_steps = ap (λ (ms : List Made). ms ++ tried) rest_is ∙ append_assoc after searched tried
+
+    legal_got : Legal f (triples k xs ++ l)
+    legal_got = legal_earlier f k after xs l (subst (λ (ms : List Made). Legal f (triples k ms ++ l)) whole_steps legal)
+
+    got_kinds : Only finding xs
+    got_kinds = only_both finding searched tried kinds (only_within claiming_old finding tried refl old)
+
+    got_due : Always ReturnsDuly xs
+    got_due = duly_both searched tried due returns
+
+    scanned_lowest : IsLowestRun f d n l is.first
+    scanned_lowest = lowest_alone f k l d n of met xs legal_got got_kinds got_due is.first is.found
+
+    scanned_gave : GaveRun f d is.first n xs after block
+    scanned_gave = record {
+      kinds = got_kinds;
+      returns = got_due;
+      deeds_in = deeds_in_run f k l d n of met xs legal_got got_kinds got_due is.first is.found;
+      rise = is.found.rise;
+      pages = is.found.got;
+      backs = is.backs;
+      back_kinds = is.back_kinds;
+      back_order = is.back_order;
+      word = is.word;
+      answer = is.answer;
+      block_is = is.block_is;
+      left = is.left;
+      left_kinds = is.left_kinds;
+      left_order = is.left_order;
+      after_is = is.after_is;
+      gave = is.gave;
+    }
+
+-- ---- THE REQUEST
+module _ (f : Profile) (k name heap size align : ℕ) (p p' : Progress) (w : World) (thread : IsThread f k) (admitted : IsAdmitted f size align heap) (route : route_in f size align ≡ Route.Large) (valid : IsValid f) (before : IsBetween f p) (after : IsBetween f p') (same : IsSame f p w)
+    (a : Answer) (served : IsServed f k (record { name = name; heap = heap; size = size; align = align }) (having p.names (part k p.list) (p.caches k)) a) (reached : p' ≡ after_answer p k a) (named_is : a.found ≡ found_in w.indexes heap (room_in f size align / 4096)) where
+  abbrev c : Cached
+  c = p.caches k
+
+  abbrev l : Whole
+  l = p.list
+
+  abbrev d : Directory
+  d = large_of heap
+
+  abbrev n : ℕ
+  n = room_in f size align / 4096
+
+  abbrev u : World
+  u = loses_named heap n w
+
+  home : directory_for f heap size align ≡ d
+  home = ap (λ (r : Route). let e : Directory = record { heap = heap; kind = kind_of_route (is_shared f heap) r } in e) route
+
+  of : IsDirectoryOf f d
+  of = record { heap = admitted.of_profile; kind = tt; class = tt }
+
+  some : 1 ≤ n
+  some = let more = large_size f.classes size align route in let asked = pages_asked f size align route in omega (arith, more, asked)
+
+  may : MayFind d (part k l)
+  may = may_find f (part k l) heap c.locals served.rest.locals
+
+  same_u : IsSame f p u
+  same_u = loses_same f p w heap n same
+
+  old : HasSame f p w
+  old = record { events = same.pages.events; live = same.pages.live; caches = same.caches; guards = same.guards }
+
+  text_by : (o : Option ℕ) → run_or (named_run w heap n) (lowest_run f w heap n) ≡ o → serves f k name heap (route_in f size align) (room_in f size align) align w ≡ serves_run f k name heap n o u
+  text_by o is = ap (λ (r : Route). serves f k name heap r (room_in f size align) align w) route ∙ ap (λ (x : Option ℕ). serves_run f k name heap n x u) is
+
+  -- ---- the steps
+  by_own : (answer : Result Block NoRoom) → served.answer ≡ answer → ServesBy (route_in f size align) f (wanted_for f heap size align) a.found c a.cache a.steps answer
+  by_own answer is = subst (λ (r : Result Block NoRoom). ServesBy (route_in f size align) f (wanted_for f heap size align) a.found c a.cache a.steps r) is served.serves
+
+  by_pages : (answer : Result Block NoRoom) → served.answer ≡ answer → ServesPages f (wanted_for f heap size align) a.found c a.cache a.steps answer
+  by_pages answer is = subst (λ (r : Route). ServesBy r f (wanted_for f heap size align) a.found c a.cache a.steps answer) route (by_own answer is)
+
+  abbrev Outcome : List Made → List Made → Result Block NoRoom → Type 0
+  Outcome tried rest answer = IsServedNamed f d n a.found tried rest answer ⊎ IsScanned f d n a.found tried rest answer
+
+  module _ (answer : Result Block NoRoom) (is : served.answer ≡ answer) where
+    abbrev pages : ServesPages f (wanted_for f heap size align) a.found c a.cache a.steps answer
+    pages = by_pages answer is
+
+    outcome : Outcome pages.tried pages.rest answer
+    outcome = subst (λ (e : Directory). IsServedNamed f e n a.found pages.tried pages.rest answer ⊎ IsScanned f e n a.found pages.tried pages.rest answer) home pages.outcome
+
+    -- the replay after them, by what is said and what the name stands for
+    abbrev reached_with : Progress
+    reached_with = after_with p k (pages.rest ++ pages.tried) (said_of_request name answer) (named name (block_answered answer) ∷ p.names) c
+
+    to : p' ≡ reached_with
+    to =
+        let said : a.said ≡ said_of_request name answer = served.said_is ∙ ap (said_of_request name) is in
+        let names : a.names ≡ named name (block_answered answer) ∷ p.names = served.names_are ∙ ap (λ (r : Result Block NoRoom). named name (block_answered r) ∷ p.names) is in
+        reached
+        ∙ (ap (λ (x : Option TheSaid). after_with p k a.steps x a.names a.cache) said
+        ∙ (ap (λ (ns : List Named). after_with p k a.steps (said_of_request name answer) ns a.cache) names
+        ∙ (ap (λ (x : Cached). after_with p k a.steps (said_of_request name answer) (named name (block_answered answer) ∷ p.names) x) pages.cache
+        ∙ ap (λ (ms : List Made). after_with p k ms (said_of_request name answer) (named name (block_answered answer) ∷ p.names) c) pages.steps_are)))
+
+    there : IsBetween f reached_with
+    there = subst (IsBetween f) to after
+
+    -- the run that was named serves where it was whole
+    by_door : GoesByDoor f d n a.found l (pages.rest ++ pages.tried) answer
+    by_door = goes_by_door f k l d n a.found pages.tried pages.rest valid of.kind pages.old pages.returns there.legal may answer outcome
+
+  -- ---- served
+  served_same : (block : Block) (is : served.answer ≡ Ok block) (first : ℕ) (got after : List Made) → (by_pages (Ok block) is).rest ++ (by_pages (Ok block) is).tried ≡ after ++ got → GaveRun f d first n got after block → run_or (named_run w heap n) (lowest_run f w heap n) ≡ Some first
+      → IsSame f p' (serves f k name heap (route_in f size align) (room_in f size align) align w)
+  served_same block is first got rest steps run chosen =
+      let all : p' ≡ given_to p k name (rest ++ got) block = to (Ok block) is ∙ ap (λ (ms : List Made). given_to p k name ms block) steps in
+      subst (λ (x : World). IsSame f p' x) (sym (text_by (Some first) chosen))
+      (subst (λ (q : Progress). IsSame f q (gives_pages k name heap first n u)) (sym all)
+      (run_given f k name heap first n p u got rest block valid thread of some before served.rest same_u (subst (IsBetween f) all after) run))
+
+  run_named : (first : ℕ) → IsNamedWhole f d n l a.found first → named_run w heap n ≡ Some first
+  run_named first whole = whole_named f p w valid before same.pages old heap of n first (subst (λ (o : Option ℕ). IsNamedWhole f d n l o first) named_is whole)
+
+  named_served : (block : Block) (is : served.answer ≡ Ok block) → IsServedNamed f d n a.found (by_pages (Ok block) is).tried (by_pages (Ok block) is).rest (Ok block) → IsSame f p' (serves f k name heap (route_in f size align) (room_in f size align) align w)
+  named_served block is by =
+      let pages = by_pages (Ok block) is in
+      let one : by.0 ≡ block = let e = by.1 in cc in
+      let alloc : IsAllocatedNamed f d n a.found pages.tried pages.rest block = subst (λ (b : Block). IsAllocatedNamed f d n a.found pages.tried pages.rest b) one by.2 in
+      let legal : Legal f (triples k (pages.rest ++ pages.tried) ++ l) = (there (Ok block) is).legal in
+      let legal_tried : Legal f (triples k pages.tried ++ l) = legal_earlier f k pages.rest pages.tried l legal in
+      let whole : IsNamedWhole f d n l a.found alloc.first =
+      holds_whole f k l d n alloc.first a.found pages.tried valid of.kind may legal_tried pages.old pages.returns (alloc.holds_it.got.from (part k l) may (agreed_steps f k l pages.tried valid legal_tried)) alloc.holds_it in
+      served_same block is alloc.first pages.tried pages.rest refl (named_gave f k l d n a.found pages.tried pages.rest block of pages.old pages.returns legal may alloc)
+      (ap (λ (o : Option ℕ). run_or o (lowest_run f w heap n)) (run_named alloc.first whole))
+
+  -- where another run was found, the one that was named wasn't whole
+  chosen_by : (block : Block) (is : served.answer ≡ Ok block) (first : ℕ) → address_of block.name ≡ first * 4096 → IsLowestRun f d n l first → (o : Option ℕ) → named_run w heap n ≡ o → run_or (named_run w heap n) (lowest_run f w heap n) ≡ Some first
+  chosen_by block is first at lowest None none = ap (λ (o : Option ℕ). run_or o (lowest_run f w heap n)) none ∙ lowest_found f p w valid before same.pages old heap of n first some lowest
+  chosen_by block is first at lowest (Some x) named =
+      let whole : IsNamedWhole f d n l a.found x = subst (λ (o : Option ℕ). IsNamedWhole f d n l o x) (sym named_is) (named_whole f p w valid before same.pages old heap of n x some named) in
+      let takes = (by_door (Ok block) is).served x whole in
+      let there_too : address_of block.name ≡ x * 4096 = ap address_in takes.1 ∙ takes.2 in
+      let one : x ≡ first = omega (arith, at, there_too) in
+      ap (λ (o : Option ℕ). run_or o (lowest_run f w heap n)) named ∙ ap (λ (y : ℕ). Some y) one
+    where
+      address_in : Result Block NoRoom → ℕ
+      address_in (Ok b) = address_of b.name
+      address_in (Err why) = 0
+
+  scanned_served : (block : Block) (is : served.answer ≡ Ok block) → IsScanned f d n a.found (by_pages (Ok block) is).tried (by_pages (Ok block) is).rest (Ok block) → IsSame f p' (serves f k name heap (route_in f size align) (room_in f size align) align w)
+  scanned_served block is by =
+      let pages = by_pages (Ok block) is in
+      let legal : Legal f (triples k (pages.rest ++ pages.tried) ++ l) = (there (Ok block) is).legal in
+      let run = scanned_gave f k l d n a.found pages.tried pages.rest block of pages.old pages.returns legal may by.searched by.after by.kinds by.returns by.rest_is by.outcome in
+      let lowest = scanned_lowest f k l d n a.found pages.tried pages.rest block of pages.old pages.returns legal may by.searched by.after by.kinds by.returns by.rest_is by.outcome in
+      served_same block is by.outcome.first (by.searched ++ pages.tried) by.after (ap (λ (ms : List Made). ms ++ pages.tried) by.rest_is ∙ append_assoc by.after by.searched pages.tried) run
+      (chosen_by block is by.outcome.first (ap (λ (b : Block). address_of b.name) by.outcome.block_is) lowest (named_run w heap n) refl)
+
+  -- ---- refused
+  no_named : (room : NoRoom) (is : served.answer ≡ Err room) → (o : Option ℕ) → named_run w heap n ≡ o → o ≡ None
+  no_named room is None named = refl
+  no_named room is (Some x) named =
+      let whole : IsNamedWhole f d n l a.found x = subst (λ (o : Option ℕ). IsNamedWhole f d n l o x) (sym named_is) (named_whole f p w valid before same.pages old heap of n x some named) in
+      let takes = (by_door (Err room) is).served x whole in
+      absurd (let bad : Err room ≡ Ok takes.0 = takes.1 in cc)
+
+  refused_by : (room : NoRoom) (is : served.answer ≡ Err room) → IsScanned f d n a.found (by_pages (Err room) is).tried (by_pages (Err room) is).rest (Err room) → IsSame f p' (serves f k name heap (route_in f size align) (room_in f size align) align w)
+  refused_by room is by =
+      let pages = by_pages (Err room) is in
+      let steps : List Made = pages.rest ++ pages.tried in
+      let now : IsBetween f (refused_to p k name steps room) = there (Err room) is in
+      let told = refused_alone f k l d n a.found pages.tried pages.rest valid of.kind pages.old pages.returns now.legal may room (inr by) in
+      let mid : Whole = triples k pages.tried ++ l in
+      let legal_tried : Legal f mid = legal_earlier f k pages.rest pages.tried l now.legal in
+      let legal_searched : Legal f (triples k by.searched ++ mid) =
+      legal_earlier f k by.after by.searched mid (subst (λ (ms : List Made). Legal f (triples k ms ++ mid)) by.rest_is (subst (Legal f) (sym (triples_append k pages.rest pages.tried l)) now.legal)) in
+      let again : MayFind d (part k mid) = subst (MayFind d) (sym (part_of_own k pages.tried l)) (find_again f d (part k l) pages.tried may (agreed_steps f k l pages.tried valid legal_tried) (by.misses.still.from (part k l) may (agreed_steps f k l pages.tried valid legal_tried))) in
+      let looked : Only looking pages.rest = subst (Only looking) (sym by.rest_is) (only_both looking by.after by.searched (scans_only by.after by.own.scans) (by.looked room refl k mid legal_searched again)) in
+      let searches : AreSearch steps = record {
+        kinds = only_both searching pages.rest pages.tried (only_within looking searching pages.rest refl looked) (only_within claiming_old searching pages.tried refl pages.old);
+        returns = duly_both pages.rest pages.tried (duly_none looking pages.rest refl refl looked) pages.returns;
+      } in
+      let quiet : AreQuiet steps = always_both (λ m before. IsQuiet m) (λ m before. IsQuiet m) pages.rest pages.tried (λ m before h. h) (quiet_by looking refl pages.rest looked) (quiet_by claiming_old refl pages.tried pages.old) in
+      let none : run_or (named_run w heap n) (lowest_run f w heap n) ≡ None =
+      ap (λ (o : Option ℕ). run_or o (lowest_run f w heap n)) (no_named room is (named_run w heap n) refl) ∙ none_lowest f p w valid before same.pages old heap of n told.before in
+      subst (λ (x : World). IsSame f p' x) (sym (text_by None none))
+      (subst (λ (q : Progress). IsSame f q (refuses k name (refusal f u d) u)) (sym (to (Err room) is)) (refused_same f k name p u d steps room valid thread of before now same_u searches quiet told.reason))
+
+  -- ---- any
+  answered : (answer : Result Block NoRoom) → served.answer ≡ answer → IsSame f p' (serves f k name heap (route_in f size align) (room_in f size align) align w)
+  answered (Ok block) is = elim (outcome (Ok block) is) [ inl by ↦ named_served block is by | inr by ↦ scanned_served block is by ]
+  answered (Err room) is = elim (outcome (Err room) is) [ inl by ↦ absurd (let bad : Err room ≡ Ok by.0 = by.1 in cc) | inr by ↦ refused_by room is by ]
+
+  pub pages_answered : IsSame f p' (serves f k name heap (route_in f size align) (room_in f size align) align w)
+  pages_answered = answered served.answer refl
+
+-- ---- THE ACT
+-- what indexes name for such a request
+pub named_large : (f : Profile) (r : Request) (indexes : Indexes) (found : Option ℕ) → route_in f r.size r.align ≡ Route.Large → IsNamedBy f indexes (Some r) found → found ≡ found_in indexes r.heap (room_in f r.size r.align / 4096)
+named_large f r indexes found route named = subst (λ (way : Route). IsNamed way (λ o. o ≡ found_in indexes r.heap (room_in f r.size r.align / 4096)) (Unit {0}) found) route named
+
+pub pages_same : (f : Profile) (line k name heap size align : ℕ) (indexes : Indexes) → IsThread f k → IsAdmitted f size align heap → route_in f size align ≡ Route.Large
+    → (p p' : Progress) (w : World) → w.indexes ≡ indexes → (taken : IsTaken f (Act.Operates (record { line = line; actor = k; what = Alloc name heap size align })) p p' w)
+    → ActIsNamedBy f indexes (Act.Operates (record { line = line; actor = k; what = Alloc name heap size align })) p p' taken.advances → IsSame f p' (acts_on f (Act.Operates (record { line = line; actor = k; what = Alloc name heap size align })) w)
+pages_same f line k name heap size align indexes thread admitted route p p' w are taken named =
+    pages_answered f k name heap size align p p' w thread admitted route taken.valid taken.before taken.after taken.same taken.advances.0 taken.advances.1 taken.advances.2
+    (named_large f (record { name = name; heap = heap; size = size; align = align }) indexes taken.advances.0.found route named ∙ ap (λ (ix : Indexes). found_in ix heap (room_in f size align / 4096)) (sym are))

@@ -1,0 +1,212 @@
+-- A PASS IN THE TEXT: each page has the outcome that it had when the pass began, and what comes of all of them.
+use Rattle.std.proofs.Common.{◌≡◌, ℕ, zero, suc, ◌+◌, ◌*◌, ◌^◌, ◌≤◌, ◌==◌, nat_lt, Bool, true, false, not, if◌then◌else◌, List, [], ◌∷◌, ◌++◌, map, reverse, append_assoc, append-nil, Option, None, Some, inl, inr, refl, ap, sym, ◌∙◌, subst, arith}
+use Rattle.std.proofs.lemmas.Bool.{true≢false, false≢true, or_cases, or_left, or_right, eq-eqb, eqb-true, ne_eqb, not_from_false}
+use Rattle.std.proofs.lemmas.Grind.{reverse_onto}
+use Rattle.std.proofs.lemmas.List.Concat.{flat_map-append}
+use Rattle.std.specs.List.{find, filter, list_any}
+use Rattle.pas_profile.specs.declared.event.Event.{Event}
+use Rattle.pas_profile.specs.declared.event.Outcome.{Outcome}
+use Rattle.pas_profile.specs.declared.profile.Profile.{Profile}
+use Rattle.pas_machine.specs.State.{backed_in, epoch_in}
+use Rattle.pas_scavenger.specs.Pages.{unback_of}
+use Rattle.pas_scavenger.specs.Passes.{unbacks_in}
+use Rattle.pas_passes.specs.Records.{record_of}
+use Rattle.pas_report.specs.declared.record.Record.{Record}
+use Rattle.pas_report.specs.declared.record.Said.{Said}
+use Rattle.pas_trace.specs.Acts.{numbers_from}
+use Rattle.pas_one_text.specs.State.{Cache, World, each, says}
+use Rattle.pas_one_text.specs.Pages.{page_numbers, is_free, are_free, is_kept, is_hinted}
+use Rattle.pas_one_text.specs.Passes.{used_word, free_bits, outcome_backed, outcome_of, comes_to, examines, passes}
+use Rattle.pas_same_text.specs.Same.{has_number, lives_in}
+use Rattle.pas_same_text.proofs.CacheLists.{all_locals}
+use Rattle.pas_same_text.proofs.GivenBack.{each_same, free_kept}
+use Rattle.pas_same_text.proofs.PassOutcomes.{pair, stays_hinted}
+use Rattle.pas_same_text.proofs.Tests.{filtered_has, has_filtered}
+
+-- ---- what the outcome of a page rests on
+bits_same : (w v : World) (page word : ℕ) → ((b : ℕ) → is_free v page b ≡ is_free w page b) → (n : ℕ) → free_bits v page word n ≡ free_bits w page word n
+unfolding free_bits
+bits_same w v page word same zero = refl
+bits_same w v page word same (suc n) =
+    ap (λ (x : ℕ). x + (if is_free v page (64 * word + n) then 2 ^ n else 0)) (bits_same w v page word same n)
+    ∙ ap (λ (t : Bool). free_bits w page word n + (if t then 2 ^ n else 0)) (same (64 * word + n))
+
+find_same : (test other : ℕ → Bool) (xs : List ℕ) → ((x : ℕ) → test x ≡ other x) → find test xs ≡ find other xs
+find_same test other [] agree = refl
+find_same test other (x ∷ xs) agree =
+    ap (λ (t : Bool). if t then Some x else find test xs) (agree x) ∙ ap (λ (o : Option ℕ). if other x then Some x else o) (find_same test other xs agree)
+
+record JudgesSame (page : ℕ) (w v : World) : Type 0 where
+  backed : backed_in v.events page ≡ backed_in w.events page
+  ended : epoch_in v.events page ≡ epoch_in w.events page
+  live : v.live ≡ w.live
+  caches : v.caches ≡ w.caches
+  epoch : v.epoch ≡ w.epoch
+
+module _ (f : Profile) (page : ℕ) (w v : World) (s : JudgesSame page w v) where
+  free_same : (b : ℕ) → is_free v page b ≡ is_free w page b
+  free_same b = free_kept w v page b s.live (ap all_locals s.caches)
+
+  used_same : used_word v page ≡ used_word w page
+  used_same = find_same (λ word. not (are_free v page (64 * word) 64)) (λ word. not (are_free w page (64 * word) 64)) (0 ∷ 1 ∷ 2 ∷ 3 ∷ [])
+      (λ word. ap not (each_same 64 (64 * word) (is_free v page) (is_free w page) (λ b low high. free_same b)))
+
+  kept_same : is_kept v page ≡ is_kept w page
+  kept_same = ap (λ (cs : List Cache). list_any (λ l. l.keeps) (filter (λ l. l.page == page) (all_locals cs))) s.caches
+
+  backed_same : (o : Option ℕ) → outcome_backed f v page o ≡ outcome_backed f w page o
+  backed_same (Some word) = ap (λ (n : ℕ). Outcome.InUse word n) (bits_same w v page word free_same 64)
+  backed_same None =
+      ap (λ (t : Bool). if t then Outcome.NotOffered else (if nat_lt v.epoch (epoch_in v.events page + f.age) then Outcome.Young (epoch_in v.events page) else Outcome.Unbacked)) kept_same
+      ∙ (ap (λ (e : ℕ). if is_kept w page then Outcome.NotOffered else (if nat_lt e (epoch_in v.events page + f.age) then Outcome.Young (epoch_in v.events page) else Outcome.Unbacked)) s.epoch
+      ∙ ap (λ (x : ℕ). if is_kept w page then Outcome.NotOffered else (if nat_lt w.epoch (x + f.age) then Outcome.Young x else Outcome.Unbacked)) s.ended)
+
+  outcome_same : outcome_of f v page ≡ outcome_of f w page
+  outcome_same =
+      ap (λ (t : Bool). if t then outcome_backed f v page (used_word v page) else Outcome.Bare) s.backed
+      ∙ (ap (λ (o : Option ℕ). if backed_in w.events page then outcome_backed f v page o else Outcome.Bare) used_same
+      ∙ ap (λ (out : Outcome). if backed_in w.events page then out else Outcome.Bare) (backed_same (used_word w page)))
+
+-- ---- a page comes to an outcome
+come_events : (page : ℕ) (o : Outcome) (w : World) → (comes_to page o w).events ≡ unback_of 0 w.epoch page o ++ w.events
+come_events page Outcome.Unbacked w = refl
+come_events page o w = refl
+
+come_records : (page : ℕ) (o : Outcome) (w : World) → (comes_to page o w).records ≡ record_of 0 w.epoch page o ∷ w.records
+come_records page Outcome.Unbacked w = refl
+come_records page o w = refl
+
+come_hinted : (page : ℕ) (o : Outcome) (w : World) → (comes_to page o w).hinted ≡ (if stays_hinted o then w.hinted else filter (λ p. not (p == page)) w.hinted)
+come_hinted page Outcome.Unbacked w = refl
+come_hinted page o w = refl
+
+come_backed : (page : ℕ) (o : Outcome) (w : World) (q : ℕ) → (page ≡ q → stays_hinted o ≡ true) → backed_in (comes_to page o w).events q ≡ backed_in w.events q
+come_backed page Outcome.Unbacked w q stays = ap (λ (t : Bool). if t then false else backed_in w.events q) (ne_eqb page q (λ e. false≢true (stays e)))
+come_backed page o w q stays = refl
+
+-- what else a state has
+pub record HasLeft (w v : World) : Type 0 where
+  pub live : v.live ≡ w.live
+  pub lives : lives_in v.events ≡ lives_in w.events
+  pub names : v.names ≡ w.names
+  pub caches : v.caches ≡ w.caches
+  pub guards : v.guards ≡ w.guards
+  pub epoch : v.epoch ≡ w.epoch
+  pub read : v.read ≡ w.read
+
+come_left : (page : ℕ) (o : Outcome) (w : World) → HasLeft w (comes_to page o w)
+come_left page Outcome.Unbacked w = record { live = refl; lives = refl; names = refl; caches = refl; guards = refl; epoch = refl; read = refl }
+come_left page o w = record { live = refl; lives = refl; names = refl; caches = refl; guards = refl; epoch = refl; read = refl }
+
+-- other pages are judged as before
+come_judges : (page : ℕ) (o : Outcome) (w : World) (q : ℕ) → (page ≡ q → ⊥) → JudgesSame q w (comes_to page o w)
+come_judges page Outcome.Unbacked w q ne = record { backed = come_backed page Outcome.Unbacked w q (λ e. absurd (ne e)); ended = refl; live = refl; caches = refl; epoch = refl }
+come_judges page o w q ne = record { backed = refl; ended = refl; live = refl; caches = refl; epoch = refl }
+
+-- ---- hints: the page loses its own where its outcome ends it
+hint_was : (page : ℕ) (stays : Bool) (hinted : List ℕ) (q : ℕ) → has_number (if stays then hinted else filter (λ p. not (p == page)) hinted) q ≡ true → has_number hinted q ≡ true
+hint_was page true hinted q h = h
+hint_was page false hinted q h = (filtered_has (λ p. not (p == page)) hinted q h).1
+
+hint_so : (page : ℕ) (stays : Bool) (hinted : List ℕ) → has_number (if stays then hinted else filter (λ p. not (p == page)) hinted) page ≡ true → stays ≡ true
+hint_so page true hinted h = refl
+hint_so page false hinted h = absurd (true≢false (sym (filtered_has (λ p. not (p == page)) hinted page h).0 ∙ ap not (eq-eqb page page refl)))
+
+hint_still : (page : ℕ) (stays : Bool) (hinted : List ℕ) (q : ℕ) → has_number hinted q ≡ true → (page ≡ q → stays ≡ true) → has_number (if stays then hinted else filter (λ p. not (p == page)) hinted) q ≡ true
+hint_still page true hinted q h so = h
+hint_still page false hinted q h so = has_filtered (λ p. not (p == page)) hinted q (not_from_false (q == page) (ne_eqb q page (λ e. false≢true (so (sym e))))) h
+
+-- ==== PAGES COME to these outcomes, one after the other
+pub record HasCome (out : ℕ → Outcome) (pages : List ℕ) (w v : World) : Type 0 where
+  pub events : v.events ≡ unbacks_in 0 w.epoch (reverse (map (λ q. pair q (out q)) pages)) ++ w.events
+  pub records : v.records ≡ reverse (map (λ q. record_of 0 w.epoch q (out q)) pages) ++ w.records
+  pub left : HasLeft w v
+  pub backed : (q : ℕ) → stays_hinted (out q) ≡ true → backed_in v.events q ≡ backed_in w.events q
+  pub hinted_was : (q : ℕ) → is_hinted v q ≡ true → is_hinted w q ≡ true
+  pub hinted_so : (q : ℕ) → has_number pages q ≡ true → is_hinted v q ≡ true → stays_hinted (out q) ≡ true
+  pub hinted_still : (q : ℕ) → is_hinted w q ≡ true → (has_number pages q ≡ true → stays_hinted (out q) ≡ true) → is_hinted v q ≡ true
+
+last_unback : (epoch page : ℕ) (o : Outcome) (pairs : List (ℕ × Outcome)) (es : List Event) → unbacks_in 0 epoch (reverse pairs) ++ (unback_of 0 epoch page o ++ es) ≡ unbacks_in 0 epoch (reverse (pair page o ∷ pairs)) ++ es
+last_unback epoch page o pairs es =
+    sym (append_assoc (unbacks_in 0 epoch (reverse pairs)) (unback_of 0 epoch page o) es)
+    ∙ ap (λ (xs : List Event). xs ++ es)
+    (ap (λ (xs : List Event). unbacks_in 0 epoch (reverse pairs) ++ xs) (sym (append-nil (unback_of 0 epoch page o)))
+    ∙ (sym (flat_map-append (λ (x : ℕ × Outcome). unback_of 0 epoch x.0 x.1) (reverse pairs) (pair page o ∷ [])) ∙ ap (unbacks_in 0 epoch) (sym (reverse_onto pairs (pair page o) []))))
+
+last_record : (r : Record) (rs ws : List Record) → reverse rs ++ (r ∷ ws) ≡ reverse (r ∷ rs) ++ ws
+last_record r rs ws = sym (append_assoc (reverse rs) (r ∷ []) ws) ∙ ap (λ (xs : List Record). xs ++ ws) (sym (reverse_onto rs r []))
+
+all_come : (out : ℕ → Outcome) (pages : List ℕ) (w : World) → HasCome out pages w (each (λ q. comes_to q (out q)) pages w)
+all_come out [] w = record {
+  events = refl;
+  records = refl;
+  left = record { live = refl; lives = refl; names = refl; caches = refl; guards = refl; epoch = refl; read = refl };
+  backed = λ q stays. refl;
+  hinted_was = λ q h. h;
+  hinted_so = λ q there h. absurd (false≢true there);
+  hinted_still = λ q h so. h;
+}
+all_come out (page ∷ pages) w =
+    let x : World = comes_to page (out page) w in
+    let v : World = each (λ q. comes_to q (out q)) pages x in
+    let r : HasCome out pages x v = all_come out pages x in
+    let a : HasLeft w x = come_left page (out page) w in
+    let hints : x.hinted ≡ (if stays_hinted (out page) then w.hinted else filter (λ p. not (p == page)) w.hinted) = come_hinted page (out page) w in
+    record {
+      events = r.events
+          ∙ (ap (λ (e : ℕ). unbacks_in 0 e (reverse (map (λ q. pair q (out q)) pages)) ++ x.events) a.epoch
+          ∙ (ap (λ (es : List Event). unbacks_in 0 w.epoch (reverse (map (λ q. pair q (out q)) pages)) ++ es) (come_events page (out page) w)
+          ∙ last_unback w.epoch page (out page) (map (λ q. pair q (out q)) pages) w.events));
+      records = r.records
+          ∙ (ap (λ (e : ℕ). reverse (map (λ q. record_of 0 e q (out q)) pages) ++ x.records) a.epoch
+          ∙ (ap (λ (rs : List Record). reverse (map (λ q. record_of 0 w.epoch q (out q)) pages) ++ rs) (come_records page (out page) w)
+          ∙ last_record (record_of 0 w.epoch page (out page)) (map (λ q. record_of 0 w.epoch q (out q)) pages) w.records));
+      left = record {
+        live = r.left.live ∙ a.live;
+        lives = r.left.lives ∙ a.lives;
+        names = r.left.names ∙ a.names;
+        caches = r.left.caches ∙ a.caches;
+        guards = r.left.guards ∙ a.guards;
+        epoch = r.left.epoch ∙ a.epoch;
+        read = r.left.read ∙ a.read;
+      };
+      backed = λ q stays. r.backed q stays ∙ come_backed page (out page) w q (λ e. ap (λ (y : ℕ). stays_hinted (out y)) e ∙ stays);
+      hinted_was = λ q h. hint_was page (stays_hinted (out page)) w.hinted q (sym (ap (λ (hs : List ℕ). has_number hs q) hints) ∙ r.hinted_was q h);
+      hinted_so = λ q there h. elim (or_cases (page == q) (has_number pages q) there) [
+        | inl same ↦
+            let e : page ≡ q = eqb-true page q same in
+            let now : has_number x.hinted page ≡ true = ap (has_number x.hinted) e ∙ r.hinted_was q h in
+            ap (λ (y : ℕ). stays_hinted (out y)) (sym e) ∙ hint_so page (stays_hinted (out page)) w.hinted (sym (ap (λ (hs : List ℕ). has_number hs page) hints) ∙ now)
+        | inr later ↦ r.hinted_so q later h
+      ];
+      hinted_still = λ q h so. r.hinted_still q
+          (ap (λ (hs : List ℕ). has_number hs q) hints ∙ hint_still page (stays_hinted (out page)) w.hinted q h (λ e. ap (λ (y : ℕ). stays_hinted (out y)) e ∙ so (or_left (page == q) (has_number pages q) (eq-eqb page q e))))
+          (λ later. so (or_right (page == q) (has_number pages q) later));
+    }
+
+-- ==== each page has the outcome that it had before the first of them
+module _ (f : Profile) (w : World) (test : ℕ → Bool) where
+  abbrev out : ℕ → Outcome
+  out q = outcome_of f w q
+
+  one_examined : (v : World) (k : ℕ) (xs : List ℕ) (t : Bool) → outcome_of f v k ≡ out k
+      → each (examines f) xs (comes_to k (out k) v) ≡ each (λ q. comes_to q (out q)) xs (comes_to k (out k) v) → each (examines f) xs v ≡ each (λ q. comes_to q (out q)) xs v
+      → each (examines f) (if t then k ∷ xs else xs) v ≡ each (λ q. comes_to q (out q)) (if t then k ∷ xs else xs) v
+  one_examined v k xs true agree after before = ap (λ (o : Outcome). each (examines f) xs (comes_to k o v)) agree ∙ after
+  one_examined v k xs false agree after before = before
+
+  all_examined : (n k : ℕ) (v : World) → ((q : ℕ) → k ≤ q → outcome_of f v q ≡ out q) → each (examines f) (filter test (numbers_from k n)) v ≡ each (λ q. comes_to q (out q)) (filter test (numbers_from k n)) v
+  all_examined zero k v agree = refl
+  all_examined (suc n) k v agree =
+      let x : World = comes_to k (out k) v in
+      one_examined v k (filter test (numbers_from (k + 1) n)) (test k) (agree k (omega arith))
+      (all_examined n (k + 1) x (λ q low. outcome_same f q v x (come_judges k (out k) v q (λ e. absurd (omega (arith, e, low)))) ∙ agree q (omega (arith, low))))
+      (all_examined n (k + 1) v (λ q low. agree q (omega (arith, low))))
+
+-- A PASS
+pub pass_comes : (f : Profile) (w : World) → HasCome (outcome_of f w) (filter (is_hinted w) (page_numbers f)) (says (Record.Said 0 (Said.Pass w.epoch)) w) (passes f w)
+pass_comes f w =
+    let v : World = says (Record.Said 0 (Said.Pass w.epoch)) w in
+    subst (HasCome (outcome_of f w) (filter (is_hinted w) (page_numbers f)) v)
+    (sym (all_examined f w (is_hinted w) f.pages 1 v (λ q low. outcome_same f q w v (record { backed = refl; ended = refl; live = refl; caches = refl; epoch = refl }))))
+    (all_come (outcome_of f w) (filter (is_hinted w) (page_numbers f)) v)

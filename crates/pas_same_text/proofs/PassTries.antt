@@ -1,0 +1,267 @@
+-- WHAT COMES OF A PAGE THAT IS TRIED: its outcome is that of the text, and where that ends its hint, it has none afterwards.
+use Rattle.std.proofs.Common.{◌≡◌, ◌≢◌, ℕ, ◌+◌, ◌/◌, ◌%◌, ◌<◌, ◌≤◌, Bool, true, false, if◌then◌else◌, List, [], ◌∷◌, ◌++◌, Option, None, Some, inl, inr, refl, ap, sym, ◌∙◌, subst, arith}
+use Rattle.std.proofs.lemmas.Bool.{true≢false, false≢true, eq-eqb, false_from_ne_true}
+use Rattle.pas_bits.specs.Bits.{has_bit}
+use Rattle.pas_bits.specs.declared.mask.Mask4.{Mask4}
+use Rattle.pas_bits.proofs.PageVectors.{page_bit-clear}
+use Rattle.pas_profile.specs.Directories.{number_of}
+use Rattle.pas_profile.specs.Profiles.{IsValid, IsPage}
+use Rattle.pas_profile.specs.declared.directory.Directory.{Directory}
+use Rattle.pas_profile.specs.declared.event.Outcome.{Outcome}
+use Rattle.pas_profile.specs.declared.profile.Profile.{Profile}
+use Rattle.pas_profile.specs.declared.word.Word.TheVariants as Word
+use Rattle.pas_steps.specs.Desks.{made, triple, triples}
+use Rattle.pas_steps.specs.Effects.{target}
+use Rattle.pas_steps.specs.Kinds.{Kinds, kind_of, place_of, is_in, apart, looking, returning, Only, LookStamp, Taking, Putting, Offering, Hinting, Unbacking, Unhinting}
+use Rattle.pas_steps.specs.Lists.{Whole, word_after, Legal}
+use Rattle.pas_steps.specs.Past.{Once, Always}
+use Rattle.pas_steps.specs.Views.{all_ones}
+use Rattle.pas_steps.specs.declared.step.Made.{Made}
+use Rattle.pas_steps.specs.declared.step.Step.{Step}
+use Rattle.pas_steps.specs.declared.step.Step.TheVariants.{Look, Offer, Hint, Unback, Unhint}
+use Rattle.pas_steps.proofs.Adding.{triples_append}
+use Rattle.pas_steps.proofs.Apart.{in_apart, only_both, only_within}
+use Rattle.pas_steps.proofs.Calls.{returns_are}
+use Rattle.pas_core.specs.Hints.{IsEmptyBacked}
+use Rattle.pas_core.specs.Rights.{empty_bit, eligible_bit}
+use Rattle.pas_core.proofs.OneActor.{legal_earlier}
+use Rattle.pas_core.proofs.Rights.{hinted_page}
+use Rattle.pas_rights.specs.Looks.{looks, looks_until, ReadsBacked, HintsEmpty}
+use Rattle.pas_rights.specs.Words.{ones}
+use Rattle.pas_rights.specs.declared.reading.Used.{Used}
+use Rattle.pas_rights.proofs.Hints.{leave_due}
+use Rattle.pas_rights.proofs.Orders.{leave_returns, return_returns}
+use Rattle.pas_rights.proofs.Puts.{puts_kinds}
+use Rattle.pas_scavenger.specs.Judgements.{used_at, Judged}
+use Rattle.pas_scavenger.specs.Pages.{first_looks, EndsWithout, EndsWith, ExamineSteps}
+use Rattle.pas_scavenger.specs.Passes.{TrySteps}
+use Rattle.pas_scavenger.specs.Puttings.{BackSteps}
+use Rattle.pas_scavenger.specs.Readings.{takes_until}
+use Rattle.pas_scavenger.proofs.Examinations.{takes_are, taken_on}
+use Rattle.pas_answers.specs.Answers.{Progress}
+use Rattle.pas_one_text.specs.State.{World}
+use Rattle.pas_one_text.specs.Passes.{outcome_of}
+use Rattle.pas_same_text.specs.Same.{IsSame}
+use Rattle.pas_same_text.specs.Acts.{IsBetween, AreEndsStamped}
+use Rattle.pas_same_text.proofs.GivingBack.{HintsPage, OffersPage, WasRead, backed_stays, hinted_by, hint_read, hints_both, hints_none, hints_of, once_parts}
+use Rattle.pas_same_text.proofs.PassOutcomes.{WasOffered, stays_hinted, bare_outcome, used_outcome, kept_outcome, young_outcome, old_outcome, empty_backed}
+use Rattle.pas_same_text.proofs.PassReadings.{looked_word, frees_stay, stamps_stay, looks_told, IsAsked, asking, asks_only, asks_told, none_used}
+use Rattle.pas_same_text.proofs.PassedPages.{AreWordsKept, IsSpared, first_only}
+use Rattle.pas_same_text.proofs.ReturnHints.{return_hints}
+
+-- ---- steps of some kinds hint no page, or offer none
+none_hints : (ks : Kinds) → apart ks (Hinting ∷ []) ≡ true → (page : ℕ) (xs : List Made) → Only ks xs → HintsPage page xs → ⊥
+none_hints ks w page [] only h = h
+none_hints ks w page (m ∷ xs) only (inl h) = true≢false (sym (ap (λ (s : Step). is_in (Hinting ∷ []) (kind_of s)) h) ∙ in_apart ks (Hinting ∷ []) (place_of (kind_of m.step)) w only.0)
+none_hints ks w page (m ∷ xs) only (inr h) = none_hints ks w page xs only.1 h
+
+none_offers : (ks : Kinds) → apart ks (Offering ∷ []) ≡ true → (page : ℕ) (xs : List Made) → Only ks xs → OffersPage page xs → ⊥
+none_offers ks w page [] only h = h
+none_offers ks w page (m ∷ xs) only (inl h) = true≢false (sym (ap (λ (s : Step). is_in (Offering ∷ []) (kind_of s)) h.1) ∙ in_apart ks (Offering ∷ []) (place_of (kind_of m.step)) w only.0)
+none_offers ks w page (m ∷ xs) only (inr h) = none_offers ks w page xs only.1 h
+
+-- ---- what is put back: it hints no page but one that it read as backed
+abbrev giving : Kinds
+giving = Putting ∷ returning
+
+back_only : (page : ℕ) (d : Directory) (grains : Mask4) (steps : List Made) → BackSteps page d grains steps → Only giving steps
+back_only page d grains steps h = subst (Only giving) (sym h.steps_are)
+    (only_both giving h.left (h.after ++ h.puts) (only_within returning giving h.left refl (returns_are page h.left (leave_returns page d h.left h.leaves)))
+    (only_both giving h.after h.puts (only_within returning giving h.after refl (returns_are page h.after (return_returns page d h.after h.returns))) (only_within (Putting ∷ []) giving h.puts refl (puts_kinds page grains 4 h.puts h.order))))
+
+back_hints : (page : ℕ) (d : Directory) (grains : Mask4) (steps : List Made) → BackSteps page d grains steps → Always HintsEmpty steps
+back_hints page d grains steps h = subst (Always HintsEmpty) (sym h.steps_are)
+    (hints_both h.left (h.after ++ h.puts) (hints_of h.left (leave_due page d h.left h.leaves))
+    (hints_both h.after h.puts (return_hints page d h.after h.returns) (hints_none (Putting ∷ []) h.puts refl (puts_kinds page grains 4 h.puts h.order))))
+
+-- a page without memory isn't read as backed
+not_read : (f : Profile) (k : ℕ) (l : Whole) (page : ℕ) (xs : List Made) → Legal f (triples k xs ++ l) → Only giving xs → word_after l (Word.Backed page) ≡ 0 → Once (ReadsBacked page) xs → ⊥
+not_read f k l page [] legal only none h = h
+not_read f k l page (m ∷ xs) legal only none (inr h) = not_read f k l page xs legal.1 only.1 none h
+not_read f k l page (m ∷ xs) legal only none (inl h) =
+    let at : m.answer ≡ word_after (triples k xs ++ l) (Word.Backed page) = legal.0.answer_is ∙ ap (λ (s : Step). word_after (triples k xs ++ l) (target s)) h.0 in
+    let bad : 1 ≡ 0 = sym h.1 ∙ (at ∙ (backed_stays giving refl k xs l page only.1 ∙ none)) in
+    omega (arith, bad)
+
+-- ==== AN EXAMINATION
+-- the page's outcome is this one; where the page stays hinted it is backed and empty, and where it doesn't the steps hint it not; and they offer it only if it was offered
+record IsExamined (f : Profile) (w : World) (l : Whole) (page : ℕ) (o : Outcome) (steps : List Made) : Type 0 where
+  is : outcome_of f w page ≡ o
+  idle : stays_hinted o ≡ true → IsEmptyBacked l page
+  hints : stays_hinted o ≡ false → HintsPage page steps → ⊥
+  offers : OffersPage page steps → WasOffered f l page
+
+-- what stands before the grains are judged
+abbrev resting : Kinds
+resting = Taking ∷ asking
+
+abbrev judging : Kinds
+judging = Unbacking ∷ LookStamp ∷ resting
+
+module _ (f : Profile) (p : Progress) (w : World) (valid : IsValid f) (between : IsBetween f p) (same : IsSame f p w) (stamped : AreEndsStamped p.list) (page epoch : ℕ) (of : IsPage f page) (now : epoch ≡ w.epoch) where
+  abbrev l : Whole
+  l = p.list
+
+  -- it begins after this list, which left the page's words as they were
+  module _ (before : Whole) (kept : AreWordsKept page p.list before) where
+    -- ---- the right isn't asked for, or not got
+    without_right : (o : Outcome) (steps : List Made) → EndsWithout page o steps → Legal f (triples 0 steps ++ before) → IsExamined f w l page o steps
+    without_right Outcome.Bare steps h legal =
+        let first : Legal f (triples 0 (made (Look (Word.Backed page)) 0 ∷ []) ++ before) = subst (λ (ms : List Made). Legal f (triples 0 ms ++ before)) h legal in
+        let only : Only looking steps = subst (Only looking) (sym h) (refl, tt) in
+        record {
+          is = bare_outcome f p w valid between same stamped page (sym (first.0.answer_is ∙ kept.backed));
+          idle = λ stays. absurd (false≢true stays);
+          hints = λ gone hint. none_hints looking refl page steps only hint;
+          offers = λ offer. absurd (none_offers looking refl page steps only offer);
+        }
+    without_right (Outcome.InUse word value) steps h legal =
+        let back : Made = made (Look (Word.Backed page)) h.0 in
+        let used : Option Used = Some (used_at word value) in
+        let whole : Legal f (triples 0 (first_looks page h.0 used) ++ before) = subst (λ (ms : List Made). Legal f (triples 0 ms ++ before)) h.3 legal in
+        let begun : Legal f (triples 0 (back ∷ []) ++ before) = legal_earlier f 0 (looks_until page used) (back ∷ []) before whole in
+        let all : Only looking (first_looks page h.0 used) = first_only page h.0 used in
+        let read : value ≡ word_after l (Word.Free page word) = whole.0.answer_is ∙ (looked_word 0 (looks page ones word ++ (back ∷ [])) before (Word.Free page word) all.1 ∙ kept.free word) in
+        let only : Only looking steps = subst (Only looking) (sym h.3) all in
+        record {
+          is = used_outcome f p w valid between same stamped page word h.2.within (λ none. h.1 (begun.0.answer_is ∙ (kept.backed ∙ none)))
+              (λ v lt. sym (kept.free v) ∙ looks_told f 0 before page ones word v (back ∷ []) lt (refl, tt) whole.1) (λ full. h.2.some (read ∙ full))
+              ∙ ap (λ (n : ℕ). Outcome.InUse word n) (sym read);
+          idle = λ stays. absurd (false≢true stays);
+          hints = λ gone hint. none_hints looking refl page steps only hint;
+          offers = λ offer. absurd (none_offers looking refl page steps only offer);
+        }
+    without_right Outcome.NotOffered steps h legal =
+        let d : Directory = h.0 in
+        let whole : Legal f (triples 0 (made (Hint page) h.1 ∷ h.2) ++ before) = subst (λ (ms : List Made). Legal f (triples 0 ms ++ before)) h.4 legal in
+        let a : IsAsked f before page d false = asks_told f 0 before page d false h.2 h.3 whole.1 in
+        let some : word_after l (Word.Backed page) ≢ 0 = λ none. a.backed (kept.backed ∙ none) in
+        let full : ((word : ℕ) → word < 4 → word_after l (Word.Free page word) ≡ all_ones) = λ word small. sym (kept.free word) ∙ a.full word small in
+        let only : Only (Hinting ∷ asking) steps = subst (Only (Hinting ∷ asking)) (sym h.4) (refl, only_within asking (Hinting ∷ asking) h.2 refl (asks_only page d false h.2 h.3)) in
+        record {
+          is = kept_outcome f p w valid between same stamped page d some a.of_profile (sym kept.deed ∙ a.deed) full (sym (kept.offer (number_of d)) ∙ a.offered);
+          idle = λ stays. empty_backed f p w valid between same stamped page some full;
+          hints = λ gone. absurd (true≢false gone);
+          offers = λ offer. absurd (none_offers (Hinting ∷ asking) refl page steps only offer);
+        }
+    without_right o steps h legal = absurd h
+
+    -- ---- with the right
+    module _ (d : Directory) (used : Option Used) (grains : Mask4) (back after rest : List Made) (none : used ≡ None) (asked : IsAsked f before page d true) (only : Only resting rest) (puts : BackSteps page d grains back)
+        (legal : Legal f (triples 0 (back ++ (after ++ rest)) ++ before)) where
+      middle : Legal f (triples 0 (after ++ rest) ++ before)
+      middle = legal_earlier f 0 back (after ++ rest) before legal
+
+      some_backed : word_after l (Word.Backed page) ≢ 0
+      some_backed zero = asked.backed (kept.backed ∙ zero)
+
+      all_full : (word : ℕ) → word < 4 → word_after l (Word.Free page word) ≡ all_ones
+      all_full word small = sym (kept.free word) ∙ asked.full word small
+
+      on_offer : eligible_bit l (number_of d) page ≡ true
+      on_offer = sym (kept.offer (number_of d)) ∙ asked.offered
+
+      was_offered : WasOffered f l page
+      was_offered = record { directory = d; of_profile = asked.of_profile; offered = on_offer }
+
+      -- after the page lost its memory it isn't hinted
+      unbacked_hint : (b stamp u : ℕ) → after ≡ made (Unback page) u ∷ made (Look (Word.Stamp page)) stamp ∷ made (Look (Word.Backed page)) b ∷ [] → HintsPage page (back ++ (after ++ rest)) → ⊥
+      unbacked_hint b stamp u is hint = elim (once_parts (λ m. m.step ≡ Hint page) back (after ++ rest) hint) [
+        | inl late ↦
+            let low : Whole = triples 0 (made (Look (Word.Stamp page)) stamp ∷ made (Look (Word.Backed page)) b ∷ rest) ++ before in
+            let zero : word_after (triples 0 (after ++ rest) ++ before) (Word.Backed page) ≡ 0 =
+            ap (λ (ms : List Made). word_after (triples 0 (ms ++ rest) ++ before) (Word.Backed page)) is ∙ ap (λ (t : Bool). if t then 0 else word_after low (Word.Backed page)) (eq-eqb page page refl) in
+            let upper : Legal f (triples 0 back ++ (triples 0 (after ++ rest) ++ before)) = subst (Legal f) (sym (triples_append 0 back (after ++ rest) before)) legal in
+            let read : WasRead page back = hint_read page back (back_hints page d grains back puts) late in
+            not_read f 0 (triples 0 (after ++ rest) ++ before) page back upper (back_only page d grains back puts) zero read.backed
+        | inr early ↦ none_hints judging refl page (after ++ rest) (only_both judging after rest (subst (Only judging) (sym is) (refl, (refl, (refl, tt)))) (only_within resting judging rest refl only)) early
+      ]
+
+      judged : (o : Outcome) → Judged f.age epoch page used o after → IsExamined f w l page o (back ++ (after ++ rest))
+      judged (Outcome.InUse word value) h = absurd (let bad : None ≡ Some (used_at word value) = sym none ∙ h.0 in cc)
+      judged Outcome.Bare h =
+          let look : Legal f (triples 0 (made (Look (Word.Backed page)) 0 ∷ rest) ++ before) = subst (λ (ms : List Made). Legal f (triples 0 (ms ++ rest) ++ before)) h.1 middle in
+          absurd (asked.backed (sym (look.0.answer_is ∙ backed_stays resting refl 0 rest before page only)))
+      judged (Outcome.Young stamp) h =
+          let look : Legal f (triples 0 (made (Look (Word.Stamp page)) stamp ∷ made (Look (Word.Backed page)) h.0 ∷ rest) ++ before) = subst (λ (ms : List Made). Legal f (triples 0 (ms ++ rest) ++ before)) h.4 middle in
+          let read : stamp ≡ word_after l (Word.Stamp page) = look.0.answer_is ∙ (stamps_stay resting refl 0 (made (Look (Word.Backed page)) h.0 ∷ rest) before page (refl, only) ∙ kept.stamp) in
+          let young : epoch < stamp + f.age = h.3 in
+          record {
+            is = young_outcome f p w valid between same stamped page d of some_backed all_full asked.of_profile on_offer (omega (arith, young, now, read)) ∙ ap (λ (n : ℕ). Outcome.Young n) (sym read);
+            idle = λ stays. empty_backed f p w valid between same stamped page some_backed all_full;
+            hints = λ gone. absurd (true≢false gone);
+            offers = λ offer. was_offered;
+          }
+      judged Outcome.Unbacked h =
+          let look : Legal f (triples 0 (made (Unback page) h.2 ∷ made (Look (Word.Stamp page)) h.1 ∷ made (Look (Word.Backed page)) h.0 ∷ rest) ++ before) = subst (λ (ms : List Made). Legal f (triples 0 (ms ++ rest) ++ before)) h.6 middle in
+          let read : h.1 ≡ word_after l (Word.Stamp page) = look.1.0.answer_is ∙ (stamps_stay resting refl 0 (made (Look (Word.Backed page)) h.0 ∷ rest) before page (refl, only) ∙ kept.stamp) in
+          let old : h.1 + f.age ≤ epoch = h.5 in
+          record {
+            is = old_outcome f p w valid between same stamped page d of some_backed all_full asked.of_profile on_offer (omega (arith, old, now, read));
+            idle = λ stays. absurd (false≢true stays);
+            hints = λ gone hint. unbacked_hint h.0 h.1 h.2 h.6 hint;
+            offers = λ offer. was_offered;
+          }
+      judged Outcome.NotOffered h = absurd h
+
+    with_right : (o : Outcome) (steps : List Made) → EndsWith f.age epoch page o steps → Legal f (triples 0 steps ++ before) → IsExamined f w l page o steps
+    with_right o steps h legal =
+        let t = h.takes in
+        let rest : List Made = takes_until page t.used ++ h.asked in
+        let whole : steps ≡ t.back ++ (t.after ++ rest) = taken_on f.age epoch page o steps h in
+        let all : Legal f (triples 0 (t.back ++ (t.after ++ rest)) ++ before) = subst (λ (ms : List Made). Legal f (triples 0 ms ++ before)) whole legal in
+        let low : Legal f (triples 0 rest ++ before) = legal_earlier f 0 t.after rest before (legal_earlier f 0 t.back (t.after ++ rest) before all) in
+        let asked : IsAsked f before page h.directory true = asks_told f 0 before page h.directory true h.asked h.asks (legal_earlier f 0 (takes_until page t.used) h.asked before low) in
+        let asks : Only asking h.asked = asks_only page h.directory true h.asked h.asks in
+        let none : t.used ≡ None = none_used f 0 before page t.used h.asked t.are (λ word small. frees_stay asking refl 0 h.asked before page word asks ∙ asked.full word small) low in
+        let only : Only resting rest = only_both resting (takes_until page t.used) h.asked (only_within (Taking ∷ []) resting (takes_until page t.used) refl (takes_are page t.used)) (only_within asking resting h.asked refl asks) in
+        subst (IsExamined f w l page o) (sym whole) (judged h.directory t.used t.grains t.back t.after rest none asked only t.puts all o t.judged)
+
+    examined : (o : Outcome) (steps : List Made) → ExamineSteps f.age epoch page o steps → Legal f (triples 0 steps ++ before) → IsExamined f w l page o steps
+    examined o steps (inl h) legal = without_right o steps h legal
+    examined o steps (inr h) legal = with_right o steps h legal
+
+-- ==== A TRY of a page that was hinted when the pass began
+-- the page was still hinted, and its outcome is that of the text. Where that ends the hint, the page has none after these steps
+pub record IsTried (f : Profile) (w : World) (l before : Whole) (page : ℕ) (o : Option Outcome) (steps : List Made) : Type 0 where
+  pub outcome : o ≡ Some (outcome_of f w page)
+  pub idle : stays_hinted (outcome_of f w page) ≡ true → IsEmptyBacked l page
+  pub bit : stays_hinted (outcome_of f w page) ≡ false → empty_bit (triples 0 steps ++ before) page ≡ false
+  pub offers : OffersPage page steps → WasOffered f l page
+
+-- the bit is clear after the unhint
+cleared : (page a : ℕ) (before : Whole) → empty_bit (triple 0 (made (Unhint page) a) ∷ before) page ≡ false
+cleared page a before =
+    page_bit-clear page page (word_after before (Word.Empty (page / 64))) true ∙ ap (λ (t : Bool). if t then false else empty_bit before page) (eq-eqb page page refl)
+
+module _ (f : Profile) (p : Progress) (w : World) (valid : IsValid f) (between : IsBetween f p) (same : IsSame f p w) (stamped : AreEndsStamped p.list) (page epoch : ℕ) (now : epoch ≡ w.epoch) (hinted : empty_bit p.list page ≡ true)
+    (before : Whole) (spared : IsSpared page p.list before) where
+  pub tried : (o : Option Outcome) (steps : List Made) → TrySteps f.age epoch page o steps → Legal f (triples 0 steps ++ before) → IsTried f w p.list before page o steps
+  tried None steps h legal =
+      let only : Legal f (triples 0 (made (Unhint page) h.0 ∷ []) ++ before) = subst (λ (ms : List Made). Legal f (triples 0 ms ++ before)) h.2 legal in
+      absurd (true≢false (sym (spared.hint ∙ hinted) ∙ (sym (ap (λ (n : ℕ). has_bit n (page % 64)) only.0.answer_is) ∙ h.1)))
+  tried (Some outcome) steps h legal =
+      let un : Made = made (Unhint page) h.0 in
+      let start : Whole = triple 0 un ∷ before in
+      let onto = triples_append 0 h.2 (un ∷ []) before in
+      let whole : Legal f (triples 0 (h.2 ++ (un ∷ [])) ++ before) = subst (λ (ms : List Made). Legal f (triples 0 ms ++ before)) h.4 legal in
+      let upper : Legal f (triples 0 h.2 ++ start) = subst (Legal f) (sym onto) whole in
+      let kept : AreWordsKept page p.list start = record { free = spared.words.free; backed = spared.words.backed; stamp = spared.words.stamp; deed = spared.words.deed; offer = spared.words.offer } in
+      let of : IsPage f page = hinted_page f p.list between.legal page hinted in
+      let x : IsExamined f w p.list page outcome h.2 = examined f p w valid between same stamped page epoch of now start kept outcome h.2 h.3 upper in
+      let told : stays_hinted outcome ≡ stays_hinted (outcome_of f w page) = ap stays_hinted (sym x.is) in
+      record {
+        outcome = ap (λ (out : Outcome). Some out) (sym x.is);
+        idle = λ stays. x.idle (told ∙ stays);
+        bit = λ gone.
+            ap (λ (ms : List Made). empty_bit (triples 0 ms ++ before) page) h.4
+            ∙ (ap (λ (m : Whole). empty_bit m page) (sym onto)
+            ∙ false_from_ne_true (empty_bit (triples 0 h.2 ++ start) page) (λ set. elim (hinted_by 0 h.2 start page set) [
+              | inl old ↦ true≢false (sym old ∙ cleared page h.0 before)
+              | inr hint ↦ x.hints (told ∙ gone) hint
+            ]));
+        offers = λ offer. elim (once_parts (λ m. (d : Directory) × (m.step ≡ Offer page d)) h.2 (un ∷ []) (subst (OffersPage page) h.4 offer)) [
+          | inl early ↦ x.offers early
+          | inr late ↦ absurd (none_offers (Unhinting ∷ []) refl page (un ∷ []) (refl, tt) late)
+        ];
+      }

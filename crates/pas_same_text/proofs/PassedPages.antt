@@ -1,0 +1,214 @@
+-- WHAT A PASS LEAVES of the pages that it doesn't examine: steps on other pages leave a page's words, and its bits of the page vectors.
+use Rattle.std.proofs.Common.{◌≡◌, ℕ, ◌/◌, ◌%◌, ◌==◌, max, bit_and, bit_or, Bool, true, false, ◌&&◌, if◌then◌else◌, List, [], ◌∷◌, ◌++◌, Option, None, Some, slice_index, inl, inr, refl, ap, sym, ◌∙◌, subst}
+use Rattle.std.proofs.lemmas.Bool.{false≢true}
+use Rattle.std.specs.Int.{bit_not, w64}
+use Rattle.pas_bits.specs.Bits.{has_bit}
+use Rattle.pas_bits.specs.declared.mask.Mask4.{Mask4}
+use Rattle.pas_bits.proofs.PageVectors.{page_bit-set, page_bit-clear}
+use Rattle.pas_profile.specs.Blocks.{grain_of}
+use Rattle.pas_profile.specs.Directories.{number_of, deed_word_of}
+use Rattle.pas_profile.specs.Layouts.{same_word}
+use Rattle.pas_profile.specs.declared.directory.Directory.{Directory}
+use Rattle.pas_profile.specs.declared.event.Outcome.{Outcome}
+use Rattle.pas_profile.specs.declared.word.Word.{Word}
+use Rattle.pas_steps.specs.Desks.{made, triples}
+use Rattle.pas_steps.specs.Effects.{target, new_value}
+use Rattle.pas_steps.specs.Frames.{IsReturn, OnlyReturns}
+use Rattle.pas_steps.specs.InTurn.{numbers_below}
+use Rattle.pas_steps.specs.Kinds.{kind_of, is_in, looking, Only, LookFree}
+use Rattle.pas_steps.specs.Lists.{Whole, part, word_after}
+use Rattle.pas_steps.specs.Past.{Always}
+use Rattle.pas_steps.specs.Views.{epoch_of}
+use Rattle.pas_steps.specs.declared.step.Made.{Made}
+use Rattle.pas_steps.specs.declared.step.Step.{Step}
+use Rattle.pas_steps.specs.declared.step.Step.TheVariants.{Look, Deed, Back, Take, Put, Give, End, EndSized, TakeRight, Offer, Park, Unpark, Stamp, Hint, Tick, Unback, Unhint}
+use Rattle.pas_steps.proofs.Apart.{only_both, only_within}
+use Rattle.pas_steps.proofs.Past.{always_both, always_map, in_turn_always}
+use Rattle.pas_core.specs.Rights.{empty_bit, eligible_bit}
+use Rattle.pas_core.proofs.Deeds.{looked}
+use Rattle.pas_rights.specs.Looks.{looks_until}
+use Rattle.pas_rights.specs.Puts.{WordPut, PutsBelow}
+use Rattle.pas_rights.specs.Takes.{word_take, takes}
+use Rattle.pas_rights.specs.Words.{ones}
+use Rattle.pas_rights.specs.declared.reading.Used.{Used}
+use Rattle.pas_rights.proofs.Orders.{until_only, leave_returns, return_returns}
+use Rattle.pas_rights.proofs.Words.{each_always}
+use Rattle.pas_scavenger.specs.Judgements.{used_at, Judged}
+use Rattle.pas_scavenger.specs.Pages.{first_looks, AsksSteps, EndsWithout, ExamineSteps}
+use Rattle.pas_scavenger.specs.Passes.{TrySteps}
+use Rattle.pas_scavenger.specs.Puttings.{BackSteps}
+use Rattle.pas_scavenger.specs.Readings.{takes_until}
+use Rattle.pas_scavenger.proofs.Examinations.{taken_on}
+
+-- ---- on which page a step works
+-- the step may change a word of the page, or its bit of a page vector
+abbrev pub is_on : ℕ → Step → Bool
+is_on page (Look word) = false
+is_on page (Deed q d) = q == page
+is_on page (Back q) = q == page
+is_on page (Take q word mask) = q == page
+is_on page (Put q word mask) = q == page
+is_on page (Give block) = grain_of block.name / 256 == page
+is_on page (End name guess) = grain_of name / 256 == page
+is_on page (EndSized name room) = grain_of name / 256 == page
+is_on page (TakeRight q d) = q == page
+is_on page (Offer q d) = q == page
+is_on page (Park q) = q == page
+is_on page (Unpark q) = q == page
+is_on page (Stamp q) = q == page
+is_on page (Hint q) = q == page
+is_on page (Tick raised) = false
+is_on page (Unback q) = q == page
+is_on page (Unhint q) = q == page
+
+-- none of the steps may
+abbrev pub Spares : ℕ → List Made → Type 0
+Spares page = Always (λ m before. is_on page m.step ≡ false)
+
+-- ---- what they leave
+-- the words of the page, and its offers, are those of the earlier list
+pub record AreWordsKept (page : ℕ) (l l' : Whole) : Type 0 where
+  pub free : (word : ℕ) → word_after l' (Word.Free page word) ≡ word_after l (Word.Free page word)
+  pub backed : word_after l' (Word.Backed page) ≡ word_after l (Word.Backed page)
+  pub stamp : word_after l' (Word.Stamp page) ≡ word_after l (Word.Stamp page)
+  pub deed : word_after l' (Word.Deed page) ≡ word_after l (Word.Deed page)
+  pub offer : (number : ℕ) → eligible_bit l' number page ≡ eligible_bit l number page
+
+-- .. and so is its hint
+pub record IsSpared (page : ℕ) (l l' : Whole) : Type 0 where
+  pub words : AreWordsKept page l l'
+  pub hint : empty_bit l' page ≡ empty_bit l page
+
+beside : {A : Type 0} (x t : Bool) (new old : A) → t ≡ false → (if x && t then new else old) ≡ old
+beside true t new old h = ap (λ (u : Bool). if u then new else old) h
+beside false t new old h = refl
+
+free_kept : (e : ℕ) (s : Step) (page word old : ℕ) → is_on page s ≡ false → (if same_word (target s) (Word.Free page word) then new_value e s old else old) ≡ old
+free_kept e (Look x) page word old h = looked (same_word x (Word.Free page word)) old
+free_kept e (Take q j mask) page word old h = beside (j == word) (q == page) (bit_and old (bit_not w64 mask)) old h
+free_kept e (Put q j mask) page word old h = beside (j == word) (q == page) (bit_or old mask) old h
+free_kept e s page word old h = refl
+
+backed_kept : (e : ℕ) (s : Step) (page old : ℕ) → is_on page s ≡ false → (if same_word (target s) (Word.Backed page) then new_value e s old else old) ≡ old
+backed_kept e (Look x) page old h = looked (same_word x (Word.Backed page)) old
+backed_kept e (Back q) page old h = beside true (q == page) (bit_or old 1) old h
+backed_kept e (Unback q) page old h = beside true (q == page) 0 old h
+backed_kept e s page old h = refl
+
+stamp_kept : (e : ℕ) (s : Step) (page old : ℕ) → is_on page s ≡ false → (if same_word (target s) (Word.Stamp page) then new_value e s old else old) ≡ old
+stamp_kept e (Look x) page old h = looked (same_word x (Word.Stamp page)) old
+stamp_kept e (Stamp q) page old h = beside true (q == page) (max old e) old h
+stamp_kept e s page old h = refl
+
+deed_kept : (e : ℕ) (s : Step) (page old : ℕ) → is_on page s ≡ false → (if same_word (target s) (Word.Deed page) then new_value e s old else old) ≡ old
+deed_kept e (Look x) page old h = looked (same_word x (Word.Deed page)) old
+deed_kept e (Deed q d) page old h = beside true (q == page) (if old == 0 then deed_word_of d else old) old h
+deed_kept e s page old h = refl
+
+offer_kept : (e : ℕ) (s : Step) (n page old : ℕ) → is_on page s ≡ false → has_bit (if same_word (target s) (Word.Eligible n (page / 64)) then new_value e s old else old) (page % 64) ≡ has_bit old (page % 64)
+offer_kept e (Look x) n page old h = ap (λ (a : ℕ). has_bit a (page % 64)) (looked (same_word x (Word.Eligible n (page / 64))) old)
+offer_kept e (TakeRight q d) n page old h = page_bit-clear q page old (number_of d == n) ∙ beside (number_of d == n) (q == page) false (has_bit old (page % 64)) h
+offer_kept e (Offer q d) n page old h = page_bit-set q page old (number_of d == n) ∙ beside (number_of d == n) (q == page) true (has_bit old (page % 64)) h
+offer_kept e s n page old h = refl
+
+hint_kept : (e : ℕ) (s : Step) (page old : ℕ) → is_on page s ≡ false → has_bit (if same_word (target s) (Word.Empty (page / 64)) then new_value e s old else old) (page % 64) ≡ has_bit old (page % 64)
+hint_kept e (Look x) page old h = ap (λ (a : ℕ). has_bit a (page % 64)) (looked (same_word x (Word.Empty (page / 64))) old)
+hint_kept e (Hint q) page old h = page_bit-set q page old true ∙ beside true (q == page) true (has_bit old (page % 64)) h
+hint_kept e (Unhint q) page old h = page_bit-clear q page old true ∙ beside true (q == page) false (has_bit old (page % 64)) h
+hint_kept e s page old h = refl
+
+-- THE PAGE is as it was
+pub words_stay : (page k : ℕ) (xs : List Made) (l : Whole) → Spares page xs → IsSpared page l (triples k xs ++ l)
+words_stay page k [] l spares = record { words = record { free = λ word. refl; backed = refl; stamp = refl; deed = refl; offer = λ number. refl }; hint = refl }
+words_stay page k (m ∷ xs) l spares =
+    let w : Whole = triples k xs ++ l in
+    let e : ℕ = epoch_of (part k w) in
+    let was : IsSpared page l w = words_stay page k xs l spares.1 in
+    record {
+      words = record {
+        free = λ word. free_kept e m.step page word (word_after w (Word.Free page word)) spares.0 ∙ was.words.free word;
+        backed = backed_kept e m.step page (word_after w (Word.Backed page)) spares.0 ∙ was.words.backed;
+        stamp = stamp_kept e m.step page (word_after w (Word.Stamp page)) spares.0 ∙ was.words.stamp;
+        deed = deed_kept e m.step page (word_after w (Word.Deed page)) spares.0 ∙ was.words.deed;
+        offer = λ number. offer_kept e m.step number page (word_after w (Word.Eligible number (page / 64))) spares.0 ∙ was.words.offer number;
+      };
+      hint = hint_kept e m.step page (word_after w (Word.Empty (page / 64))) spares.0 ∙ was.hint;
+    }
+
+-- ==== WHICH STEPS of a pass spare a page: those by which another page is tried
+pub spare_both : (page : ℕ) (ys xs : List Made) → Spares page ys → Spares page xs → Spares page (ys ++ xs)
+spare_both page ys xs first rest = always_both (λ m before. is_on page m.step ≡ false) (λ m before. is_on page m.step ≡ false) ys xs (λ m before h. h) first rest
+
+-- looks are on no page
+look_spares : (page : ℕ) (s : Step) → is_in looking (kind_of s) ≡ true → is_on page s ≡ false
+look_spares page (Look x) is = refl
+look_spares page s is = absurd (false≢true is)
+
+looks_spare : (page : ℕ) (xs : List Made) → Only looking xs → Spares page xs
+looks_spare page xs = always_map (λ m before. is_in looking (kind_of m.step) ≡ true) (λ m before. is_on page m.step ≡ false) xs (λ m before is. look_spares page m.step is)
+
+-- the first steps of an examination are looks
+pub first_only : (page b : ℕ) (used : Option Used) → Only looking (first_looks page b used)
+first_only page b used = only_both looking (looks_until page used) (made (Look (Word.Backed page)) b ∷ []) (only_within (LookFree ∷ []) looking (looks_until page used) refl (until_only page used)) (refl, tt)
+
+-- the page that is tried is q
+module _ (page q : ℕ) (other : (q == page) ≡ false) where
+  return_other : (s : Step) → IsReturn q s → is_on page s ≡ false
+  return_other s (IsReturn.LooksFree word) = refl
+  return_other s IsReturn.LooksBacked = refl
+  return_other s (IsReturn.Offers d) = other
+  return_other s IsReturn.Parks = other
+  return_other s IsReturn.Unparks = other
+  return_other s IsReturn.Hints = other
+
+  returns_spare : (xs : List Made) → OnlyReturns q xs → Spares page xs
+  returns_spare xs = always_map (λ m before. IsReturn q m.step) (λ m before. is_on page m.step ≡ false) xs (λ m before is. return_other m.step is)
+
+  put_spares : (word mask : ℕ) (steps : List Made) → WordPut q word mask steps → Spares page steps
+  put_spares word mask steps (inl none) = subst (Spares page) (sym none.1) tt
+  put_spares word mask steps (inr some) = subst (Spares page) (sym some.2) (other, tt)
+
+  puts_spare : (grains : Mask4) (steps : List Made) → PutsBelow q grains 4 steps → Spares page steps
+  puts_spare grains = in_turn_always (λ word piece. WordPut q word (slice_index grains.0 word) piece) (λ m. is_on page m.step ≡ false) (λ word. put_spares word (slice_index grains.0 word)) (numbers_below 4)
+
+  back_spares : (d : Directory) (grains : Mask4) (steps : List Made) → BackSteps q d grains steps → Spares page steps
+  back_spares d grains steps h = subst (Spares page) (sym h.steps_are)
+      (spare_both page h.left (h.after ++ h.puts) (returns_spare h.left (leave_returns q d h.left h.leaves))
+      (spare_both page h.after h.puts (returns_spare h.after (return_returns q d h.after h.returns)) (puts_spare grains h.puts h.order)))
+
+  takes_spare : (n : ℕ) → Spares page (takes q ones ones n)
+  takes_spare n = each_always (λ m. is_on page m.step ≡ false) (λ word. word_take q word (ones word) (ones word)) (λ word. (other, tt)) n
+
+  until_spares : (used : Option Used) → Spares page (takes_until q used)
+  until_spares None = takes_spare 4
+  until_spares (Some used) = (other, takes_spare used.word)
+
+  judged_spares : (age epoch : ℕ) (used : Option Used) (outcome : Outcome) (steps : List Made) → Judged age epoch q used outcome steps → Spares page steps
+  judged_spares age epoch used (Outcome.InUse word value) steps h = subst (Spares page) (sym h.1) tt
+  judged_spares age epoch used Outcome.Bare steps h = subst (Spares page) (sym h.1) (refl, tt)
+  judged_spares age epoch used (Outcome.Young stamp) steps h = subst (Spares page) (sym h.4) (refl, (refl, tt))
+  judged_spares age epoch used Outcome.Unbacked steps h = subst (Spares page) (sym h.6) (other, (refl, (refl, tt)))
+  judged_spares age epoch used Outcome.NotOffered steps h = absurd h
+
+  asks_spare : (d : Directory) (got : Bool) (steps : List Made) → AsksSteps q d got steps → Spares page steps
+  asks_spare d got steps h = subst (Spares page) (sym h.steps_are) (other, (refl, looks_spare page (first_looks q h.backed None) (first_only q h.backed None)))
+
+  without_spares : (outcome : Outcome) (steps : List Made) → EndsWithout q outcome steps → Spares page steps
+  without_spares Outcome.Bare steps h = subst (Spares page) (sym h) (refl, tt)
+  without_spares (Outcome.InUse word value) steps h = subst (Spares page) (sym h.3) (looks_spare page (first_looks q h.0 (Some (used_at word value))) (first_only q h.0 (Some (used_at word value))))
+  without_spares Outcome.NotOffered steps h = subst (Spares page) (sym h.4) (other, asks_spare h.0 false h.2 h.3)
+  without_spares outcome steps h = absurd h
+
+  examine_spares : (age epoch : ℕ) (outcome : Outcome) (steps : List Made) → ExamineSteps age epoch q outcome steps → Spares page steps
+  examine_spares age epoch outcome steps (inl h) = without_spares outcome steps h
+  examine_spares age epoch outcome steps (inr h) =
+      let t = h.takes in
+      let rest : List Made = takes_until q t.used ++ h.asked in
+      subst (Spares page) (sym (taken_on age epoch q outcome steps h))
+      (spare_both page t.back (t.after ++ rest) (back_spares h.directory t.grains t.back t.puts)
+      (spare_both page t.after rest (judged_spares age epoch t.used outcome t.after t.judged)
+      (spare_both page (takes_until q t.used) h.asked (until_spares t.used) (asks_spare h.directory true h.asked h.asks))))
+
+  pub try_spares : (age epoch : ℕ) (o : Option Outcome) (steps : List Made) → TrySteps age epoch q o steps → Spares page steps
+  try_spares age epoch None steps h = subst (Spares page) (sym h.2) (other, tt)
+  try_spares age epoch (Some outcome) steps h = subst (Spares page) (sym h.4) (spare_both page h.2 (made (Unhint q) h.0 ∷ []) (examine_spares age epoch outcome h.2 h.3) (other, tt))

@@ -1,0 +1,81 @@
+-- THE RUN THAT A SEARCH FOUND, where no other actor makes a step: the lowest usable one before the search, and no page of another gets a deed.
+use Rattle.std.proofs.Common.{◌≡◌, ℕ, false, List, [], ◌∷◌, ◌++◌, ◌⊎◌, inl, inr, refl, ◌∙◌, subst}
+use Rattle.std.proofs.lemmas.Bool.{cases_eq}
+use Rattle.pas_profile.specs.Directories.{deed_word_of}
+use Rattle.pas_profile.specs.Profiles.{IsDirectoryOf}
+use Rattle.pas_profile.specs.declared.directory.Directory.{Directory}
+use Rattle.pas_profile.specs.declared.profile.Profile.{Profile}
+use Rattle.pas_profile.specs.declared.word.Word.TheVariants as Word
+use Rattle.pas_steps.specs.Desks.{triples}
+use Rattle.pas_steps.specs.Kinds.{Only}
+use Rattle.pas_steps.specs.Lists.{Whole, part, word_after, Legal}
+use Rattle.pas_steps.specs.Past.{Always}
+use Rattle.pas_steps.specs.Views.{has_right, known_deed}
+use Rattle.pas_steps.specs.declared.step.Made.{Made}
+use Rattle.pas_steps.specs.declared.step.Step.TheVariants.{Deed}
+use Rattle.pas_steps.proofs.Past.{always_map}
+use Rattle.pas_core.proofs.Deeds.{known_is}
+use Rattle.pas_core.proofs.OneActor.{LendsNone, lends_none, legal_before}
+use Rattle.pas_core.proofs.Rights.{deeds_known}
+use Rattle.pas_scan.specs.Runs.{IsInRun}
+use Rattle.pas_search.specs.Kinds.{ReturnsDuly}
+use Rattle.pas_large.specs.Evidence.{HasFailed}
+use Rattle.pas_large.specs.Finds.{MayFind, FoundRun, finding}
+use Rattle.pas_large.specs.Telling.{IsUsablePage, IsLowestRun}
+use Rattle.pas_large.proofs.Outcomes.{MadeOf}
+use Rattle.pas_same_text.proofs.PagesRead.{usable_was, lost_never, bad_never}
+
+-- each deed that was made is of the directory and of a page of the run
+abbrev pub DeedsInRun : Directory → ℕ → ℕ → List Made → Type 0
+DeedsInRun d first n = Always (λ m before. (page : ℕ) (e : Directory) → m.step ≡ Deed page e → m.answer ≡ 0 → (e ≡ d) × IsInRun first n page)
+
+module _ (f : Profile) (k : ℕ) (l : Whole) (d : Directory) (n : ℕ) (of : IsDirectoryOf f d) (met : MayFind d (part k l)) where
+  -- the actor hasn't the right of a usable page
+  pub lacks_usable : Legal f l → (p : ℕ) → IsUsablePage d l p → has_right (part k l) p ≡ false
+  lacks_usable legal p usable = met.lacks p (elim (cases_eq (known_deed (part k l) p) 0) [
+    | inl none ↦ inl none
+    | inr some ↦ by_word (known_is (known_deed (part k l) p) (word_after l (Word.Deed p)) (deeds_known f l legal k p) some) some usable
+  ])
+    where
+      by_word : known_deed (part k l) p ≡ word_after l (Word.Deed p) → (known_deed (part k l) p ≡ 0 → ⊥) → IsUsablePage d l p → (known_deed (part k l) p ≡ 0) ⊎ (known_deed (part k l) p ≡ deed_word_of d)
+      by_word is some (inl none) = absurd (some (is ∙ none))
+      by_word is some (inr whole) = inr (is ∙ whole.deed)
+
+  -- no run all of whose pages were read as usable fails
+  pub never_fails : (other : ℕ) (xs : List Made) → Legal f (triples k xs ++ l) → LendsNone xs → Always ReturnsDuly xs → HasFailed d n other xs → ⊥
+  never_fails other [] legal lends due h = h
+  never_fails other (m ∷ xs) legal lends due (inr h) = never_fails other xs legal.1 lends.1 due.1 h
+  never_fails other (m ∷ xs) legal lends due (inl h) =
+      let first : Legal f l = legal_before f k xs l legal.1 in
+      let page : ℕ = h.1.0 in
+      let usable : IsUsablePage d l page = usable_was f k l d page xs of.kind legal.1 lends.1 due.1 (h.0 page h.1.1) in
+      lost_never f k l d page of.kind first (lacks_usable first page usable) usable m xs legal lends h.1.2
+
+  module _ (xs : List Made) (legal : Legal f (triples k xs ++ l)) (kinds : Only finding xs) (due : Always ReturnsDuly xs) (first : ℕ) (found : FoundRun f d n xs first) where
+    lends : LendsNone xs
+    lends = lends_none finding refl xs kinds
+
+    made_of : MadeOf d xs
+    made_of = always_map _ (λ m before. (p : ℕ) (e : Directory) → m.step ≡ Deed p e → m.answer ≡ 0 → e ≡ d) xs (λ m before h p e same zero. (h p e same zero).0) found.deeds
+
+    -- THE RUN is the lowest one that was usable
+    pub lowest_alone : IsLowestRun f d n l first
+    lowest_alone = record {
+      of_region = found.of_region;
+      usable = λ p here. usable_was f k l d p xs of.kind legal lends due (found.taken.usable p here);
+      lowest = λ other some lt usable.
+          let bad = found.lower other some lt in
+          let here : IsUsablePage d l bad.0 = usable bad.0 bad.1 in
+          let before : Legal f l = legal_before f k xs l legal in
+          bad_never f k l d bad.0 of.kind before (lacks_usable before bad.0 here) here xs legal lends made_of bad.2;
+    }
+
+    pub deeds_in_run : DeedsInRun d first n xs
+    deeds_in_run = always_map _ (λ m before. (page : ℕ) (e : Directory) → m.step ≡ Deed page e → m.answer ≡ 0 → (e ≡ d) × IsInRun first n page) xs (λ m before h page e same zero.
+        let at = h page e same zero in (
+          at.0,
+          elim at.1.3 [
+            | inl this ↦ subst (λ (s : ℕ). IsInRun s n page) this at.1.1
+            | inr failed ↦ absurd (never_fails at.1.0 xs legal lends due failed)
+          ],
+        )) found.deeds

@@ -1,0 +1,110 @@
+-- WHERE THREADS AND KEEPERS ARE AT REST with their caches and books, all actors of the region rest.
+use Rattle.std.proofs.Common.{◌≡◌, ℕ, ◌<◌, ◌≤◌, Bool, true, false, ◌||◌, List, [], ◌⊎◌, inl, inr, refl, sym, ◌∙◌, subst, arith}
+use Rattle.std.proofs.lemmas.Bool.{cases_lt}
+use Rattle.std.proofs.lemmas.List.Elements.{All-nil}
+use Rattle.pas_profile.specs.declared.profile.Profile.{Profile}
+use Rattle.pas_steps.specs.Lists.{part, Legal}
+use Rattle.pas_steps.specs.Views.{View}
+use Rattle.pas_free_log.specs.Conditions.{IsEntryOf}
+use Rattle.pas_cache.specs.Caches.{AtRest}
+use Rattle.pas_cache.specs.Contents.{Cached}
+use Rattle.pas_cache.specs.Locals.{any_covers, IsLocal}
+use Rattle.pas_guard.specs.Books.{FitsBook}
+use Rattle.pas_guard.specs.declared.book.Guard.{Guard}
+use Rattle.pas_trace.specs.Acts.{Act}
+use Rattle.pas_trace.specs.EveryPlan.{IsThread}
+use Rattle.pas_answers.specs.Answers.{Progress}
+use Rattle.pas_answers.specs.Replays.{empty_cache}
+use Rattle.pas_answers.specs.Rests.{AreAtRest}
+use Rattle.pas_same_text.specs.Acts.{IsResting, AreResting, IsBetween}
+use Rattle.pas_same_text.specs.Seats.{IsThreadOf, IsKeeperOf, AreSeated}
+
+no_other : (x : Bool) → (x || false) ≡ x
+no_other true = refl
+no_other false = refl
+
+-- whoever acts is an actor of the region
+pub thread_of : (threads : ℕ) (f : Profile) (k : ℕ) → IsThreadOf threads k → threads ≤ f.threads → IsThread f k
+thread_of threads f k own few = let low = own.0 in let high = own.1 in (low, omega (arith, high, few))
+
+pub keeper_of : (threads : ℕ) (f : Profile) (k : ℕ) → IsKeeperOf threads f k → IsThread f k
+keeper_of threads f k keeps = let past = keeps.0 in (omega (arith, past), keeps.1)
+
+-- a thread at rest with its cache, which has no guard up, rests
+pub thread_rests : (f : Profile) (c : Cached) (v : View) → AtRest f c v → IsResting f c [] v
+thread_rests f c v rest = record {
+  locals = record {
+    grains = λ g. rest.locals.grains g ∙ sym (no_other (any_covers c.locals g));
+    rights = rest.locals.rights;
+    clear = rest.locals.clear;
+    known = rest.locals.known;
+    apart = rest.locals.apart;
+    guards_apart = tt;
+    guards_of_region = tt;
+    guards_known = tt;
+    one_kind = inr refl;
+  };
+  few = rest.few;
+  entries = rest.entries;
+  few_entries = rest.few_entries;
+}
+
+-- .. and a keeper that fits its book
+keeper_rests : (f : Profile) (guards : List Guard) (v : View) → FitsBook f guards v → IsResting f empty_cache guards v
+keeper_rests f guards v fits = record {
+  locals = record {
+    grains = fits.held;
+    rights = fits.rights;
+    clear = fits.clear;
+    known = All-nil (IsLocal f v);
+    apart = record { one_each = λ heap class. omega arith; grains = λ g. omega arith; rights = λ page. omega arith };
+    guards_apart = fits.apart;
+    guards_of_region = fits.of_region;
+    guards_known = fits.knows;
+    one_kind = inl refl;
+  };
+  few = omega arith;
+  entries = All-nil (IsEntryOf f);
+  few_entries = omega arith;
+}
+
+-- back again
+pub thread_at_rest : (f : Profile) (c : Cached) (v : View) → IsResting f c [] v → AtRest f c v
+thread_at_rest f c v rest = record {
+  locals = record {
+    grains = λ g. rest.locals.grains g ∙ no_other (any_covers c.locals g);
+    rights = rest.locals.rights;
+    clear = rest.locals.clear;
+    known = rest.locals.known;
+    apart = rest.locals.apart;
+  };
+  few = rest.few;
+  entries = rest.entries;
+  few_entries = rest.few_entries;
+}
+
+module _ (threads : ℕ) (f : Profile) (p : Progress) (rest : AreAtRest threads f p.caches p.books p.list) (seated : AreSeated threads f p) where
+  working : (k : ℕ) → IsThread f k → (threads < k) ⊎ (k ≤ threads) → IsResting f (p.caches k) (p.books k) (part k p.list)
+  working k is (inl keeps) =
+      subst (λ (c : Cached). IsResting f c (p.books k) (part k p.list)) (sym (seated.uncached k (keeps, is.1))) (keeper_rests f (p.books k) (part k p.list) (rest.keeping k (keeps, is.1)))
+  working k is (inr works) =
+      let none : p.books k ≡ [] = seated.unbooked k (λ keeper. let past = keeper.0 in omega (arith, past, works)) in
+      subst (λ (gs : List Guard). IsResting f (p.caches k) gs (part k p.list)) (sym none) (thread_rests f (p.caches k) (part k p.list) (rest.working k (is.0, works)))
+
+  resting_from : AreResting f p.caches p.books p.list
+  resting_from = record {
+    working = λ k is. working k is (cases_lt threads k);
+    none = λ k other. seated.unbooked k (λ keeper. let past = keeper.0 in other (omega (arith, past), keeper.1));
+    beside = seated.beside;
+    bare = seated.bare;
+    scavenger = rest.scavenger;
+  }
+
+  pub between_from : Legal f p.list → IsBetween f p
+  between_from legal = record { legal = legal; rest = resting_from }
+
+-- the act is no keeper's: it changes no book
+abbrev pub IsNoKeepers : Act → Type 0
+IsNoKeepers (Act.Guards keeper op) = ⊥
+IsNoKeepers (Act.Lowers keeper) = ⊥
+IsNoKeepers act = Unit {0}

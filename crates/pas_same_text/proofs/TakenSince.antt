@@ -1,0 +1,253 @@
+-- WHAT A SEARCH TOOK of a page that it keeps: since it got the page's right, if it holds any of its grains. So its takes since then read just the grains as free that
+-- were free before the search.
+use Rattle.std.proofs.Common.{◌≡◌, ◌≢◌, ℕ, zero, suc, ◌+◌, ◌*◌, ◌/◌, ◌%◌, ◌<◌, ◌≤◌, ◌==◌, Bool, true, false, ◌&&◌, if◌then◌else◌, List, [], ◌∷◌, ◌++◌, IsTrue, ◌↔◌, inl, inr, refl, ap, sym, ◌∙◌, subst, append_assoc, arith}
+use Rattle.std.proofs.lemmas.Bool.{true≢false, false≢true, eq-eqb, eqb-true, ne_eqb, lt-ltb, cases_eq, or_cases, false_from_ne_true}
+use Rattle.std.proofs.lemmas.Bool.Decides.{nat_tests}
+use Rattle.pas_bits.specs.Bits.{has_bit}
+use Rattle.pas_bits.specs.Masks.{is_set}
+use Rattle.pas_bits.specs.declared.mask.Mask4.{Mask4}
+use Rattle.pas_bits.proofs.Words.{none_of_zero}
+use Rattle.pas_profile.specs.Classes.{class_grains, usable_grains, is_usable}
+use Rattle.pas_profile.specs.Directories.{number_of}
+use Rattle.pas_profile.specs.declared.profile.Profile.{Profile}
+use Rattle.pas_profile.specs.declared.word.Word.TheVariants as Word
+use Rattle.pas_steps.specs.Allowed.{Allowed}
+use Rattle.pas_steps.specs.Desks.{made, triples}
+use Rattle.pas_steps.specs.Effects.{target, in_mask, free_word_at}
+use Rattle.pas_steps.specs.Kinds.{kind_of, is_in, lending}
+use Rattle.pas_steps.specs.Lists.{Whole, part, word_after, Legal}
+use Rattle.pas_steps.specs.Past.{Once, Always}
+use Rattle.pas_steps.specs.Views.{View, Gets, Puts, Stays, grain_move, held_after, holds, Way, Rests, ByDeed, FromOffer, FromParked, ToOffer, ToParked, way, had_after, has_right}
+use Rattle.pas_steps.specs.declared.step.Made.{Made}
+use Rattle.pas_steps.specs.declared.step.Step.{Step}
+use Rattle.pas_steps.specs.declared.step.Step.TheVariants.{Deed, Take, Put, Give, End, EndSized, TakeRight, Offer, Park, Unpark}
+use Rattle.pas_steps.proofs.Parts.{part_of_own}
+use Rattle.pas_core.specs.Rights.{free_of_page}
+use Rattle.pas_core.proofs.OneActor.{LendsNone, lends_none}
+use Rattle.pas_core.proofs.Rights.{Spot, is_with, spot_of, Suits, IsSpotted, step_suits, spotted}
+use Rattle.pas_rights.specs.Takes.{takes, word_take}
+use Rattle.pas_rights.specs.Words.{words}
+use Rattle.pas_search.specs.Kinds.{IsReturnOf, ReturnsDuly, AreSearch, KeepsMarks, searching}
+use Rattle.pas_partial.specs.Rows.{IsFreeSlot}
+use Rattle.pas_segregated.specs.Takes.{TookSlots, takes_after, takes_since}
+use Rattle.pas_same_text.specs.Words.{free_bit}
+use Rattle.pas_same_text.proofs.SearchMarks.{stays_used, stays_free}
+use Rattle.pas_same_text.proofs.Tests.{and_first, and_second}
+
+turned_test : (x y : ℕ) → (x == y) ≡ (y == x)
+turned_test x y = grind (arith, nat_tests)
+
+-- ---- the right of a page that is neither offered nor parked stays
+module _ (page : ℕ) where
+  kept_right : (x : Way) (t had : Bool) → (t ≡ true → ⊥) → had ≡ true → had_after (if t then x else Rests) had ≡ true
+  kept_right x true had never has = absurd (never refl)
+  kept_right x false had never has = has
+
+  got_right : (x : Way) (t had : Bool) → had_after x had ≡ true → had ≡ true → had_after (if t then x else Rests) had ≡ true
+  got_right x true had gets has = gets
+  got_right x false had gets has = has
+
+  never_left : (q : ℕ) (s : Step) → (s ≡ Unpark page → ⊥) → IsReturnOf q s → (IsReturnOf page s → s ≡ Unpark page) → (q == page) ≡ true → ⊥
+  never_left q s other r marks same = other (marks (subst (λ (x : ℕ). IsReturnOf x s) (eqb-true q page same) r))
+
+  right_stays : (s : Step) (a : ℕ) (had : Bool) → (IsReturnOf page s → s ≡ Unpark page) → had ≡ true → had_after (way s a page) had ≡ true
+  right_stays (Deed q d) a had marks has = got_right ByDeed ((q == page) && (a == 0)) had refl has
+  right_stays (TakeRight q d) a had marks has = got_right (FromOffer (number_of d)) ((q == page) && has_bit a (page % 64)) had refl has
+  right_stays (Offer q d) a had marks has = kept_right (ToOffer (number_of d)) (q == page) had (never_left q (Offer q d) (λ same. let bad : Offer q d ≡ Unpark page = same in cc) (IsReturnOf.Offers d) marks) has
+  right_stays (Park q) a had marks has = kept_right ToParked (q == page) had (never_left q (Park q) (λ same. let bad : Park q ≡ Unpark page = same in cc) IsReturnOf.Parks marks) has
+  right_stays (Unpark q) a had marks has = got_right FromParked ((q == page) && has_bit a (page % 64)) had refl has
+  right_stays s a had marks has = has
+
+  -- who had it once has it
+  pub right_kept : (xs : List Made) → Always (KeepsMarks page) xs → Once (λ m before. has_right before page ≡ true) xs → has_right xs page ≡ true
+  right_kept [] marks h = absurd h
+  right_kept (m ∷ xs) marks (inl h) = right_stays m.step m.answer (has_right xs page) (λ r. (marks.0 r).0) h
+  right_kept (m ∷ xs) marks (inr h) = right_stays m.step m.answer (has_right xs page) (λ r. (marks.0 r).0) (right_kept xs marks.1 h)
+
+-- ---- one step: an actor that holds a grain of the page took it since it got the right, and has the right
+module _ (f : Profile) (k page g : ℕ) (of : g / 256 ≡ page) (v ts before : List Made) (o : Spot) (spot : has_right v page ≡ is_with k o) where
+  -- what is so of the steps so far, if they hold the grain
+  abbrev IsTakenSo : Type 0
+  IsTakenSo = (has_right v page ≡ true) × (holds ts g ≡ true)
+
+  abbrev IsTakenAfter : Step → ℕ → Type 0
+  IsTakenAfter s a = (had_after (way s a page) (has_right v page) ≡ true) × (holds (takes_after page s a ts) g ≡ true)
+
+  -- the right can't come to who has it
+  still_listed : (x : Way) (t u : Bool) → u ≡ t → Suits k (if t then x else Rests) o → (Suits k x o → is_with k o ≡ false) → IsTakenSo → holds (if u then [] else ts) g ≡ true
+  still_listed x true u same suits nobody so = absurd (false≢true (sym (spot ∙ nobody suits) ∙ so.0))
+  still_listed x false true same suits nobody so = absurd (true≢false same)
+  still_listed x false false same suits nobody so = so.1
+
+  -- a take of the page is one of the list
+  in_list : (m : Made) (t : Bool) → (t ≡ false → holds ts g ≡ true) → holds (m ∷ ts) g ≡ true → holds (if t then m ∷ ts else ts) g ≡ true
+  in_list m true others own = own
+  in_list m false others own = others refl
+
+  got_or_held : (x held : Bool) → (x ≡ false → held ≡ true) → held_after (if x then Gets else Stays) held ≡ true
+  got_or_held true held h = refl
+  got_or_held false held h = h refl
+
+  put_kept : (x held : Bool) → held_after (if x then Puts else Stays) held ≡ true → held ≡ true
+  put_kept true held h = absurd (false≢true h)
+  put_kept false held h = h
+
+  took : (q word mask a : ℕ) → has_right v q ≡ true → (holds before g ≡ true → IsTakenSo) → (x : Bool) → (in_mask q word mask g && has_bit a (g % 64)) ≡ x → held_after (if x then Gets else Stays) (holds before g) ≡ true → IsTakenAfter (Take q word mask) a
+  took q word mask a allowed was true is h =
+      let inside : in_mask q word mask g ≡ true = and_first (in_mask q word mask g) (has_bit a (g % 64)) is in
+      let at : q ≡ page = eqb-true q (g / 256) (and_second (word == g / 64 % 4) (q == g / 256) (and_first ((word == g / 64 % 4) && (q == g / 256)) (has_bit mask (g % 64)) inside)) ∙ of in (
+        ap (has_right v) (sym at) ∙ allowed,
+        in_list (made (Take q word mask) a) (page == q) (λ other. absurd (true≢false (sym (eq-eqb page q (sym at)) ∙ other)))
+            (got_or_held (in_mask q word mask g && has_bit a (g % 64)) (holds ts g) (λ none. absurd (true≢false (sym is ∙ none)))),
+      )
+  took q word mask a allowed was false is h =
+      let so = was h in (
+        so.0,
+        in_list (made (Take q word mask) a) (page == q) (λ other. so.1) (got_or_held (in_mask q word mask g && has_bit a (g % 64)) (holds ts g) (λ none. so.1)),
+      )
+
+  listed_step : (s : Step) (a : ℕ) → is_in lending (kind_of s) ≡ false → (IsReturnOf page s → s ≡ Unpark page) → Allowed f v s → Suits k (way s a page) o → (holds before g ≡ true → IsTakenSo) → held_after (grain_move s a g) (holds before g) ≡ true → IsTakenAfter s a
+  listed_step (Deed q d) a lends marks allowed suits was h =
+      let so = was h in (
+        right_stays page (Deed q d) a (has_right v page) marks so.0,
+        still_listed ByDeed ((q == page) && (a == 0)) ((page == q) && (a == 0)) (ap (λ (t : Bool). t && (a == 0)) (turned_test page q)) suits (λ e. ap (is_with k) e) so,
+      )
+  listed_step (TakeRight q d) a lends marks allowed suits was h =
+      let so = was h in (
+        right_stays page (TakeRight q d) a (has_right v page) marks so.0,
+        still_listed (FromOffer (number_of d)) ((q == page) && has_bit a (page % 64)) ((page == q) && has_bit a (page % 64)) (ap (λ (t : Bool). t && has_bit a (page % 64)) (turned_test page q)) suits (λ e. ap (is_with k) e) so,
+      )
+  listed_step (Take q word mask) a lends marks allowed suits was h = took q word mask a allowed was (in_mask q word mask g && has_bit a (g % 64)) refl h
+  listed_step (Put q word mask) a lends marks allowed suits was h = was (put_kept (in_mask q word mask g) (holds before g) h)
+  listed_step (Give block) a lends marks allowed suits was h = absurd (true≢false lends)
+  listed_step (End name guess) a lends marks allowed suits was h = absurd (true≢false lends)
+  listed_step (EndSized name room) a lends marks allowed suits was h = absurd (true≢false lends)
+  listed_step (Offer q d) a lends marks allowed suits was h = let so = was h in (right_stays page (Offer q d) a (has_right v page) marks so.0, so.1)
+  listed_step (Park q) a lends marks allowed suits was h = let so = was h in (right_stays page (Park q) a (has_right v page) marks so.0, so.1)
+  listed_step (Unpark q) a lends marks allowed suits was h = let so = was h in (right_stays page (Unpark q) a (has_right v page) marks so.0, so.1)
+  listed_step s a lends marks allowed suits was h = was h
+
+-- ---- lists of takes
+abbrev first_step : Step → List Made → Step
+first_step s [] = s
+first_step s (m ∷ ms) = m.step
+
+abbrev first_answer : ℕ → List Made → ℕ
+first_answer a [] = a
+first_answer a (m ∷ ms) = m.answer
+
+abbrev all_but_first : List Made → List Made
+all_but_first [] = []
+all_but_first (m ∷ ms) = ms
+
+none_there : (ts : List Made) (m : Made) (rest : List Made) → [] ≡ ts ++ m ∷ rest → ⊥
+none_there [] m rest is = cc
+none_there (t ∷ ts) m rest is = cc
+
+module _ (f : Profile) (k : ℕ) (l : Whole) (page g : ℕ) (of : g / 256 ≡ page) where
+  abbrev own : View
+  own = part k l
+
+  pub taken_since : (xs : List Made) → Legal f (triples k xs ++ l) → LendsNone xs → Always (KeepsMarks page) xs → holds xs g ≡ true → (has_right (xs ++ own) page ≡ true) × (holds (takes_since page xs) g ≡ true)
+  taken_since [] legal lends marks h = absurd (false≢true h)
+  taken_since (m ∷ xs) legal lends marks h =
+      let w : Whole = triples k xs ++ l in
+      let at : IsSpotted w page = spotted f w legal.1 page in
+      let view : part k w ≡ xs ++ own = part_of_own k xs l in
+      listed_step f k page g of (xs ++ own) (takes_since page xs) xs (spot_of w page) (ap (λ (v : View). has_right v page) (sym view) ∙ at.has k) m.step m.answer lends.0 (λ r. (marks.0 r).0) (subst (λ (v : View). Allowed f v m.step) view legal.0.allowed)
+      (step_suits f w k m.step m.answer page at legal.0.allowed legal.0.answer_is) (taken_since xs legal.1 lends.1 marks.1) h
+
+  -- ---- a take that stands there, with those before it
+  module _ (word mask a : ℕ) (rest : List Made) where
+    here_or_later : (C : Type 0) (s : Step) (b : ℕ) (since : List Made) → (s ≡ Take page word mask → b ≡ a → since ≡ rest → C) → ((ts : List Made) → since ≡ ts ++ made (Take page word mask) a ∷ rest → C)
+        → (ts : List Made) → takes_after page s b since ≡ ts ++ made (Take page word mask) a ∷ rest → C
+    here_or_later C (Deed q d) b since here later ts is = reset ((page == q) && (b == 0)) is
+      where
+        reset : (t : Bool) → (if t then [] else since) ≡ ts ++ made (Take page word mask) a ∷ rest → C
+        reset true is = absurd (none_there ts (made (Take page word mask) a) rest is)
+        reset false is = later ts is
+    here_or_later C (TakeRight q d) b since here later ts is = reset ((page == q) && has_bit b (page % 64)) is
+      where
+        reset : (t : Bool) → (if t then [] else since) ≡ ts ++ made (Take page word mask) a ∷ rest → C
+        reset true is = absurd (none_there ts (made (Take page word mask) a) rest is)
+        reset false is = later ts is
+    here_or_later C (Take q u m) b since here later ts is = listed (page == q) ts is
+      where
+        listed : (t : Bool) (ts : List Made) → (if t then made (Take q u m) b ∷ since else since) ≡ ts ++ made (Take page word mask) a ∷ rest → C
+        listed true [] is = here (ap (first_step (Take q u m)) is) (ap (first_answer b) is) (ap all_but_first is)
+        listed true (t ∷ ts) is = later ts (ap all_but_first is)
+        listed false ts is = later ts is
+    here_or_later C s b since here later ts is = later ts is
+
+    -- it read a grain as free exactly where that was free before the search, if the takes before it didn't get it
+    pub take_read : (xs : List Made) → Legal f (triples k xs ++ l) → LendsNone xs → Always ReturnsDuly xs → Always (KeepsMarks page) xs → Word.Free page word ≡ free_word_at g → holds rest g ≡ false
+        → (ts : List Made) → takes_since page xs ≡ ts ++ made (Take page word mask) a ∷ rest → has_bit a (g % 64) ≡ free_bit l g
+    take_read [] legal lends due marks at none ts is = absurd (none_there ts (made (Take page word mask) a) rest is)
+    take_read (m ∷ xs) legal lends due marks at none ts is =
+        here_or_later (has_bit a (g % 64) ≡ free_bit l g) m.step m.answer (takes_since page xs)
+        (λ step answer since.
+        let now : a ≡ word_after (triples k xs ++ l) (free_word_at g) = sym answer ∙ (legal.0.answer_is ∙ (ap (λ (s : Step). word_after (triples k xs ++ l) (target s)) step ∙ ap (word_after (triples k xs ++ l)) at)) in
+        ap (λ (n : ℕ). has_bit n (g % 64)) now ∙ as_before since (free_bit l g) refl)
+        (λ earlier later. take_read xs legal.1 lends.1 due.1 marks.1 at none earlier later) ts is
+      where
+        not_held : takes_since page xs ≡ rest → holds xs g ≡ false
+        not_held since = false_from_ne_true (holds xs g) (λ h. false≢true (sym none ∙ (ap (λ (ms : List Made). holds ms g) (sym since) ∙ (taken_since xs legal.1 lends.1 marks.1 h).1)))
+
+        as_before : takes_since page xs ≡ rest → (t : Bool) → free_bit l g ≡ t → free_bit (triples k xs ++ l) g ≡ t
+        as_before since true free = elim (or_cases (free_bit (triples k xs ++ l) g) (holds xs g) (stays_free f k l g xs legal.1 lends.1 free)) [
+          | inl still ↦ still
+          | inr held ↦ absurd (false≢true (sym (not_held since) ∙ held))
+        ]
+        as_before since false used = (stays_used f k l g xs legal.1 lends.1 due.1 used).0
+
+-- ---- takes of all free words
+one_taken : (page word mask a : ℕ) (rest : List Made) → mask ≢ 0 → word_take page word mask a ++ rest ≡ made (Take page word mask) a ∷ rest
+one_taken page word mask a rest some = ap (λ (t : Bool). (if t then [] else made (Take page word mask) a ∷ []) ++ rest) (ne_eqb mask 0 some)
+
+-- a word of which some grain is asked for is taken, after those before it
+takes_split : (page : ℕ) (masks answers : ℕ → ℕ) (n word : ℕ) → word < n → masks word ≢ 0 → (ts : List Made) × (takes page masks answers n ≡ ts ++ made (Take page word (masks word)) (answers word) ∷ takes page masks answers word)
+takes_split page masks answers zero word lt some = absurd (omega (arith, lt))
+takes_split page masks answers (suc n) word lt some = elim (cases_eq n word) [
+  | inl same ↦ subst (λ (x : ℕ). (ts : List Made) × (takes page masks answers (suc n) ≡ ts ++ made (Take page x (masks x)) (answers x) ∷ takes page masks answers x)) same
+      ([], one_taken page n (masks n) (answers n) (takes page masks answers n) (λ z. some (ap masks (sym same) ∙ z)))
+  | inr other ↦
+      let before = takes_split page masks answers n word (omega (arith, lt, other)) some in
+      let here : List Made = word_take page n (masks n) (answers n) in
+      (here ++ before.0, ap (λ (ms : List Made). here ++ ms) before.1 ∙ sym (append_assoc here before.0 (made (Take page word (masks word)) (answers word) ∷ takes page masks answers word)))
+]
+
+-- takes of lower words get no grain of this one
+lower_take : (page n mask a g : ℕ) (rest : List Made) → n < g / 64 % 4 → holds rest g ≡ false → (t : Bool) → holds ((if t then [] else made (Take page n mask) a ∷ []) ++ rest) g ≡ false
+lower_take page n mask a g rest lt none true = none
+lower_take page n mask a g rest lt none false =
+    let other : (n == g / 64 % 4) ≡ false = ne_eqb n (g / 64 % 4) (λ same. omega (arith, lt, same)) in
+    ap (λ (t : Bool). held_after (if t && (page == g / 256) && has_bit mask (g % 64) && has_bit a (g % 64) then Gets else Stays) (holds rest g)) other ∙ none
+
+takes_below : (page : ℕ) (masks answers : ℕ → ℕ) (n g : ℕ) → n ≤ g / 64 % 4 → holds (takes page masks answers n) g ≡ false
+takes_below page masks answers zero g le = refl
+takes_below page masks answers (suc n) g le = lower_take page n (masks n) (answers n) g (takes page masks answers n) (omega (arith, le)) (takes_below page masks answers n g (omega (arith, le))) (masks n == 0)
+
+-- ---- THE SLOTS that a search took of an exclusive page are all that were free before it
+module _ (f : Profile) (k : ℕ) (l : Whole) (class page : ℕ) (searched : List Made) (starts : Mask4) (legal : Legal f (triples k searched ++ l)) (searches : AreSearch searched) (marks : Always (KeepsMarks page) searched) (took : TookSlots class page searched starts) where
+  answer_is : (b : ℕ) → b < 256 → is_usable class b ≡ true → is_set took.answers b ≡ free_of_page l page b
+  answer_is b small usable =
+      let g : ℕ = page * 256 + b in
+      let of : g / 256 ≡ page = omega (arith, small) in
+      let at_word : g / 64 % 4 ≡ b / 64 = omega (arith, small) in
+      let at_bit : b % 64 ≡ g % 64 = omega arith in
+      let word : Word.Free page (b / 64) ≡ free_word_at g = ap (λ (u : ℕ). Word.Free page u) (sym at_word) ∙ ap (λ (q : ℕ). Word.Free q (g / 64 % 4)) (sym of) in
+      let some : words took.usable (b / 64) ≢ 0 = λ z. false≢true (sym (none_of_zero (b % 64)) ∙ (ap (λ (n : ℕ). has_bit n (b % 64)) (sym z) ∙ (took.usable_are b small ∙ usable))) in
+      let split = takes_split page (words took.usable) (words took.answers) 4 (b / 64) (omega (arith, small)) some in
+      let read : has_bit (words took.answers (b / 64)) (g % 64) ≡ free_bit l g =
+      take_read f k l page g of (b / 64) (words took.usable (b / 64)) (words took.answers (b / 64)) (takes page (words took.usable) (words took.answers) (b / 64)) searched legal (lends_none searching refl searched searches.kinds) searches.returns marks word
+      (takes_below page (words took.usable) (words took.answers) (b / 64) g (omega (arith, at_word))) split.0 (took.takes ∙ split.1) in
+      ap (has_bit (words took.answers (b / 64))) at_bit ∙ (read ∙ ap (has_bit (word_after l (free_word_at g))) (sym at_bit))
+
+  usable_in : (s b : ℕ) → s + class_grains class ≤ usable_grains class → b < s + class_grains class → is_usable class b ≡ true
+  usable_in s b within high = lt-ltb b (usable_grains class) (omega (arith, within, high))
+
+  pub exclusive_free : (s : ℕ) → IsTrue (is_set starts s) ↔ IsFreeSlot class (free_of_page l page) s
+  exclusive_free s = (
+    λ set. let both = (took.are s).0 set in (both.0, λ b small low high. sym (answer_is b small (usable_in s b both.0.within high)) ∙ both.1 b small low high),
+    λ both. (took.are s).1 (both.0, λ b small low high. answer_is b small (usable_in s b both.0.within high) ∙ both.1 b small low high),
+  )

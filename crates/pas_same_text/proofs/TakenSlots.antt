@@ -1,0 +1,283 @@
+-- THE SLOTS that a search took of a page are those that the text takes of it: of an exclusive page all free ones, of a shared page the first free one and those behind
+-- it without a break, four at most.
+use Rattle.std.proofs.Common.{◌≡◌, ℕ, zero, suc, ◌+◌, ◌-◌, ◌*◌, ◌/◌, ◌<◌, ◌≤◌, ◌==◌, Bool, true, false, ◌||◌, if◌then◌else◌, List, [], ◌∷◌, IsTrue, ◌↔◌, inl, inr, refl, ap, sym, ◌∙◌, subst, arith}
+use Rattle.std.proofs.lemmas.Bool.{false≢true, eq-eqb, eqb-true, ne_eqb, or_cases, or_left, or_right, cases_Bool, false_from_ne_true}
+use Rattle.std.proofs.Math.Nat.{suc-mul, add-mul, mul-le-mul_right, mul-div_cancel}
+use Rattle.std.specs.List.{AllByRecursion, filter}
+use Rattle.pas_bits.specs.Masks.{is_set}
+use Rattle.pas_bits.specs.declared.mask.Mask4.{Mask4}
+use Rattle.pas_profile.specs.Classes.{IsClass, class_grains, slots_of}
+use Rattle.pas_profile.specs.Profiles.{IsValid}
+use Rattle.pas_profile.specs.declared.profile.Profile.{Profile}
+use Rattle.pas_profile.proofs.ClassFacts.{class_grains_positive}
+use Rattle.pas_steps.proofs.Sets.{same_truth}
+use Rattle.pas_core.specs.Rights.{free_of_page}
+use Rattle.pas_partial.specs.Rows.{IsFreeSlot, IsLowestRow}
+use Rattle.pas_answers.specs.Answers.{Progress}
+use Rattle.pas_one_text.specs.State.{World}
+use Rattle.pas_one_text.specs.Pages.{are_free, is_guarded}
+use Rattle.pas_one_text.specs.Classes.{spaced, free_slots, row_from, first_row, slots_for}
+use Rattle.pas_same_text.specs.Same.{HasSame, IsRising, has_number}
+use Rattle.pas_same_text.specs.Acts.{IsBetween}
+use Rattle.pas_same_text.proofs.ClassFits.{slot_there, slot_index, slot_tested, slot_free}
+use Rattle.pas_same_text.proofs.SpacedPlaces.{in_spaced, from_spaced}
+use Rattle.pas_same_text.proofs.Tests.{filtered_has, has_filtered}
+
+-- ---- places that follow each other at a step, and pass a test
+-- they rise
+kept_above : (low x : ℕ) (xs : List ℕ) (t : Bool) → low < x → AllByRecursion (λ m. low < m) xs → AllByRecursion (λ m. low < m) (if t then x ∷ xs else xs)
+kept_above low x xs true lt all = (lt, all)
+kept_above low x xs false lt all = all
+
+all_above : (test : ℕ → Bool) (n from step low : ℕ) → low < from → AllByRecursion (λ m. low < m) (filter test (spaced from step n))
+all_above test zero from step low lt = tt
+all_above test (suc n) from step low lt = kept_above low from (filter test (spaced (from + step) step n)) (test from) lt (all_above test n (from + step) step low (omega (arith, lt)))
+
+kept_rising : (x : ℕ) (xs : List ℕ) (t : Bool) → AllByRecursion (λ m. x < m) xs → IsRising xs → IsRising (if t then x ∷ xs else xs)
+kept_rising x xs true all rising = (all, rising)
+kept_rising x xs false all rising = rising
+
+rising_places : (test : ℕ → Bool) (n from step : ℕ) → 1 ≤ step → IsRising (filter test (spaced from step n))
+rising_places test zero from step some = tt
+rising_places test (suc n) from step some =
+    kept_rising from (filter test (spaced (from + step) step n)) (test from) (all_above test n (from + step) step from (omega (arith, some))) (rising_places test n (from + step) step some)
+
+-- the i-th place is there, and each that is there is the i-th for some i
+place_there : (n from step i : ℕ) → i < n → has_number (spaced from step n) (from + i * step) ≡ true
+place_there n from step i lt = in_spaced (λ m. m == (from + i * step)) n from step i lt (eq-eqb (from + i * step) (from + i * step) refl)
+
+there_place : (n from step s : ℕ) → has_number (spaced from step n) s ≡ true → (i : ℕ) × (i < n) × (from + i * step ≡ s)
+there_place n from step s h = let o = from_spaced (λ m. m == s) n from step h in (o.0, o.1, eqb-true (from + o.0 * step) s o.2)
+
+-- ---- those that follow each other without a break
+no_row : (next step m : ℕ) (xs : List ℕ) → AllByRecursion (λ x. next < x) xs → row_from next step m xs ≡ []
+no_row next step zero xs all = refl
+no_row next step (suc m) [] all = refl
+no_row next step (suc m) (x ∷ xs) all =
+    let lt : next < x = all.0 in
+    ap (λ (t : Bool). if t then x ∷ row_from (next + step) step m xs else []) (ne_eqb x next (λ same. omega (arith, lt, same)))
+
+-- the head is in the row where it is the place that is due
+row_head : (next step m : ℕ) (xs : List ℕ) → row_from next step (suc m) (next ∷ xs) ≡ next ∷ row_from (next + step) step m xs
+row_head next step m xs = ap (λ (t : Bool). if t then next ∷ row_from (next + step) step m xs else []) (eq-eqb next next refl)
+
+-- s is the i-th of n places from this one on, for an i below m, and all up to it pass
+abbrev InRow : (ℕ → Bool) → ℕ → ℕ → ℕ → ℕ → ℕ → Type 0
+InRow test step m n next s = (i : ℕ) × (i < m) × (i < n) × (s ≡ next + i * step) × ((j : ℕ) → j ≤ i → test (next + j * step) ≡ true)
+
+module _ (test : ℕ → Bool) (step : ℕ) (some : 1 ≤ step) where
+  abbrev places : ℕ → ℕ → List ℕ
+  places from n = filter test (spaced from step n)
+
+  later_place : (from i : ℕ) → from + step + i * step ≡ from + suc i * step
+  later_place from i = let m = suc-mul i step in omega (arith, m)
+
+  first_place : (from : ℕ) → from + 0 * step ≡ from
+  first_place from = omega arith
+
+  -- the places from this one on, as it passes or not
+  passing : (from n : ℕ) → test from ≡ true → places from (suc n) ≡ from ∷ places (from + step) n
+  passing from n so = ap (λ (t : Bool). if t then from ∷ places (from + step) n else places (from + step) n) so
+
+  failing : (from n : ℕ) → test from ≡ false → places from (suc n) ≡ places (from + step) n
+  failing from n so = ap (λ (t : Bool). if t then from ∷ places (from + step) n else places (from + step) n) so
+
+  -- the head of a row whose first place passes
+  row_passing : (m n next s : ℕ) → test next ≡ true → has_number (row_from next step (suc m) (places next (suc n))) s ≡ ((next == s) || has_number (row_from (next + step) step m (places (next + step) n)) s)
+  row_passing m n next s so = ap (λ (xs : List ℕ). has_number xs s) (ap (row_from next step (suc m)) (passing next n so) ∙ row_head next step m (places (next + step) n))
+
+  -- what stands in a row of m at most is in it by this, and the other way round
+  in_row : (m n next s : ℕ) → has_number (row_from next step m (places next n)) s ≡ true → InRow test step m n next s
+  in_row zero n next s h = absurd (false≢true h)
+  in_row (suc m) zero next s h = absurd (false≢true h)
+  in_row (suc m) (suc n) next s h = elim (cases_Bool (test next)) [
+    | inl so ↦ elim (or_cases (next == s) (has_number (row_from (next + step) step m (places (next + step) n)) s)
+        (sym (row_passing m n next s so) ∙ h)) [
+          | inl here ↦ (0, omega arith, omega arith, sym (eqb-true next s here) ∙ sym (first_place next), λ j le. ap test (at_first j le) ∙ so)
+          | inr later ↦
+              let o = in_row m n (next + step) s later in
+              let lt = o.1 in
+              let less = o.2 in
+              (suc o.0, omega (arith, lt), omega (arith, less), o.3 ∙ later_place next o.0, λ j le. each_one o.0 j le o.4 so)
+        ]
+    | inr fails ↦ absurd (false≢true (ap (λ (xs : List ℕ). has_number xs s) (sym (ap (row_from next step (suc m)) (failing next n fails) ∙ no_row next step (suc m) (places (next + step) n) (all_above test n (next + step) step next (omega (arith, some))))) ∙ h))
+  ]
+    where
+      at_first : (j : ℕ) → j ≤ 0 → next + j * step ≡ next
+      at_first zero le = first_place next
+      at_first (suc j) le = absurd (omega (arith, le))
+
+      each_one : (i j : ℕ) → j ≤ suc i → ((j : ℕ) → j ≤ i → test (next + step + j * step) ≡ true) → test next ≡ true → test (next + j * step) ≡ true
+      each_one i zero le rest so = ap test (first_place next) ∙ so
+      each_one i (suc j) le rest so = ap test (sym (later_place next j)) ∙ rest j (omega (arith, le))
+
+  row_has : (m n next i : ℕ) → i < m → i < n → ((j : ℕ) → j ≤ i → test (next + j * step) ≡ true) → has_number (row_from next step m (places next n)) (next + i * step) ≡ true
+  row_has zero n next i few less all = absurd (omega (arith, few))
+  row_has (suc m) zero next i few less all = absurd (omega (arith, less))
+  row_has (suc m) (suc n) next zero few less all =
+      row_passing m n next (next + 0 * step) (ap test (sym (first_place next)) ∙ all 0 (omega arith))
+      ∙ or_left (next == (next + 0 * step)) (has_number (row_from (next + step) step m (places (next + step) n)) (next + 0 * step)) (eq-eqb next (next + 0 * step) (sym (first_place next)))
+  row_has (suc m) (suc n) next (suc i) few less all =
+      row_passing m n next (next + suc i * step) (ap test (sym (first_place next)) ∙ all 0 (omega arith))
+      ∙ or_right (next == (next + suc i * step)) (has_number (row_from (next + step) step m (places (next + step) n)) (next + suc i * step))
+      (ap (has_number (row_from (next + step) step m (places (next + step) n))) (sym (later_place next i))
+      ∙ row_has m n (next + step) i (omega (arith, few)) (omega (arith, less)) (λ j le. ap test (later_place next j) ∙ all (suc j) (omega (arith, le))))
+
+  -- ---- the places before the first that passes
+  skipped : (i n rest from : ℕ) → i + rest ≡ n → ((j : ℕ) → j < i → test (from + j * step) ≡ false) → places from n ≡ places (from + i * step) rest
+  skipped zero n rest from is before = ap (places from) (let e = is in omega (arith, e)) ∙ ap (λ (x : ℕ). places x rest) (sym (first_place from))
+  skipped (suc i) zero rest from is before = absurd (omega (arith, is))
+  skipped (suc i) (suc n) rest from is before =
+      failing from n (ap test (sym (first_place from)) ∙ before 0 (omega arith))
+      ∙ (skipped i n rest (from + step) (omega (arith, is)) (λ j lt. ap test (later_place from j) ∙ before (suc j) (omega (arith, lt)))
+      ∙ ap (λ (x : ℕ). places x rest) (later_place from i))
+
+  -- the row begins with it
+  first_row_is : (from n : ℕ) → 1 ≤ n → test from ≡ true → first_row step (places from n) ≡ row_from from step 4 (places from n)
+  first_row_is from zero less so = absurd (omega (arith, less))
+  first_row_is from (suc n) less so = ap (first_row step) (passing from n so) ∙ sym (ap (row_from from step 4) (passing from n so))
+
+-- ---- a row rises
+kept_row : (P : ℕ → Type 0) (x : ℕ) (xs : List ℕ) (t : Bool) → P x → AllByRecursion P xs → AllByRecursion P (if t then x ∷ xs else [])
+kept_row P x xs true so all = (so, all)
+kept_row P x xs false so all = tt
+
+all_row : (P : ℕ → Type 0) (step m next : ℕ) (xs : List ℕ) → AllByRecursion P xs → AllByRecursion P (row_from next step m xs)
+all_row P step zero next xs all = tt
+all_row P step (suc m) next [] all = tt
+all_row P step (suc m) next (x ∷ xs) all = kept_row P x (row_from (next + step) step m xs) (x == next) all.0 (all_row P step m (next + step) xs all.1)
+
+row_next : (x : ℕ) (xs : List ℕ) (t : Bool) → AllByRecursion (λ m. x < m) xs → IsRising xs → IsRising (if t then x ∷ xs else [])
+row_next x xs true all rising = (all, rising)
+row_next x xs false all rising = tt
+
+rising_row : (step m next : ℕ) (xs : List ℕ) → IsRising xs → IsRising (row_from next step m xs)
+rising_row step zero next xs rising = tt
+rising_row step (suc m) next [] rising = tt
+rising_row step (suc m) next (x ∷ xs) rising = row_next x (row_from (next + step) step m xs) (x == next) (all_row (λ y. x < y) step m (next + step) xs rising.0) (rising_row step m (next + step) xs rising.1)
+
+rising_first : (step : ℕ) (xs : List ℕ) → IsRising xs → IsRising (first_row step xs)
+rising_first step [] rising = tt
+rising_first step (x ∷ xs) rising = rising_row step 4 x (x ∷ xs) rising
+
+-- ---- THE SLOTS of the text are the bits of a mask
+module _ (f : Profile) (p : Progress) (w : World) (valid : IsValid f) (between : IsBetween f p) (same : HasSame f p w) (class : ℕ) (is : IsClass class) (page : ℕ) (starts : Mask4) (none : is_guarded w page ≡ false) where
+  abbrev step : ℕ
+  step = class_grains class
+
+  abbrev count : ℕ
+  count = slots_of class
+
+  abbrev test : ℕ → Bool
+  test s = are_free w page s step
+
+  abbrev IsFree : ℕ → Type 0
+  IsFree s = IsFreeSlot class (free_of_page p.list page) s
+
+  some : 1 ≤ step
+  some = class_grains_positive class is
+
+  -- the i-th slot is free where it passes
+  free_at : (i : ℕ) → i < count → test (i * step) ≡ true → IsFree (i * step)
+  free_at i lt so = (slot_there f p w valid between same class is i lt, slot_free f p w valid between same class is page (i * step) none so)
+
+  tested : (s : ℕ) → IsFree s → test s ≡ true
+  tested s free = slot_tested f p w valid between same class is page s free.0 free.1
+
+  rising_free : IsRising (free_slots w class page)
+  rising_free = rising_places test count 0 step some
+
+  -- ---- of an exclusive page
+  module _ (all : (s : ℕ) → IsTrue (is_set starts s) ↔ IsFree s) where
+    all_to : (s : ℕ) → has_number (free_slots w class page) s ≡ true → is_set starts s ≡ true
+    all_to s h =
+        let o = filtered_has test (spaced 0 step count) s h in
+        let i = there_place count 0 step s o.1 in
+        let at : i.0 * step ≡ s = let e = i.2 in omega (arith, e) in
+        (all s).1 (subst IsFree at (free_at i.0 i.1 (ap test at ∙ o.0)))
+
+    all_from : (s : ℕ) → is_set starts s ≡ true → has_number (free_slots w class page) s ≡ true
+    all_from s set =
+        let free = (all s).0 set in
+        let i = slot_index f p w valid between same class is s free.0 in
+        let at : 0 + i.0 * step ≡ s = let e = i.2 in omega (arith, e) in
+        has_filtered test (spaced 0 step count) s (tested s free) (ap (has_number (spaced 0 step count)) (sym at) ∙ place_there count 0 step i.0 i.1)
+
+    pub all_taken : (s : ℕ) → has_number (slots_for false w class page) s ≡ is_set starts s
+    all_taken s = same_truth (has_number (free_slots w class page) s) (is_set starts s) (all_to s) (all_from s)
+
+  -- ---- of a shared page
+  module _ (row : IsLowestRow class (free_of_page p.list page) starts) where
+    abbrev first : ℕ
+    first = row.first
+
+    abbrev index : ℕ
+    index = (slot_index f p w valid between same class is first row.free.0).0
+
+    below : index < count
+    below = (slot_index f p w valid between same class is first row.free.0).1
+
+    at_first : index * step ≡ first
+    at_first = (slot_index f p w valid between same class is first row.free.0).2
+
+    abbrev left : ℕ
+    left = count - index
+
+    -- no slot before it is free
+    none_before : (j : ℕ) → j < index → test (0 + j * step) ≡ false
+    none_before j lt =
+        let few = below in
+        let at : 0 + j * step ≡ j * step = omega arith in
+        false_from_ne_true (test (0 + j * step)) (λ so.
+        let next : suc j * step ≤ index * step = mul-le-mul_right step lt in
+        let m = suc-mul j step in
+        let place = at_first in
+        let one = some in
+        row.lowest (j * step) (omega (arith, next, m, place, one)) (free_at j (omega (arith, lt, few)) (ap test (sym at) ∙ so)))
+
+    slots_are : slots_for true w class page ≡ row_from first step 4 (filter test (spaced first step left))
+    slots_are =
+        let few = below in
+        let place : 0 + index * step ≡ first = let e = at_first in omega (arith, e) in
+        ap (first_row step) (skipped test step some index count left 0 (omega (arith, few)) none_before ∙ ap (λ (x : ℕ). filter test (spaced x step left)) place)
+        ∙ first_row_is test step some first left (omega (arith, few)) (tested first row.free)
+
+    -- the i-th slot behind it
+    behind : (i : ℕ) → first + i * step ≡ (index + i) * step
+    behind i = let place = at_first in let sum = add-mul index i step in omega (arith, place, sum)
+
+    index_of : (i s : ℕ) → s ≡ first + i * step → IsFree s → i < left
+    index_of i s at free =
+        let o = slot_index f p w valid between same class is s free.0 in
+        let lt = o.1 in
+        let few = below in
+        let same_place : o.0 * step ≡ (index + i) * step = o.2 ∙ (at ∙ behind i) in
+        let is_index : o.0 ≡ index + i = same_times o.0 (index + i) same_place in
+        omega (arith, lt, is_index, few)
+      where
+        same_times : (a b : ℕ) → a * step ≡ b * step → a ≡ b
+        same_times a b e = sym (mul-div_cancel a some) ∙ (ap (λ (x : ℕ). x / step) e ∙ mul-div_cancel b some)
+
+    abbrev row_left : List ℕ
+    row_left = row_from first step 4 (filter test (spaced first step left))
+
+    row_to : (s : ℕ) → has_number row_left s ≡ true → is_set starts s ≡ true
+    row_to s h =
+        let o = in_row test step some 4 left first s h in
+        let less = o.2 in
+        let few = below in
+        (row.are s).1 (o.0, o.1, o.3, λ j le. subst IsFree (sym (behind j)) (free_at (index + j) (omega (arith, le, less, few)) (ap test (sym (behind j)) ∙ o.4 j le)))
+
+    row_of : (s : ℕ) → is_set starts s ≡ true → has_number row_left s ≡ true
+    row_of s set =
+        let o = (row.are s).0 set in
+        let this : IsFree s = subst IsFree (sym o.2) (o.3 o.0 (omega arith)) in
+        ap (has_number row_left) o.2 ∙ row_has test step some 4 left first o.0 o.1 (index_of o.0 s o.2 this) (λ j le. tested (first + j * step) (o.3 j le))
+
+    pub row_taken : (s : ℕ) → has_number (slots_for true w class page) s ≡ is_set starts s
+    row_taken s = ap (λ (xs : List ℕ). has_number xs s) slots_are ∙ same_truth (has_number row_left s) (is_set starts s) (row_to s) (row_of s)
+
+  -- the slots rise
+  pub slots_rise : (shared : Bool) → IsRising (slots_for shared w class page)
+  slots_rise false = rising_free
+  slots_rise true = rising_first step (free_slots w class page) rising_free

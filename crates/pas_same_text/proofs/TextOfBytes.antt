@@ -1,0 +1,50 @@
+-- THE TEXT OF THE BYTES is that of a replay of any plan of them.
+use Rattle.std.proofs.Common.{◌≡◌, ℕ, ◌==◌, if◌then◌else◌, List, Option, Some, ap, sym, ◌∙◌, arith}
+use Rattle.pas_profile.specs.declared.profile.Profile.{Profile}
+use Rattle.pas_trace.specs.Plans.{IsPlanOf, Parsed, shared_in}
+use Rattle.pas_trace.specs.Reasons.{guard_in}
+use Rattle.pas_trace.specs.declared.plan.Op.{Op}
+use Rattle.pas_trace.specs.declared.plan.Plan.{Plan}
+use Rattle.pas_trace.proofs.Keepers.{plan_actors}
+use Rattle.pas_answers.specs.Replays.{phases_of, region_of, keepers_of}
+use Rattle.pas_one_text.specs.State.{World}
+use Rattle.pas_one_text.specs.Order.{replayed, replay_of, order_text, text_for, region_of as text_region}
+use Rattle.pas_one_text.specs.Reports.{text_of}
+
+-- the region of a plan without keepers has no other actors than its threads
+region_same : (plan : Plan) → keepers_of plan ≡ 0 → plan.profile ≡ region_of plan
+region_same plan none =
+    let actors = plan_actors plan in
+    let many : plan.profile.threads ≡ (region_of plan).threads = omega (arith, actors, none) in
+    ap (λ (n : ℕ). let f : Profile = record plan.profile { threads = n } in f) many
+
+-- whatever is told of a region and of what a replay in it comes to
+module _ {A : Type 0} (tells : Profile → World → A) where
+  abbrev by_parts : Profile → ℕ → List (List Op) → A
+  by_parts f keepers phases = tells f (replayed f keepers phases)
+
+  -- The replay of the text is that of its plan, in whose region the threads alone are actors.
+  pub replay_told : (bytes : List ℕ) (plan : Plan) (is : IsPlanOf bytes plan)
+      → (let p : Parsed = record { header = is.header; items = is.items } in tells (text_region p) (replay_of p)) ≡ tells plan.profile (replayed plan.profile (keepers_of plan) (phases_of plan))
+  replay_told bytes plan is =
+      let f : Profile = record is.header.profile { shared = shared_in is.items } in
+      let keepers : (if guard_in is.items == 0 then 0 else is.header.profile.threads) ≡ keepers_of plan =
+      ap (λ (guard : ℕ). if guard == 0 then 0 else is.header.profile.threads) (sym is.guard) ∙ ap (λ (g : Profile). if plan.guard == 0 then 0 else g.threads) (sym is.profile)
+      in
+      ap (by_parts f (if guard_in is.items == 0 then 0 else is.header.profile.threads)) (sym is.phases)
+      ∙ (ap (λ (n : ℕ). by_parts f n (phases_of plan)) keepers ∙ ap (λ (g : Profile). by_parts g (keepers_of plan) (phases_of plan)) (sym is.profile))
+
+  -- .. and where there are no keepers, in the region of the plan's replays
+  pub unguarded_told : (bytes : List ℕ) (plan : Plan) (is : IsPlanOf bytes plan) → keepers_of plan ≡ 0
+      → (let p : Parsed = record { header = is.header; items = is.items } in tells (text_region p) (replay_of p)) ≡ tells (region_of plan) (replayed (region_of plan) (keepers_of plan) (phases_of plan))
+  unguarded_told bytes plan is none = replay_told bytes plan is ∙ ap (λ (f : Profile). by_parts f (keepers_of plan) (phases_of plan)) (region_same plan none)
+
+abbrev its_text : Profile → World → Option (List ℕ)
+its_text f w = Some (text_of f w)
+
+pub bytes_told : (bytes : List ℕ) (plan : Plan) → IsPlanOf bytes plan → order_text bytes ≡ Some (text_of plan.profile (replayed plan.profile (keepers_of plan) (phases_of plan)))
+bytes_told bytes plan is = ap text_for is.read ∙ replay_told its_text bytes plan is
+
+pub unguarded_bytes_told : (bytes : List ℕ) (plan : Plan) → IsPlanOf bytes plan → keepers_of plan ≡ 0
+    → order_text bytes ≡ Some (text_of (region_of plan) (replayed (region_of plan) (keepers_of plan) (phases_of plan)))
+unguarded_bytes_told bytes plan is none = ap text_for is.read ∙ unguarded_told its_text bytes plan is none
