@@ -13,18 +13,21 @@ use Rattle.pas_report.specs.Lines.{lines_of}
 use Rattle.pas_report.specs.Marks.{marks_after}
 use Rattle.pas_report.specs.Reports.{report_text, total_line}
 use Rattle.pas_report.specs.Rests.{AreStamped, HasWords}
+use Rattle.pas_report.specs.Rooms.{records_in}
 use Rattle.pas_report.specs.declared.record.Record.{Record}
 use Rattle.pas_report.proofs.Agreeing.{line_agrees}
 use Rattle.pas_report.proofs.ReportOfWords.{are_deed_words, nobody_holds, report_agrees}
 use Rattle.pas_answers.specs.Replays.{Shows}
-use Rattle.pas_answers.specs.Ways.{Way}
+use Rattle.pas_answers.specs.Ways.{Way, InOrder}
 use Rattle.pas_plans.proofs.PlanFacts.{plan_valid}
 use Rattle.pas_answers.proofs.Consequences.{can_be_shown}
 use Rattle.pas_words.specs.declared.manner.Manner.{Manner}
 use Rattle.pas_top.specs.Manners.{way_of}
+use Rattle.pas_top.specs.OneText.{IsOfOne}
 use Rattle.pas_top.specs.Outcomes.{IsOutcome}
 use Rattle.pas_telling.specs.Outcomes.{IsShown, IsWritable, outcome_status, outcome_text, shown_text}
 use Rattle.pas_top.specs.Outputs.{most_bytes, too_long_text, ComesTo, IsReplaying, IsReplayStatus, IsOutput, IsReplayed}
+use Rattle.pas_top.proofs.OneText.{alone_of, text_by}
 use Rattle.pas_telling.specs.declared.outcome.Outcome.{Outcome}
 use Rattle.pas_telling.specs.declared.outcome.Outcome.TheVariants.{Replayed, Faulty}
 
@@ -66,11 +69,15 @@ module _ {bytes : List ℕ} {way : Way} {plan : Plan} {records : List Record} {s
 
 -- ---- what an input comes to
 pub can_write : (way : Way) (bytes : List ℕ) (outcome : Outcome) → IsOutcome way bytes outcome → IsWritable outcome
-can_write way bytes (Replayed records state) replay = can_show replay.read replay.shows
+can_write way bytes (Replayed records state) replay = can_show replay.read replay.shown.shows
 can_write way bytes (Faulty fault) first = tt
 
 pub comes_to : (way : Way) (bytes : List ℕ) (outcome : Outcome) → length bytes ≤ most_bytes → IsOutcome way bytes outcome → ComesTo way bytes (outcome_status outcome) (outcome_text outcome)
-comes_to way bytes (Replayed records state) short replay = inl (refl, record { short = short; replayed = shown_replayed replay.read replay.shows })
+comes_to way bytes (Replayed records state) short replay =
+    let text : List ℕ = shown_text (records_in records) state in
+    let replayed : IsReplayed way bytes text = shown_replayed replay.read replay.shown.shows in
+    let alone : IsOfOne bytes → IsReplayed InOrder bytes text = λ one. shown_replayed replay.read (replay.shown.alone (alone_of bytes replay.plan replay.read one)) in
+    inl (refl, record { short = short; replayed = replayed; told = text_by way bytes text replayed alone })
 comes_to way bytes (Faulty fault) short first = inr (inl (refl, record { short = short; fault = fault; first = first; text_is = refl }))
 
 pub status_not_four : (outcome : Outcome) → outcome_status outcome ≡ 4 → ⊥

@@ -4,3 +4,4 @@ mod Checks
 mod Summing
 mod Accepting
 mod Reading
+mod OneText

@@ -21,10 +21,10 @@ pub summarized : (seed ops threads pages : ℕ) (bytes : List ℕ) (records : Li
 summarized seed ops threads pages bytes records state text is from text_is = record {
   plan = is.plan;
   read = subst (λ (t : List ℕ). IsPlanOf t is.plan) from is.read;
-  whole = is.shows.whole;
+  whole = is.shown.shows.whole;
   records = records;
-  replay = is.shows.replay;
-  text_is = text_is ∙ ap (summary_text ops records) (totals_are is.read is.shows);
+  replay = is.shown.shows.replay;
+  text_is = text_is ∙ ap (summary_text ops records) (totals_are is.read is.shown.shows);
 }
 
 -- ---- a call that told it

@@ -6,15 +6,21 @@ use Rattle.pas_trace.specs.declared.plan.Plan.{Plan}
 use Rattle.pas_report.specs.Rooms.{records_in}
 use Rattle.pas_report.specs.declared.record.Record.{Record}
 use Rattle.pas_answers.specs.Replays.{Shows}
-use Rattle.pas_answers.specs.Ways.{Way}
+use Rattle.pas_answers.specs.Ways.{Way, InOrder}
+use Rattle.pas_replay.specs.OneThread.{IsOfOneThread}
 use Rattle.pas_telling.specs.declared.outcome.Outcome.{Outcome}
 use Rattle.pas_telling.specs.declared.outcome.Outcome.TheVariants.{Replayed, Faulty}
+
+-- a replay of the plan in this way shows these, and so does one in the order of the text, where nothing in the plan could be at once
+pub record ShowsBy (way : Way) (plan : Plan) (records : List Record) (state : State) : Type 0 where
+  pub shows : Shows way plan records state
+  pub alone : IsOfOneThread plan → Shows InOrder plan records state
 
 -- the bytes are a trace, and its replay in this way shows these
 pub record IsShowing (way : Way) (bytes : List ℕ) (records : List Record) (state : State) : Type 0 where
   pub plan : Plan
   pub read : IsPlanOf bytes plan
-  pub shows : Shows way plan records state
+  pub shown : ShowsBy way plan records state
 
 abbrev pub IsOutcome : Way → List ℕ → Outcome → Type 0
 IsOutcome way bytes (Replayed records state) = IsShowing way bytes (records_in records) state

@@ -18,6 +18,7 @@ use Rattle.pas_telling.specs.Faults.{fault_text}
 use Rattle.pas_top.specs.Generating.{IsSummarized}
 use Rattle.pas_top.specs.Judgements.{IsJudged, verdict_status, verdict_text}
 use Rattle.pas_top.specs.Manners.{way_of}
+use Rattle.pas_top.specs.OneText.{IsTextBy, IsSummaryOf}
 use Rattle.pas_words.specs.declared.manner.Manner.{Manner}
 pub use Rattle.pas_words.specs.Words.{texts_of, IsReplaying, IsChecking, ReadsInput, IsGen, IsAccepted}
 
@@ -42,10 +43,11 @@ abbrev pub too_long_text : List ℕ
 too_long_text = codes "input too long\n"
 
 -- ---- what an input of the source comes to, replayed in a way, with the status and the text
--- 0: its replay; 1: its first fault; 6: it is too long
+-- 0: its replay, and in the order of the text that is the text of the bytes; 1: its first fault; 6: it is too long
 pub record IsTranscript (way : Way) (bytes text : List ℕ) : Type 0 where
   pub short : length bytes ≤ most_bytes
   pub replayed : IsReplayed way bytes text
+  pub told : IsTextBy way bytes text
 
 pub record IsFaulty (bytes text : List ℕ) : Type 0 where
   pub short : length bytes ≤ most_bytes
@@ -85,9 +87,9 @@ IsReplayStatus status = (status ≡ 0) ⊎ (status ≡ 1) ⊎ (status ≡ 6)
 abbrev pub IsCheckStatus : ℕ → Type 0
 IsCheckStatus status = IsReplayStatus status ⊎ (status ≡ 8)
 
--- what a generated trace comes to, with the status 0 and the text: the summary of its replay
+-- what a generated trace comes to, with the status 0 and the text: the summary of its replay, which is that of its numbers
 abbrev pub GenComesTo : ℕ → ℕ → ℕ → ℕ → ℕ → List ℕ → Type 0
-GenComesTo seed ops threads pages status text = (status ≡ 0) × IsSummarized seed ops threads pages text
+GenComesTo seed ops threads pages status text = (status ≡ 0) × IsSummarized seed ops threads pages text × IsSummaryOf seed ops threads pages text
 
 -- the words ask for a generated trace, which comes to this
 pub record IsGenOutput (words : List (List ℕ)) (status : ℕ) (text : List ℕ) : Type 0 where

@@ -9,6 +9,7 @@ ghost use Rattle.pas_check.specs.Inputs.{trace_in};
 ghost use Rattle.pas_check.specs.declared.verdict.Verdict.{Verdict};
 ghost use Rattle.pas_words.specs.declared.manner.Manner.{Manner};
 ghost use Rattle.pas_top.specs.Judgements.{IsJudged, verdict_status};
+ghost use Rattle.pas_top.specs.OneText.{WritesTextOf};
 ghost use Rattle.pas_top.specs.Outputs.{most_bytes, texts_of, IsReplaying, IsChecking, ReadsInput, IsGen, IsAccepted, IsStatus, IsWriting, IsWritten, HasFailed, IsCutOff};
 
 use crate::generating::generate;
@@ -29,7 +30,8 @@ use std::thread::Threads;
 /// generated trace in the order of its text and writes its summary; nothing is read.
 ///
 /// The status is
-/// - 0: the transcript and the report, or the summary, or the verdict yes were written.
+/// - 0: the transcript and the report, or the summary, or the verdict yes were written. What `order` wrote is the one text of the bytes, a
+///   function of them.
 /// - 1: the input is no trace, or what stands in the place of its trace is none, and the first fault was written.
 /// - 2: the words are others. The usage was written, and nothing was read.
 /// - 3: a read failed, before more bytes were taken than an input may have. Nothing was written.
@@ -49,6 +51,8 @@ pub fn pas_main<R: Threads + Wait + Sync, S: Source, K: Sink>(
 ) -> u8
     ensures status { IsStatus result }
     ensures written { IsWriting result → IsWritten (texts_of words.now) (S.rest source.old) (K.held sink.old) (K.held sink.new) result }
+    ensures text { IsReplaying Manner.InOrder (texts_of words.now) → (bytes : List ℕ) → S.rest source.old ≡ Some bytes → result ≡ 0
+        → WritesTextOf bytes (K.held sink.old) (K.held sink.new) }
     ensures usage { (IsAccepted (texts_of words.now) → ⊥) → (source.new ≡ source.old) × ((result ≡ 2) ⊎ (result ≡ 4)) }
     ensures generated { (seed ops threads pages : ℕ) → IsGen (texts_of words.now) seed ops threads pages
         → (source.new ≡ source.old) × ((result ≡ 0) ⊎ (result ≡ 4) ⊎ (result ≡ 5)) }

@@ -7,7 +7,7 @@ ghost use Rattle.pas_answers.specs.Ways.{InOrder, OnThreads};
 ghost use Rattle.pas_io.specs.Told.{Tells};
 ghost use Rattle.pas_telling.specs.Outcomes.{IsWritable, outcome_text, outcome_status};
 ghost use Rattle.pas_top.specs.Manners.{way_of};
-ghost use Rattle.pas_top.specs.Outcomes.{IsOutcome};
+ghost use Rattle.pas_top.specs.Outcomes.{IsOutcome, ShowsBy};
 
 use crate::opening::{kit_of, read_for_threads};
 use crate::remaking::Reallocation;
@@ -135,7 +135,7 @@ fn replay_in_order(alloc: Global, plan: &Plan, out: &mut Records) -> Result<Stat
 }
 
 /// Replays the plan on threads, with what was made ahead for it, if that was. A plan of one thread has nothing that could be at once, and is
-/// replayed over plain words.
+/// replayed over plain words, in the order of its text.
 fn replay_on_threads<R: Threads + Wait + Sync>(
     rt: &R,
     alloc: Global,
@@ -146,7 +146,7 @@ fn replay_on_threads<R: Threads + Wait + Sync>(
     requires plan { (text : List ℕ) × (length text ≤ 16777216) × IsPlanOf text plan.now }
     requires empty { records_in out.old ≡ [] }
     requires room { plan.now.total + length (phases_of plan.now) + 1 ≤ room_of out.old }
-    ensures { IfOk result (λ ended. Shows OnThreads plan.now (records_in out.new) ended.0) }
+    ensures { IfOk result (λ ended. ShowsBy OnThreads plan.now (records_in out.new) ended.0) }
 {
     if is_of_one_thread(plan) {
         let kit = PlainKit::try_new(alloc, plan)?;

@@ -1,5 +1,5 @@
 use Rattle.pas_replay.proofs.RecordsOfOne.{shows_of_one}
 use Rattle.pas_replay.proofs.alone.by_one_thread.Goals as goal
 
-pub returns : goal.returns
-returns g c = shows_of_one c.requires.plan.2 c.requires.alone c.in_order.ensures
+pub returns-clause-on_threads : goal.returns-clause-on_threads
+returns-clause-on_threads g c = shows_of_one c.requires.plan.2 c.requires.alone c.in_order.ensures

@@ -8,6 +8,7 @@ use Rattle.pas_top.specs.Outputs.{IsReplaying, IsChecking, IsAccepted, most_byte
 use Rattle.pas_top.proofs.Statuses.{cut_off, not_four, nothing_left, sound, written}
 use Rattle.pas_top.proofs.Checks.{ended_status, ended_written, ended_failed, ended_cut_off, ended_sound, ended_long, ended_mistraced, ended_judged, ended_checked}
 use Rattle.pas_top.proofs.Headline.{can_write, outcome_output, too_long_output, status_not_four}
+use Rattle.pas_top.proofs.OneText.{written_told}
 use Rattle.pas_top.proofs.main_call.pas_main.Goals as goal
 
 pub returns-in-Ok-Gen-clause-written : goal.returns-in-Ok-Gen-clause-written
@@ -40,6 +41,9 @@ returns-in-Ok-clause-written g c = λ writing.
     (λ bytes told. let input = subst (IsInput most_bytes bytes) c.in-Ok-Whole.field-0-is (c.in-Ok-Whole.ensures.input bytes told) in input)
     c.in-Ok.ensures)
     (not_four c.tell_outcome.result writing)
+
+pub returns-in-Ok-clause-text : goal.returns-in-Ok-clause-text
+returns-in-Ok-clause-text g c asked bytes told zero = written_told (texts_of c.args.words.now) (g.S.Source.rest c.args.source.now) _ _ c.tell_outcome.result asked (returns-in-Ok-clause-written g c (inl zero)) bytes told zero
 
 pub returns-in-Ok-clause-sink_failed : goal.returns-in-Ok-clause-sink_failed
 returns-in-Ok-clause-sink_failed g c =

@@ -5,4 +5,4 @@ pub records_for-requires : goal.records_for-requires
 records_for-requires g c = (c.args.bytes.items, c.requires, read_plan _ _ _ _ c.deref.ensures.value c.in-Ok.is c.read_for_threads-read.ensures)
 
 pub returns : goal.returns
-returns g c = record { plan = c.in-Ok.plan; read = read_plan _ _ _ _ c.deref.ensures.value c.in-Ok.is c.read_for_threads-read.ensures; shows = c.in_ok-state.ensures }
+returns g c = record { plan = c.in-Ok.plan; read = read_plan _ _ _ _ c.deref.ensures.value c.in-Ok.is c.read_for_threads-read.ensures; shown = c.in_ok-state.ensures }

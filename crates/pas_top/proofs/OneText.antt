@@ -1,0 +1,131 @@
+-- What is written of a replay in the order of the text is the text of the bytes, and the summary of a generated trace that of its numbers.
+use Rattle.std.proofs.Common.{◌≡◌, ℕ, zero, suc, ◌%◌, ◌==◌, nat_eq, Bool, true, false, if◌then◌else◌, List, [], ◌∷◌, Option, Some, Result, Ok, Err, codes, get_or, inl, inr, refl, ap, sym, subst, ◌∙◌, arith}
+use Rattle.std.specs.List.{AllByRecursion}
+use Rattle.pas_profile.specs.declared.profile.Profile.{Profile}
+use Rattle.pas_profile.specs.declared.event.Event.{Event}
+use Rattle.pas_trace.specs.EveryPlan.{all_ops}
+use Rattle.pas_trace.specs.Plans.{IsPlanOf, Parsed, parsed, phases_in}
+use Rattle.pas_trace.specs.Reasons.{guard_in}
+use Rattle.pas_trace.specs.declared.item.Item.{Item}
+use Rattle.pas_trace.specs.declared.fault.TraceFault.{TraceFault}
+use Rattle.pas_trace.specs.declared.plan.Op.{Op}
+use Rattle.pas_trace.specs.declared.plan.Plan.{Plan}
+use Rattle.pas_generate.specs.Operations.{State, allocates}
+use Rattle.pas_generate.specs.Traces.{state_after, trace_text}
+use Rattle.pas_generated.specs.Meant.{with_drawn, with_operation, items_after, meant}
+use Rattle.pas_report.specs.Reports.{total_line}
+use Rattle.pas_report.specs.declared.record.Record.{Record}
+use Rattle.pas_answers.specs.Replays.{region_of, threads_of, keepers_of, phases_of, acts_of_plan}
+use Rattle.pas_answers.specs.Ways.{Way, InOrder, OnThreads}
+use Rattle.pas_replay.specs.OneThread.{IsOfOneThread}
+use Rattle.pas_one_text.specs.State.{World, each}
+use Rattle.pas_one_text.specs.Order.{acts_on, opened, replayed}
+use Rattle.pas_same_text.specs.Told.{IsTold}
+use Rattle.pas_same_text.proofs.AllActs.{plan_told, replay_told}
+use Rattle.pas_same_text.proofs.TextOfBytes.{unguarded_told}
+use Rattle.pas_same_text.proofs.WiderText.{wider_bytes_told}
+use Rattle.pas_telling.specs.Summaries.{summary_text}
+use Rattle.pas_top.specs.Generating.{IsSummarized}
+use Rattle.pas_top.specs.OneText.{IsTextOf, WritesTextOf, IsOfOne, IsTextBy, summary_of_world, summary_for, IsSummaryOf}
+use Rattle.pas_top.specs.Manners.{way_of}
+use Rattle.pas_top.specs.Outputs.{ComesTo, IsReplaying, IsChecking, IsGen, IsOutput, IsReplayed, IsWritten}
+use Rattle.pas_words.specs.declared.manner.Manner.{Manner}
+
+-- ---- the text
+text_told : (bytes text : List ℕ) → IsReplayed InOrder bytes text → IsTextOf bytes text
+text_told bytes text is =
+    let f : Profile = region_of is.plan in
+    let told : IsTold is.plan is.whole is.records (each (acts_on f) (acts_of_plan is.plan) (opened f)) = plan_told bytes is.plan is.whole is.records is.read is.replay in
+    wider_bytes_told bytes is.plan is.read ∙ ap (λ (t : List ℕ). let o : Option (List ℕ) = Some t in o) (told.text ∙ sym is.text_is)
+
+-- ---- of a trace of one thread alone
+-- what is said of one plan of the bytes is so of each
+same_ok : {x y : Parsed} → ◌≡◌ {A = Result Parsed TraceFault} (Ok x) (Ok y) → x ≡ y
+same_ok is = cc
+
+pub alone_of : (bytes : List ℕ) (plan : Plan) → IsPlanOf bytes plan → IsOfOne bytes → IsOfOneThread plan
+alone_of bytes plan is (other, read, one) =
+    let same : ◌≡◌ {A = Parsed} record { header = read.header; items = read.items } record { header = is.header; items = is.items } = same_ok (sym read.read ∙ is.read) in
+    let guard : other.guard ≡ plan.guard = read.guard ∙ (ap (λ (p : Parsed). guard_in p.items) same ∙ sym is.guard) in
+    let threads : threads_of other ≡ threads_of plan = ap (λ (f : Profile). f.threads) read.profile ∙ (ap (λ (p : Parsed). p.header.profile.threads) same ∙ ap (λ (f : Profile). f.threads) (sym is.profile)) in
+    let phases : phases_of other ≡ phases_of plan = read.phases ∙ (ap (λ (p : Parsed). phases_in p.header.profile p.items) same ∙ sym is.phases) in
+    record {
+      unguarded = sym guard ∙ one.unguarded;
+      threads = sym threads ∙ one.threads;
+      own = subst (λ (ops : List (List Op)). AllByRecursion (λ (op : Op). op.actor ≡ 1) (all_ops ops)) phases one.own;
+    }
+
+-- whatever a replay in this way shows is written
+pub text_by : (way : Way) (bytes text : List ℕ) → IsReplayed way bytes text → (IsOfOne bytes → IsReplayed InOrder bytes text) → IsTextBy way bytes text
+text_by InOrder bytes text is alone = text_told bytes text is
+text_by OnThreads bytes text is alone = λ one. text_told bytes text (alone one)
+
+-- ---- generated traces have no `guard` line
+either : (t : Bool) (xs ys : List Item) → guard_in xs ≡ 0 → guard_in ys ≡ 0 → guard_in (if t then xs else ys) ≡ 0
+either true xs ys here there = here
+either false xs ys here there = there
+
+drawn_unguarded : (threads : ℕ) (s : State) (earlier : List Item) → guard_in earlier ≡ 0 → guard_in (with_drawn threads s earlier) ≡ 0
+unfolding with_drawn
+drawn_unguarded threads s earlier none = either (allocates s) _ _ none none
+
+operation_unguarded : (threads number : ℕ) (s : State) (earlier : List Item) → guard_in earlier ≡ 0 → guard_in (with_operation threads number s earlier) ≡ 0
+unfolding with_operation
+operation_unguarded threads number s earlier none = either (nat_eq (number % 1000) 999) _ _ none (either (nat_eq (number % 1000) 0) _ _ none (drawn_unguarded threads s earlier none))
+
+items_unguarded : (threads seed n : ℕ) → guard_in (items_after threads seed n) ≡ 0
+unfolding items_after
+items_unguarded threads seed zero = refl
+items_unguarded threads seed (suc n) = operation_unguarded threads (suc n) (state_after threads seed n) (items_after threads seed n) (items_unguarded threads seed n)
+
+-- so they have no keepers
+guard_of : Result Parsed TraceFault → ℕ
+guard_of (Ok p) = guard_in p.items
+guard_of (Err fault) = 0
+
+no_keepers : (seed ops threads pages : ℕ) (plan : Plan) → parsed (trace_text seed ops threads pages) ≡ Ok (meant seed ops threads pages) → IsPlanOf (trace_text seed ops threads pages) plan → keepers_of plan ≡ 0
+unfolding guard_of
+no_keepers seed ops threads pages plan read is = ap (λ (guard : ℕ). if guard == 0 then 0 else plan.profile.threads) (is.guard ∙ (ap guard_of (sym is.read ∙ read) ∙ items_unguarded threads seed ops))
+
+-- ---- the summary
+abbrev by_state : ℕ → Profile → World → Option (List ℕ)
+by_state ops f w = Some (summary_of_world ops f w)
+
+pub summary_told : (seed ops threads pages : ℕ) (text : List ℕ) → parsed (trace_text seed ops threads pages) ≡ Ok (meant seed ops threads pages) → IsSummarized seed ops threads pages text → IsSummaryOf seed ops threads pages text
+summary_told seed ops threads pages text read is =
+    let bytes : List ℕ = trace_text seed ops threads pages in
+    let without : keepers_of is.plan ≡ 0 = no_keepers seed ops threads pages is.plan read is.read in
+    let f : Profile = region_of is.plan in
+    let w : World = replayed f (keepers_of is.plan) (phases_of is.plan) in
+    let told : IsTold is.plan is.whole is.records w = replay_told bytes is.plan is.whole is.records is.read is.replay without in
+    ap (summary_for ops) is.read.read
+    ∙ (unguarded_told (by_state ops) bytes is.plan is.read without
+    ∙ (ap (λ (rs : List Record). let o : Option (List ℕ) = Some (summary_text ops rs (total_line f w.events)) in o) told.records_are
+    ∙ (ap (λ (es : List Event). let o : Option (List ℕ) = Some (summary_text ops is.records (total_line f es)) in o) told.events_are
+    ∙ ap (λ (t : List ℕ). let o : Option (List ℕ) = Some t in o) (sym is.text_is))))
+
+-- ---- what `order` wrote with status 0
+in_order : (manner : Manner) (words : List (List ℕ)) → IsReplaying Manner.InOrder words → IsReplaying manner words → way_of manner ≡ InOrder
+in_order Manner.InOrder words asked is = refl
+in_order Manner.OnThreads words asked is = absurd (let both : codes "order" ∷ [] ≡ codes "run" ∷ [] = sym asked ∙ is in cc)
+
+no_check : (words : List (List ℕ)) → IsReplaying Manner.InOrder words → IsChecking words → ⊥
+no_check words asked is = let first : 111 ≡ 99 = ap (λ (ws : List (List ℕ)). get_or (get_or ws 0 []) 0 0) (sym asked ∙ is) in omega (arith, first)
+
+no_gen : (words : List (List ℕ)) (seed ops threads pages : ℕ) → IsReplaying Manner.InOrder words → IsGen words seed ops threads pages → ⊥
+no_gen words seed ops threads pages asked is = let both : codes "order" ∷ [] ≡ codes "gen" ∷ is.s ∷ is.o ∷ is.t ∷ is.p ∷ [] = sym asked ∙ is.words_are in cc
+
+transcript_told : (bytes text : List ℕ) → ComesTo InOrder bytes 0 text → IsTextOf bytes text
+transcript_told bytes text (inl (zero_is, is)) = is.told
+transcript_told bytes text (inr (inl (one, is))) = absurd (omega (arith, one))
+transcript_told bytes text (inr (inr (six, is))) = absurd (omega (arith, six))
+
+output_told : (words : List (List ℕ)) (told : Option (List ℕ)) (text : List ℕ) → IsReplaying Manner.InOrder words → IsOutput words told 0 text → (bytes : List ℕ) → told ≡ Some bytes → IsTextOf bytes text
+output_told words told text asked (inl (none, two, is)) bytes tells = absurd (omega (arith, two))
+output_told words told text asked (inr (inl is)) bytes tells = transcript_told bytes text (subst (λ (way : Way). ComesTo way bytes 0 text) (in_order is.manner words asked is.asked) (is.comes bytes tells))
+output_told words told text asked (inr (inr (inl is))) bytes tells = absurd (no_check words asked is.asked)
+output_told words told text asked (inr (inr (inr is))) bytes tells = absurd (no_gen words is.seed is.ops is.threads is.pages asked is.asked)
+
+pub written_told : (words : List (List ℕ)) (told before after : Option (List ℕ)) (status : ℕ) → IsReplaying Manner.InOrder words → IsWritten words told before after status → (bytes : List ℕ) → told ≡ Some bytes → status ≡ 0 → WritesTextOf bytes before after
+written_told words told before after status asked is bytes tells zero_is =
+    (is.text, output_told words told is.text asked (subst (λ (s : ℕ). IsOutput words told s is.text) zero_is is.output) bytes tells, is.written)
