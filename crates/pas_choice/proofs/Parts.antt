@@ -1,8 +1,9 @@
 -- A page of which a part is taken, or that is left since nothing fits.
-use Rattle.std.proofs.Common.{◌≡◌, ℕ, ◌+◌, ◌*◌, ◌/◌, ◌%◌, ◌<◌, ◌==◌, true, false, ◌&&◌, if◌then◌else◌, List, [], ◌∷◌, ◌++◌, None, Some, refl, ap, sym, ◌∙◌, subst, arith, inl, append_assoc, length-append}
+use Rattle.std.proofs.Common.{◌≡◌, ℕ, ◌+◌, ◌*◌, ◌/◌, ◌%◌, ◌<◌, ◌==◌, true, false, ◌&&◌, Bool, if◌then◌else◌, List, [], ◌∷◌, ◌++◌, None, Some, refl, ap, sym, ◌∙◌, subst, arith, inl, inr, true≢false, append_assoc, length-append}
 use Rattle.std.proofs.lemmas.Bool.{eqb-true, and_from, and_parts, and_right}
 use Rattle.pas_profile.specs.declared.directory.Directory.{Directory}
 use Rattle.pas_bits.specs.declared.mask.Mask4.{Mask4}
+use Rattle.pas_bits.specs.Bits.{has_bit}
 use Rattle.pas_bits.specs.Masks.{is_set}
 use Rattle.pas_bits.proofs.Words.{at_word}
 use Rattle.pas_rights.specs.Leaves.{Leaves}
@@ -13,14 +14,14 @@ use Rattle.pas_rights.specs.Takes.{HasRight, taken, takes, TakesMask}
 use Rattle.pas_rights.specs.Words.{words}
 use Rattle.pas_rights.proofs.Hints.{due_none}
 use Rattle.pas_rights.proofs.Looks.{looks_only, looks_on, looks_held, looks_free, looks_know, looks_read}
-use Rattle.pas_rights.proofs.Takes.{MayTakeAll, takes_only, takes_on, takes_keep, takes_few, takes_known}
+use Rattle.pas_rights.proofs.Takes.{MayTakeAll, takes_always, takes_only, takes_on, takes_keep, takes_few, takes_known}
 use Rattle.pas_rights.proofs.Words.{bit_of, bit_on, keeps_by, since_kept}
 use Rattle.pas_steps.specs.Calls.{Calls, Leads, Gained, Kept, nothing, Does}
-use Rattle.pas_steps.specs.Desks.{Standing, CanCall, Makes}
-use Rattle.pas_steps.specs.Evidence.{ShowsHere, KeptHere}
+use Rattle.pas_steps.specs.Desks.{Standing, CanCall, made, Makes}
+use Rattle.pas_steps.specs.Evidence.{ShowsHere, KeptHere, GetsHere}
 use Rattle.pas_steps.specs.Frames.{IsOnPage, GivesUp}
-use Rattle.pas_steps.specs.Kinds.{Kinds, LookFree, Taking, Only}
-use Rattle.pas_steps.specs.Past.{Since}
+use Rattle.pas_steps.specs.Kinds.{Kinds, LookFree, Taking, Only, kind_of, is_in}
+use Rattle.pas_steps.specs.Past.{Always, Since}
 use Rattle.pas_steps.specs.Views.{View, has_right, known_free}
 use Rattle.pas_steps.specs.declared.step.Made.{Made}
 use Rattle.pas_steps.specs.declared.step.Step.TheVariants.{Back}
@@ -28,11 +29,31 @@ use Rattle.pas_steps.proofs.Adding.{agreed_later, adds_under}
 use Rattle.pas_steps.proofs.Apart.{only_within, only_both, holds_same, rights_same}
 use Rattle.pas_steps.proofs.Called.{call_then, next_call}
 use Rattle.pas_steps.proofs.Calls.{does_after_nothing, does_as, does_idly}
-use Rattle.pas_steps.proofs.Past.{always_both}
-use Rattle.pas_search.specs.Serving.{MayServe, GotBefore, ReadsNoneHeld, ServesPage}
+use Rattle.pas_steps.proofs.Past.{always_both, always_map}
+use Rattle.pas_search.specs.Serving.{MayServe, IsJustGot, GotBefore, ReadsNoneHeld, ServesPage}
 use Rattle.pas_search.proofs.Returns.{keeps_marks}
 use Rattle.pas_search.proofs.Pages.{on_page, Prepares, leaves_page, keeps_page, once_read}
-use Rattle.pas_choice.specs.Choices.{Choice, IsUnfit, IsChosen, choosing}
+use Rattle.pas_choice.specs.Choices.{Choice, IsUnfit, IsChosen, TakesKept, choosing}
+
+-- ---- the grains that steps take
+-- what takes nothing takes no grain but these
+idle_keeps : (kept : ℕ → Bool) (page : ℕ) (m : Made) → is_in (LookFree ∷ []) (kind_of m.step) ≡ true → TakesKept kept page m
+idle_keeps kept page m is word mask g same here = let none : true ≡ false = sym is ∙ ap (λ s. is_in (LookFree ∷ []) (kind_of s)) same in absurd (true≢false none)
+
+-- takes of these grains alone
+takes_kept : (page : ℕ) (grains : Mask4) (kept : ℕ → Bool) → ((b : ℕ) → b < 256 → is_set grains b ≡ kept b) → (answers : ℕ → ℕ) (n : ℕ) → Always (λ m before. TakesKept kept page m) (takes page (words grains) answers n)
+takes_kept page grains kept exactly answers = takes_always page (words grains) answers (TakesKept kept page) (λ taken word mask g same here.
+    let word_is : taken ≡ word = cc in
+    let mask_is : words grains taken ≡ mask = cc in
+    let at = and_parts ((word == g / 64 % 4) && (page == g / 256)) (has_bit mask (g % 64)) here in
+    let in_word = and_parts (word == g / 64 % 4) (page == g / 256) at.0 in
+    sym (exactly (g % 256) (omega arith)) ∙ sym (bit_of grains taken g (word_is ∙ eqb-true word (g / 64 % 4) in_word.0)) ∙ ap (λ w. has_bit w (g % 64)) mask_is ∙ at.1)
+
+-- what holds of each step since the right was got
+since_got : (P : Made → Type 0) (page : ℕ) (steps before : List Made) → Always (λ m past. P m) steps → IsJustGot page before → Since (GetsHere page) (λ m past. P m) (steps ++ before)
+since_got P page [] [] each got = got
+since_got P page [] (m ∷ before) each got = inl got
+since_got P page (s ∷ steps) before each got = inr (each.0, since_got P page steps before each.1 got)
 
 abbrev looking_and_taking : Kinds
 looking_and_taking = LookFree ∷ Taking ∷ []
@@ -131,6 +152,11 @@ module _ {Found : Type 0} (choice : Choice Found) (page : ℕ) (d : Directory) {
         marks = λ some. keeps_marks looking_and_taking page (ts ++ looked) refl all_only;
       }
 
+      takes_all : Always (λ m before. TakesKept (choice.kept found) page m) (ts ++ looked)
+      takes_all = always_both (λ m before. TakesKept (choice.kept found) page m) (λ m before. TakesKept (choice.kept found) page m) ts looked (λ m before h. h)
+          (takes_kept page grains (choice.kept found) is.exactly (words took.answers) 4)
+          (always_map (λ m before. is_in (LookFree ∷ []) (kind_of m.step) ≡ true) (λ m before. TakesKept (choice.kept found) page m) looked (λ m before. idle_keeps (choice.kept found) page m) looked_only)
+
       pub keeps_chosen : {σ3 : Standing} (a : ℕ) → Makes σ2 σ3 (Back page) a → ServesPage (choosing choice) page d σ σ3 (Some found)
       unfolding taken_from
       keeps_chosen a back =
@@ -140,4 +166,5 @@ module _ {Found : Type 0} (choice : Choice Found) (page : ℕ) (d : Directory) {
             readings = is_set free;
             read = once_read (choosing choice) page d (is_set free) (choice.kept found) taken_from is.some found (λ b lt. refl) refl a back before got;
             chosen = is.chosen;
+            takes = since_got (TakesKept (choice.kept found) page) page (made (Back page) a ∷ (ts ++ looked)) before ((λ word mask g same here. cc), takes_all) got.newest;
           }) (omega arith) (omega (arith, few, all))

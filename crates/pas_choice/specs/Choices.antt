@@ -1,11 +1,13 @@
 -- What is chosen of the free grains of a page.
-use Rattle.std.specs.Prelude.{ℕ, ◌<◌, ◌≡◌, Bool, true, List}
+use Rattle.std.specs.Prelude.{ℕ, ◌%◌, ◌<◌, ◌≡◌, Bool, true, List}
 use Rattle.pas_profile.specs.declared.directory.Kind.{Kind}
 use Rattle.pas_bits.specs.declared.mask.Mask4.{Mask4}
 use Rattle.pas_bits.specs.Masks.{is_set}
-use Rattle.pas_steps.specs.Past.{Once}
-use Rattle.pas_steps.specs.Evidence.{Readings, ShowsHere}
+use Rattle.pas_steps.specs.Effects.{in_mask}
+use Rattle.pas_steps.specs.Past.{Once, Since}
+use Rattle.pas_steps.specs.Evidence.{Readings, ShowsHere, GetsHere}
 use Rattle.pas_steps.specs.declared.step.Made.{Made}
+use Rattle.pas_steps.specs.declared.step.Step.TheVariants.{Take}
 use Rattle.pas_search.specs.Serving.{Rule}
 
 pub record Choice (Found : Type 0) : Type 1 where
@@ -28,11 +30,17 @@ pub record IsChosen {Found : Type 0} (choice : Choice Found) (free : Readings) (
   pub some : (b : ℕ) × (b < 256) × (choice.kept found b ≡ true)
   pub exactly : (b : ℕ) → b < 256 → is_set grains b ≡ choice.kept found b
 
--- each free word of the page was read with its right, and this was chosen by these readings
+-- the step takes no grain of the page but these, numbered from 0 to 255
+abbrev pub TakesKept : (ℕ → Bool) → ℕ → Made → Type 0
+TakesKept kept page m = (word mask g : ℕ) → m.step ≡ Take page word mask → in_mask page word mask g ≡ true → kept (g % 256) ≡ true
+
+-- Each free word of the page was read with its right, and this was chosen by these readings. Since the right was got no other grain of the page was taken,
+-- not even to be put back.
 pub record TookChosen {Found : Type 0} (choice : Choice Found) (page : ℕ) (steps : List Made) (found : Found) : Type 0 where
   pub readings : Readings
   pub read : (word : ℕ) → word < 4 → Once (ShowsHere page word readings) steps
   pub chosen : choice.chosen readings found
+  pub takes : Since (GetsHere page) (λ m before. TakesKept (choice.kept found) page m) steps
 
 -- What is chosen is taken and nothing else, and the page's right is kept. One event, when the page is backed. At most four looks and eleven
 -- steps of a leave, or four looks, four takes and the backing.
