@@ -22,8 +22,8 @@ fn writes_the_same<R: AllocGlobal + Threads + Wait + Sync>(
 
 #[test]
 fn one_thread_does_the_same_alone(rt: HostRuntime) -> Result<(), Fail> {
-    for at in 0..20 {
-        assert!(rt; writes_the_same(&rt, alone::TRACES[at].as_bytes())?);
+    for trace in alone::TRACES.as_slice() {
+        assert!(rt; writes_the_same(&rt, trace.as_bytes())?);
     }
     let slots = filling(rt.alloc(), 2, 86, 48)?;
     assert!(rt; writes_the_same(&rt, &slots)?);
