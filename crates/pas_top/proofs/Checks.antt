@@ -11,7 +11,7 @@ use Rattle.pas_io.specs.Told.{Rose, Tells}
 use Rattle.pas_words.specs.Words.{IsChecking}
 use Rattle.pas_top.specs.Checked.{EndsCheck, TellsCheck}
 use Rattle.pas_top.specs.Judgements.{IsJudged, IsJudgement, judgement_status, judgement_text, verdict_status}
-use Rattle.pas_top.specs.Outputs.{most_bytes, too_long_text, ChecksTo, HasFailed, IsCheckStatus, IsCutOff, IsOutput, IsStatus, IsWriting, IsWritten}
+use Rattle.pas_top.specs.Outputs.{most_bytes, ChecksTo, HasFailed, IsCheckStatus, IsCutOff, IsOutput, IsStatus, IsWriting, IsWritten}
 use Rattle.pas_top.specs.declared.judging.Judgement.{Judgement}
 use Rattle.pas_top.specs.declared.judging.Judgement.TheVariants.{Judged, Faulty}
 use Rattle.pas_top.proofs.Statuses.{answered, cut_off, not_four, sound, written}
@@ -59,16 +59,6 @@ tells_judgement rest held held' faults faults' result read judgement is whole te
   text = judgement_text judgement;
   status_is = judgement_check judgement;
   comes = λ bytes told. let input = whole bytes told in judgement_comes bytes judgement input.1 (subst (λ (t : List ℕ). IsJudgement t judgement) input.0 is);
-  tells = tells;
-}
-
-pub tells_too_long : (rest held held' : Option (List ℕ)) (faults faults' result : ℕ) → ((bytes : List ℕ) → rest ≡ Some bytes → most_bytes < length bytes)
-    → Tells held held' faults faults' too_long_text 6 result → TellsCheck rest held held' faults faults' result
-tells_too_long rest held held' faults faults' result long tells = record {
-  status = 6;
-  text = too_long_text;
-  status_is = inl (inr (inr refl));
-  comes = λ bytes told. inr (inr (refl, record { long = long bytes told; text_is = refl }));
   tells = tells;
 }
 

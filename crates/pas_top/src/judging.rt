@@ -6,11 +6,12 @@ ghost use Rattle.pas_top.specs.Outputs.{most_bytes};
 ghost use Rattle.pas_top.specs.Judgements.{IsJudgement, judgement_status, judgement_text, verdict_text};
 ghost use Rattle.pas_top.specs.Checked.{EndsCheck};
 
-use crate::{MOST_BYTES, TOO_LONG};
+use crate::TOO_LONG;
 use pas_check::{Verdict, check, split};
 use pas_io::whole::{Input, Stop, read_all};
 use pas_io::{Sink, Source};
 use pas_profile::NoMemory;
+use pas_profile::limits::MOST_BYTES;
 use pas_report::Line;
 use pas_report::text::push_field;
 use pas_telling::{fault_line, tell};

@@ -16,6 +16,3 @@ pub use remaking::Reallocation;
 const USAGE: &str = "usage: pas order | pas run | pas check | pas gen SEED OPS THREADS PAGES\n";
 
 const TOO_LONG: &str = "input too long\n";
-
-/// The most bytes of an input.
-const MOST_BYTES: usize = 16_777_216;

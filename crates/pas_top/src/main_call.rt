@@ -15,9 +15,10 @@ ghost use Rattle.pas_top.specs.Outputs.{most_bytes, texts_of, IsReplaying, IsChe
 use crate::generating::generate;
 use crate::judging::check_input;
 use crate::outcome::{outcome_of, tell_outcome};
-use crate::{MOST_BYTES, TOO_LONG, USAGE};
+use crate::{TOO_LONG, USAGE};
 use pas_io::whole::{Input, Stop, read_all};
 use pas_io::{Sink, Source};
+use pas_profile::limits::MOST_BYTES;
 use pas_telling::tell;
 use pas_words::{Call, Misread, call_of};
 use std::alloc::Global;
