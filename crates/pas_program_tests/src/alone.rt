@@ -1,7 +1,7 @@
 //! Traces of one thread, with nothing for the scavenger, and their transcripts.
 
 /// Traces of one thread alone.
-pub const TRACES: [&str; 21] = [
+pub const TRACES: [&str; 22] = [
     // Nothing is asked.
     "pas 1 pages 4 threads 1 heaps 1 age 2",
     // The free waits in the log until the thread is stopped at the close.
@@ -54,10 +54,14 @@ pub const TRACES: [&str; 21] = [
      a 1 25 0 600 256\na 1 26 0 769 256\na 1 27 0 1025 16\n",
     // A block is kept for another size, and another takes its place; then there is no room, and so nothing to reallocate.
     "pas 4 pages 2 threads 1 heaps 1 age 2\na 1 1 0 24 16\nm 1 2 1 32 16\nm 1 3 2 33 16\nm 1 4 3 64 16\nm 1 5 4 16 16\nf 1 3\n",
+    // Reallocations that are kept, replaced, refused and skipped.
+    "pas 4 pages 3 threads 1 heaps 1 age 2\na 1 1 0 24 16\nm 1 2 1 32 16\nm 1 3 2 33 16\na 1 6 0 48 16\n\
+     m 1 7 6 16 32\nm 1 8 7 0 16\nm 1 9 8 64 16\nm 1 10 9 80 16\nm 1 11 10 16 16\nf 1 11\nf 1 9\nflush 1\n\
+     m 1 12 1 16 16\nf 1 12\n",
 ];
 
 /// What the traces are replayed to in the order of their texts, each at its place.
-pub const TEXTS: [&str; 21] = [
+pub const TEXTS: [&str; 22] = [
     "close\nreport\ntotal deeds 0 backed 0 live 0 given 0 ended 0\n",
     "1 deed page 1 heap 0 class 32\n1 back page 1\n1 give 0x00001000 turn 0 room 32 heap 0\nclose\n\
      1 freed 0x00001000 turn 0 epoch 0\nreport\n\
@@ -223,4 +227,15 @@ pub const TEXTS: [&str; 21] = [
      page 1 heap 0 class 32 live 0 free 256 stamp 0 marks backed+offered+hinted\n\
      page 2 heap 0 class 48 live 0 free 256 stamp 0 marks backed+offered+hinted\n\
      total deeds 2 backed 2 live 0 given 2 ended 2\n",
+    "1 deed page 1 heap 0 class 32\n1 back page 1\n1 give 0x00001000 turn 0 room 32 heap 0\n\
+     1 kept 0x00001000 turn 0 name 2\n1 deed page 2 heap 0 class 48\n1 back page 2\n\
+     1 give 0x00002000 turn 0 room 48 heap 0\n1 give 0x00002030 turn 0 room 48 heap 0\n\
+     1 give 0x00001020 turn 0 room 32 heap 0\n1 kept 0x00001020 turn 0 name 8\n1 deed page 3 heap 0 class 64\n\
+     1 back page 3\n1 give 0x00003000 turn 0 room 64 heap 0\n1 no-space name 10\n1 skipped name 11\n1 skipped name 11\n\
+     1 freed 0x00001000 turn 0 epoch 0\n1 freed 0x00002030 turn 0 epoch 0\n1 freed 0x00001020 turn 0 epoch 0\n\
+     1 freed 0x00003000 turn 0 epoch 0\n1 kept 0x00001000 turn 0 name 12\nclose\n1 ended 0x00001000 turn 0\nreport\n\
+     page 1 heap 0 class 32 live 0 free 256 stamp 0 marks backed+offered+hinted\n\
+     page 2 heap 0 class 48 live 1 free 253 stamp 0 marks backed+offered\n\
+     page 3 heap 0 class 64 live 0 free 256 stamp 0 marks backed+offered+hinted\n\
+     total deeds 3 backed 3 live 1 given 5 ended 4\n",
 ];
