@@ -38,6 +38,7 @@ use Rattle.pas_guard.specs.Raises.{IsNotRaised, IsRaised, RaiseSteps, guard_of a
 use Rattle.pas_guard.specs.Seeks.{seeking}
 use Rattle.pas_guard.specs.Sweeps.{sweeping as sweeping_kinds, lowered_record as lowered_by}
 use Rattle.pas_guard.specs.declared.book.Guard.{Guard}
+use Rattle.pas_guard.proofs.Raised.{raised_backs, raised_leaves}
 use Rattle.pas_answers.specs.Answers.{Answer, Books, IsGiven, IsServed, Progress, after_answer, having, records_of, said_by, said_of_request, wanted_by, with_book}
 use Rattle.pas_answers.specs.Guarding.{IsLowered, IsTried, Tried, TryEnds, after_giving, after_lowering, after_trying, said_of_guard}
 use Rattle.pas_answers.proofs.Consequences.{tidy_piece}
@@ -236,8 +237,8 @@ raised_epoch : (f : Profile) (k heap n : ℕ) (guards left : List Guard) (answer
 raised_epoch f k heap n guards left None searched after l is = ap (λ ms. word_after (triples k ms ++ l) Word.Epoch) is.nothing
 raised_epoch f k heap n guards left (Some block) searched after l is =
     let give : List Made = give_steps (is.first + 1) 0 block is.word is.answer in
-    epoch_both k after is.left (give ++ is.backs) l is.after_is (epoch_kept returning refl k is.left (triples k (give ++ is.backs) ++ l) is.left_kinds)
-    (epoch_both k (give ++ is.backs) give is.backs l refl (epoch_kept (Giving ∷ (LookLife ∷ [])) refl k give (triples k is.backs ++ l) (refl, (refl, tt))) (epoch_kept (Backing ∷ []) refl k is.backs l is.back_kinds))
+    epoch_both k after is.left (give ++ is.backs) l is.after_is (epoch_kept returning refl k is.left (triples k (give ++ is.backs) ++ l) (raised_leaves is))
+    (epoch_both k (give ++ is.backs) give is.backs l refl (epoch_kept (Giving ∷ (LookLife ∷ [])) refl k give (triples k is.backs ++ l) (refl, (refl, tt))) (epoch_kept (Backing ∷ []) refl k is.backs l (raised_backs is)))
 
 raise_epoch : (f : Profile) (k heap n : ℕ) (guards left : List Guard) (answer : Option Block) (steps : List Made) (l : Whole) → RaiseSteps f heap n guards left answer steps → word_after (triples k steps ++ l) Word.Epoch ≡ word_after l Word.Epoch
 raise_epoch f k heap n guards left answer steps l is =

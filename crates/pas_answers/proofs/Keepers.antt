@@ -17,6 +17,7 @@ use Rattle.pas_guard.specs.Seeks.{seeking}
 use Rattle.pas_guard.specs.Raises.{IsRaised, IsNotRaised, RaiseSteps}
 use Rattle.pas_guard.specs.Sweeps.{is_over, sweeping, SweptOne, Swept, SweepSteps}
 use Rattle.pas_guard.specs.declared.book.Guard.{Guard}
+use Rattle.pas_guard.proofs.Raised.{raised_backs, raised_leaves}
 use Rattle.pas_answers.specs.Answers.{wanted_by, records_of}
 use Rattle.pas_answers.specs.Guarding.{said_of_guard, Tried, IsTried}
 use Rattle.pas_answers.proofs.Parts.{of_front}
@@ -32,9 +33,9 @@ given_tidy : (f : Profile) (heap k : ℕ) (guards left : List Guard) (answer : O
 given_tidy f heap k guards left None searched after v is tidy = tidy_none after v is.nothing tidy
 given_tidy f heap k guards left (Some block) searched after v is tidy =
     let give = give_steps (is.first + 1) 0 block is.word is.answer in
-    let backed = tidy_over (Backing ∷ []) refl is.backs v is.back_kinds tidy in
+    let backed = tidy_over (Backing ∷ []) refl is.backs v (raised_backs is) tidy in
     let given = tidy_over (Giving ∷ (LookLife ∷ [])) refl give (is.backs ++ v) (refl, (refl, tt)) backed in
-    tidy_both after is.left (give ++ is.backs) v is.after_is (tidy_over returning refl is.left ((give ++ is.backs) ++ v) is.left_kinds (subst Tidy (sym (append_assoc give is.backs v)) given))
+    tidy_both after is.left (give ++ is.backs) v is.after_is (tidy_over returning refl is.left ((give ++ is.backs) ++ v) (raised_leaves is) (subst Tidy (sym (append_assoc give is.backs v)) given))
 
 pub raise_tidy : (f : Profile) (heap k : ℕ) (guards left : List Guard) (answer : Option Block) (steps : List Made) (v : View) → RaiseSteps f heap k guards left answer steps → Tidy v → Tidy (steps ++ v)
 raise_tidy f heap k guards left answer steps v is tidy =

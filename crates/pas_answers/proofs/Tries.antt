@@ -59,6 +59,7 @@ use Rattle.pas_guard.specs.Seeks.{seeking}
 use Rattle.pas_guard.specs.Sweeps.{is_over, sweeping, SweptOne, Swept, SweepSteps, Sweeps}
 use Rattle.pas_guard.specs.declared.book.Guard.{Guard}
 use Rattle.pas_guard.specs.declared.book.GuardBook.{GuardBook}
+use Rattle.pas_guard.proofs.Raised.{raised_backs, raised_few, raised_leaves}
 use Rattle.pas_answers.specs.Answers.{wanted_by, records_of, IsGiven}
 use Rattle.pas_answers.specs.Calls.{IsBlockOf, MayStand}
 use Rattle.pas_answers.specs.Guarding.{said_of_guard, TryEnds, IsTried}
@@ -187,7 +188,7 @@ module _ (f : Profile) (heap n : ℕ) (guards guards' : List Guard) (steps : Lis
     before_give v agreed = agreed_later f v up.left (given ++ is.searched) (subst (Agreed f v) some_is agreed)
 
     events_are : (k : ℕ) (v : View) → events_by k v steps ≡ Event.Give k block ∷ (events_by k (is.searched ++ v) up.backs ++ events_by k v is.searched)
-    events_are k v = ap (events_by k v) some_is ∙ events_same returning refl k v up.left (given ++ is.searched) up.left_kinds ∙ ap (λ (es : List Event). Event.Give k block ∷ es) (events_append k up.backs is.searched v)
+    events_are k v = ap (events_by k v) some_is ∙ events_same returning refl k v up.left (given ++ is.searched) (raised_leaves up) ∙ ap (λ (es : List Event). Event.Give k block ∷ es) (events_append k up.backs is.searched v)
 
     turn_small : (v : View) → Agreed f v steps → block.name.turn < 2 ^ 37
     turn_small v agreed =
@@ -237,7 +238,7 @@ module _ (f : Profile) (heap n : ℕ) (guards guards' : List Guard) (steps : Lis
           of_directory = deeds_known v fits agreed;
           before = events_by k (is.searched ++ v) up.backs ++ events_by k v is.searched;
           events = events_are k v;
-          prepared = all_both (IsPreparing d) (events_by k (is.searched ++ v) up.backs) (events_by k v is.searched) (backs_only d up.backs up.back_kinds k (is.searched ++ v))
+          prepared = all_both (IsPreparing d) (events_by k (is.searched ++ v) up.backs) (events_by k v is.searched) (backs_only d up.backs (raised_backs up) k (is.searched ++ v))
               (all_map (IsDeedOf d) (IsPreparing d) (events_by k v is.searched) (deed_prepares d)
               (deeds_sought d is.searched is.kinds (made_of d (n + 2) _ is.searched (up.found.deeds v (may_find f d guards v fits) (agreed_later f v is.after is.searched (subst (Agreed f v) is.steps_are agreed)))) k v));
         }
@@ -260,7 +261,7 @@ module _ (f : Profile) (heap n : ℕ) (guards guards' : List Guard) (steps : Lis
       let events = ap (λ (es : List Event). length es) (events_are block is k v) in
       let both = length-append (events_by k (is.searched ++ v) is.outcome.backs) (events_by k v is.searched) in
       let backs = back_events k (is.searched ++ v) is.outcome.backs in
-      let most = is.outcome.back_few in
+      let most = raised_few is.outcome in
       omega (arith, few, stays, left, events, both, backs, most)
 
 -- ---- what is asked for

@@ -25,6 +25,7 @@ use Rattle.pas_steps.specs.Views.{View, KnowsDeed, known_deed}
 use Rattle.pas_steps.specs.declared.step.Made.{Made}
 use Rattle.pas_steps.proofs.Adding.{agreed_later, adds_under, agreed_first, adds_none, can_call}
 use Rattle.pas_steps.proofs.Apart.{only_both, only_within, events_same}
+use Rattle.pas_steps.proofs.Calls.{returns_are}
 use Rattle.pas_search.proofs.ForBackEnds.{events_quiet}
 use Rattle.pas_search.specs.Kinds.{searching}
 use Rattle.pas_search.specs.Searches.{MaySearch, IsRefused, SearchRoom, search_steps}
@@ -37,6 +38,7 @@ use Rattle.pas_bitfit.specs.Allocates.{bitfit_directory, run_for, IsOfRequest, I
 use Rattle.pas_bitfit.specs.Runs.{NoneFits, runs, run_at}
 use Rattle.pas_rights.specs.Gives.{give_steps}
 use Rattle.pas_rights.proofs.Gives.{covers}
+use Rattle.pas_rights.proofs.Orders.{leave_returns}
 use Rattle.pas_cache.specs.Caches.{Cached, AtRest}
 use Rattle.pas_cache.specs.Calls.{MayAllocate, Allocates as Serves, MayAllocatePages, AllocatesPages, most_events, IsNamed, MayRequestBy, MayRequest, AllocatesBy, AllocatesRequest}
 use Rattle.pas_cache.specs.Kinds.{allocating}
@@ -175,7 +177,7 @@ module _ (f : Profile) (heap room align : ℕ) (locals : List Slots) (searched a
   bitfit_kinds : (answer : Result Block NoRoom) → BitfitEnds f heap room align searched after answer → Only searching searched → Only allocating bitfit_steps
   bitfit_kinds (Ok block) both only = let is = both.0 in
       only_both allocating after searched
-      (subst (Only allocating) (sym is.after_is) (only_both allocating is.left (give_steps is.page is.found block is.word is.answer) (only_within returning allocating is.left refl is.left_kinds) (refl, (refl, tt))))
+      (subst (Only allocating) (sym is.after_is) (only_both allocating is.left (give_steps is.page is.found block is.word is.answer) (only_within returning allocating is.left refl (returns_are is.page is.left (leave_returns is.page (bitfit_directory heap) is.left is.leaves))) (refl, (refl, tt))))
       (only_within searching allocating searched refl only)
   bitfit_kinds (Err why) h only = subst (Only allocating) (refused h.1) (only_within searching allocating searched refl only)
 

@@ -176,7 +176,6 @@ module _ {Found : Type 0} (choice : Choice Found) (run : Found → Run) (law : (
           left = left.steps;
           after_is = ap (λ (x : Run). left.steps ++ give_steps page x.first block gives.word gives.answer) r_is;
           leaves = left.order;
-          left_kinds = returns_are page left.steps left.returns;
           few = let sum = length-append left.steps given in let few = left.few in omega (arith, sum, few);
           block_is = gives.block_is ∙ ap (λ (x : Run). block_of d.heap page x.first x.grains gives.word) r_is;
           gave = whole_call.leads;

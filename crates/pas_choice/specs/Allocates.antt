@@ -12,7 +12,6 @@ use Rattle.pas_rights.specs.Leaves.{LeaveSteps}
 use Rattle.pas_steps.specs.Calls.{Leads, Lost, Does}
 use Rattle.pas_steps.specs.Desks.{Standing, Adds, triples}
 use Rattle.pas_steps.specs.Events.{events_by}
-use Rattle.pas_steps.specs.Kinds.{returning, Only}
 use Rattle.pas_steps.specs.Lists.{Whole}
 use Rattle.pas_steps.specs.Views.{View, holds, KnowsDeed}
 use Rattle.pas_steps.specs.declared.step.Made.{Made}
@@ -51,7 +50,6 @@ pub record IsGiven {Found : Type 0} (choice : Choice Found) (run : Found → Run
   pub left : List Made
   pub after_is : after ≡ left ++ give_steps page (run found).first block word answer
   pub leaves : LeaveSteps page d left
-  pub left_kinds : Only returning left
   pub few : length after ≤ 13
   pub block_is : block ≡ block_of d.heap page (run found).first (run found).grains word
   pub gave : Leads f (MaySearch d) (GaveBlock page d block) (after ++ searched)

@@ -6,12 +6,10 @@ use Rattle.pas_profile.specs.declared.name.Block.{Block}
 use Rattle.pas_rights.specs.Leaves.{MayLeave, Leaves}
 use Rattle.pas_steps.specs.Calls.{Calls, Kept, Lost, now, ClearAfter, Does, on_page}
 use Rattle.pas_steps.specs.Desks.{Standing, CanCall}
-use Rattle.pas_steps.specs.Kinds.{returning}
 use Rattle.pas_steps.specs.Views.{View, has_right, KnowsDeed}
 use Rattle.pas_steps.specs.declared.step.Made.{Made}
-use Rattle.pas_steps.proofs.Apart.{only_both}
 use Rattle.pas_steps.proofs.Called.{call_then, next_call, call_as}
-use Rattle.pas_steps.proofs.Calls.{does_as, does_then, returns_are}
+use Rattle.pas_steps.proofs.Calls.{does_as, does_then}
 use Rattle.pas_steps.proofs.Sets.{both_fates, kept_kept}
 use Rattle.pas_large.specs.Claims.{in_span, HasPages}
 use Rattle.pas_rights.specs.Gives.{give_steps}
@@ -106,15 +104,11 @@ module _ (d : Directory) (first k : ℕ) (block : Block) where
           let left = high.steps ++ (low.steps ++ give.left) in let rest = give_steps (first + 1) 0 block give.word give.answer ++ give.backs in
           let same : left ++ rest ≡ high.steps ++ (low.steps ++ gs) = append_assoc high.steps (low.steps ++ give.left) rest ∙ ap (λ s. high.steps ++ s) (append_assoc low.steps give.left rest) in record {
             backs = give.backs;
-            back_kinds = give.back_kinds;
-            back_pages = give.back_pages;
             back_order = give.back_order;
-            back_few = give.back_few;
             word = give.word;
             answer = give.answer;
             block_is = give.block_is;
             left = left;
-            left_kinds = only_both returning high.steps (low.steps ++ give.left) (returns_are (first + k + 1) high.steps high.returns) (only_both returning low.steps give.left (returns_are first low.steps low.returns) give.left_kinds);
             left_order = (high.steps, low.steps ++ give.left, high.order, (low.steps, give.left, low.order, give.left_order, refl), refl);
             few = (let i = length-append high.steps (low.steps ++ gs) in let j = length-append low.steps gs in let a = high.few in let b = low.few in let c = give.few in let e = ap (λ s. length s) same in omega (arith, i, j, a, b, c, e));
             calls = subst (Calls σ σ3 (HasPages d first (first + (k + 2))) (GuardedRun d first k block)) (sym same) (call_as (GuardedRun d first k block) done (λ v met. met) (λ v w met both. record { does = both.0.does; deeds = both.1; turn = both.0.turn }));

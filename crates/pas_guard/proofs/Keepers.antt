@@ -35,6 +35,7 @@ use Rattle.pas_guard.specs.Seeks.{seeking}
 use Rattle.pas_guard.specs.Sweeps.{is_over, SweptOne, Swept, sweeping, SweepSteps}
 use Rattle.pas_guard.specs.declared.book.Guard.{Guard}
 use Rattle.pas_guard.proofs.Guarded.{head_same, stands_on, own_keep, guard_begins, untouched_between}
+use Rattle.pas_guard.proofs.Raised.{raised_backs, raised_pages, raised_leaves}
 use Rattle.pas_guard.proofs.Raises.{no_backs, after_steady, after_unbacked, fits_find}
 use Rattle.pas_guard.proofs.Sweeps.{kept_steady}
 
@@ -238,8 +239,8 @@ module _ (f : Profile) (keeper heap k : ℕ) (guards guards' : List Guard) (answ
 
     own_leaves : (p : ℕ) → in_span (r.first + 1) (r.first + 1 + k) p ≡ false → LeavePage p x
     own_leaves p out = leave_older p rest x (record {
-      stays = λ g at. subst (StaysPut g) (sym r.after_is ∙ after_is) (after_steady d r.first k r.word r.answer block r.block_is r.left r.backs r.left_kinds r.back_kinds g (ap (in_span (r.first + 1) (r.first + 1 + k)) at ∙ out));
-      backs = subst (BacksNot p) (sym r.after_is ∙ after_is) (after_unbacked d r.first k r.word r.answer block r.block_is r.left r.backs r.left_kinds r.back_pages p out);
+      stays = λ g at. subst (StaysPut g) (sym r.after_is ∙ after_is) (after_steady d r.first k r.word r.answer block r.block_is r.left r.backs (raised_leaves r) (raised_backs r) g (ap (in_span (r.first + 1) (r.first + 1 + k)) at ∙ out));
+      backs = subst (BacksNot p) (sym r.after_is ∙ after_is) (after_unbacked d r.first k r.word r.answer block r.block_is r.left r.backs (raised_leaves r) (raised_pages r) p out);
     })
 
     own_heap : d ≡ large_directory block.heap

@@ -5,6 +5,7 @@ mod Seeks
 mod Guarded
 mod Guards
 mod Raises
+pub mod Raised
 mod Lowers
 mod Sweeps
 mod Keepers

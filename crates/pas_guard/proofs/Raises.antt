@@ -25,10 +25,11 @@ use Rattle.pas_steps.proofs.SpareRoom.{Spares}
 use Rattle.pas_large.specs.Claims.{in_span, StaysPut, HasPages}
 use Rattle.pas_large.specs.Finds.{MayFind, FindRoom}
 use Rattle.pas_rights.specs.Gives.{give_steps}
-use Rattle.pas_large.specs.Gives.{BacksIn, run_block}
+use Rattle.pas_large.specs.Gives.{run_block}
+use Rattle.pas_large.proofs.InOrder.{BacksIn, only_backs, backs_in, only_leaves}
 use Rattle.pas_large.proofs.Claims.{has_got, room_after, span_in, steady_both}
 use Rattle.pas_guard.specs.Books.{is_outer_of, is_outer, AreApart, Each, IsGuardOf, KnowsGuard, FitsBook}
-use Rattle.pas_guard.specs.Guards.{GuardedRun, GuardsRun}
+use Rattle.pas_guard.specs.Guards.{left_last_first, GuardedRun, GuardsRun}
 use Rattle.pas_guard.specs.Raises.{BacksNot, RaiseRoom, guard_of, Raises}
 use Rattle.pas_guard.specs.Seeks.{seeking, HoldsWhole, HasSpan, Seeks}
 use Rattle.pas_guard.specs.declared.book.Guard.{Guard}
@@ -294,25 +295,21 @@ module _ {σ σ1 : Standing} (heap k first : ℕ) (gs : List Guard) (seek : Seek
           shows = seek.shows;
           steady = λ v met agreed x is.
               let before = agreed_later f_ v after seek.steps agreed in let out = run_out f_ d_ gs first (first + (k + 2)) v (seek.steps ++ v) met (sought.leads.from v met before) (x / 256) is in
-              steady_both x after seek.steps (after_steady d_ first k g.word g.answer block g.block_is g.left g.backs g.left_kinds g.back_kinds x (inner (x / 256) out))
+              steady_both x after seek.steps (after_steady d_ first k g.word g.answer block g.block_is g.left g.backs (only_leaves d_ (left_last_first first k) g.left g.left_order) (only_backs (first + 1) k g.backs g.back_order) x (inner (x / 256) out))
               (seek.steady v (fits_find f_ d_ gs v met) before (x / 256) (whole_outer f_ gs v met (x / 256) is) x refl);
           unbacked = λ v met agreed p is.
               let before = agreed_later f_ v after seek.steps agreed in let out = run_out f_ d_ gs first (first + (k + 2)) v (seek.steps ++ v) met (sought.leads.from v met before) p is in
-              backs_both p after seek.steps (after_unbacked d_ first k g.word g.answer block g.block_is g.left g.backs g.left_kinds g.back_pages p (inner p out)) (no_backs seeking p seek.steps refl seek.kinds);
+              backs_both p after seek.steps (after_unbacked d_ first k g.word g.answer block g.block_is g.left g.backs (only_leaves d_ (left_last_first first k) g.left g.left_order) (backs_in (first + 1) k g.backs g.back_order) p (inner p out)) (no_backs seeking p seek.steps refl seek.kinds);
           few = (let few = seek.few in let j = length-append after seek.steps in let a = g.few in omega (arith, few, j, a));
           outcome = record {
             first = first;
             found = seek.outcome;
             backs = g.backs;
-            back_kinds = g.back_kinds;
-            back_pages = g.back_pages;
             back_order = g.back_order;
-            back_few = g.back_few;
             word = g.word;
             answer = g.answer;
             block_is = g.block_is;
             left = g.left;
-            left_kinds = g.left_kinds;
             left_order = g.left_order;
             after_is = refl;
             raised = refl;

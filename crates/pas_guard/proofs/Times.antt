@@ -33,6 +33,7 @@ use Rattle.pas_guard.specs.Seeks.{seeking}
 use Rattle.pas_guard.specs.Sweeps.{is_over, life_look, SweptOne, Swept, sweeping}
 use Rattle.pas_guard.specs.declared.book.Guard.{Guard}
 use Rattle.pas_guard.proofs.Guarded.{head_same}
+use Rattle.pas_guard.proofs.Raised.{raised_backs, raised_leaves}
 use Rattle.pas_guard.proofs.Sweeps.{kept_steady}
 use Rattle.pas_guard.proofs.Keepers.{part_both, older_legal, split_at, none_gives, first_or_later, none_in, low_outer, outer_in, older_always, up_stands, one_more}
 
@@ -128,10 +129,10 @@ raised_in_book : (f : Profile) (d : Directory) (k : ℕ) (guards guards' : List 
 raised_in_book f d k guards guards' searched after block guard r beside gives =
     let given = give_steps (r.first + 1) 0 block r.word r.answer in
     let same : block ≡ guard.block = elim (give_in_parts guard r.left (given ++ r.backs) (subst (Once (GivesBlockOf guard)) r.after_is gives)) [
-      | inl left ↦ absurd (none_gives returning guard r.left refl r.left_kinds left)
+      | inl left ↦ absurd (none_gives returning guard r.left refl (raised_leaves r) left)
       | inr before ↦ elim (give_in_parts guard given r.backs before) [
         | inl now ↦ given_block guard (r.first + 1) r.word r.answer block now
-        | inr backs ↦ absurd (none_gives (Backing ∷ []) guard r.backs refl r.back_kinds backs)
+        | inr backs ↦ absurd (none_gives (Backing ∷ []) guard r.backs refl (raised_backs r) backs)
       ]
     ] in
     subst (λ xs. Contains xs guard) (sym r.raised) (subst (Contains (guards ++ guard_of r.first k block ∷ [])) (guard_is d r.first k r.word block guard r.block_is same beside) (Contains-push guards (guard_of r.first k block)))

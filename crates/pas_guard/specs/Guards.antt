@@ -1,17 +1,16 @@
 -- A run that is held is guarded: its inner pages are given as one block, and its outer pages are left whole.
-use Rattle.std.specs.Prelude.{ℕ, ◌+◌, ◌*◌, ◌/◌, ◌^◌, ◌<◌, ◌≤◌, ◌≡◌, true, if◌then◌else◌, List, [], ◌∷◌, ◌++◌, length}
+use Rattle.std.specs.Prelude.{ℕ, ◌+◌, ◌*◌, ◌/◌, ◌^◌, ◌<◌, ◌≤◌, ◌≡◌, true, if◌then◌else◌, List, ◌∷◌, ◌++◌, length}
 use Rattle.pas_profile.specs.declared.directory.Directory.{Directory}
 use Rattle.pas_profile.specs.declared.name.Block.{Block}
 use Rattle.pas_steps.specs.Calls.{Calls, Effect, Kept, Lost, Does}
 use Rattle.pas_steps.specs.Desks.{Standing}
 use Rattle.pas_steps.specs.InTurn.{InTurn}
-use Rattle.pas_steps.specs.Kinds.{Backing, Only, returning}
 use Rattle.pas_steps.specs.Views.{View, KnowsDeed}
 use Rattle.pas_steps.specs.declared.step.Made.{Made}
 use Rattle.pas_large.specs.Claims.{in_span, HasPages}
 use Rattle.pas_rights.specs.Gives.{give_steps}
 use Rattle.pas_rights.specs.Leaves.{LeaveSteps}
-use Rattle.pas_large.specs.Gives.{BackStep, BacksIn, pages_from, run_block}
+use Rattle.pas_large.specs.Gives.{BackStep, pages_from, run_block}
 
 -- the grains of the pages from `low` to below `high` are the actor's no longer, and neither are the rights of those from `first` to below `stop`
 abbrev pub given_and_left : ℕ → ℕ → ℕ → ℕ → Effect
@@ -30,15 +29,11 @@ left_last_first first k = (first + k + 1) ∷ first ∷ pages_from (first + 1) k
 -- 12 * k + 24 steps.
 pub record GuardsRun (d : Directory) (first k : ℕ) (block : Block) (desk desk' : Standing) : Type 0 where
   pub backs : List Made
-  pub back_kinds : Only (Backing ∷ []) backs
-  pub back_pages : BacksIn (first + 1) (first + 1 + k) backs
   pub back_order : InTurn BackStep (pages_from (first + 1) k) backs
-  pub back_few : length backs ≤ k
   pub word : ℕ
   pub answer : ℕ
   pub block_is : block ≡ run_block d (first + 1) k word
   pub left : List Made
-  pub left_kinds : Only returning left
   pub left_order : InTurn (λ page piece. LeaveSteps page d piece) (left_last_first first k) left
   pub few : length (left ++ (give_steps (first + 1) 0 block word answer ++ backs)) ≤ 12 * k + 24
   pub calls : Calls desk desk' (HasPages d first (first + (k + 2))) (GuardedRun d first k block) (left ++ (give_steps (first + 1) 0 block word answer ++ backs))

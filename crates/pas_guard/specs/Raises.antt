@@ -11,7 +11,7 @@ use Rattle.pas_steps.specs.declared.step.Step.TheVariants.{Back}
 use Rattle.pas_large.specs.Claims.{StaysPut}
 use Rattle.pas_steps.specs.Desks.{Standing, Adds}
 use Rattle.pas_steps.specs.InTurn.{InTurn}
-use Rattle.pas_steps.specs.Kinds.{Backing, Only, returning}
+use Rattle.pas_steps.specs.Kinds.{Only}
 use Rattle.pas_steps.specs.Unknown.{unknown_pages}
 use Rattle.pas_steps.specs.Views.{View}
 use Rattle.pas_steps.specs.declared.step.Made.{Made}
@@ -19,7 +19,7 @@ use Rattle.pas_rights.specs.Gives.{give_steps}
 use Rattle.pas_rights.specs.Leaves.{LeaveSteps}
 use Rattle.pas_search.specs.Kinds.{ReturnsDuly}
 use Rattle.pas_large.specs.Evidence.{DeedsRise}
-use Rattle.pas_large.specs.Gives.{BackStep, BacksIn, pages_from, run_block}
+use Rattle.pas_large.specs.Gives.{BackStep, pages_from, run_block}
 use Rattle.pas_large.specs.Pages.{OnlyDeedsShow}
 use Rattle.pas_guard.specs.Books.{is_outer, FitsBook}
 use Rattle.pas_guard.specs.Guards.{left_last_first}
@@ -41,15 +41,11 @@ pub record IsRaised (f : Profile) (d : Directory) (k : ℕ) (guards guards' : Li
   pub first : ℕ
   pub found : SoughtRun f d k searched first
   pub backs : List Made
-  pub back_kinds : Only (Backing ∷ []) backs
-  pub back_pages : BacksIn (first + 1) (first + 1 + k) backs
   pub back_order : InTurn BackStep (pages_from (first + 1) k) backs
-  pub back_few : length backs ≤ k
   pub word : ℕ
   pub answer : ℕ
   pub block_is : block ≡ run_block d (first + 1) k word
   pub left : List Made
-  pub left_kinds : Only returning left
   pub left_order : InTurn (λ page piece. LeaveSteps page d piece) (left_last_first first k) left
   pub after_is : after ≡ left ++ (give_steps (first + 1) 0 block word answer ++ backs)
   pub raised : guards' ≡ guards ++ guard_of first k block ∷ []

@@ -1,5 +1,4 @@
 -- The pages of a run are backed, its block is given, and they are left.
-use Rattle.pas_steps.proofs.Past.{always_map}
 use Rattle.std.proofs.Common.{◌≡◌, ℕ, zero, suc, ◌+◌, ◌-◌, ◌*◌, ◌/◌, ◌<◌, ◌≤◌, ◌==◌, true, if◌then◌else◌, List, [], ◌∷◌, ◌++◌, length, inl, inr, refl, ap, sym, ◌∙◌, subst, arith, length-append, true≢false, ◌^◌}
 use Rattle.std.proofs.lemmas.Bool.{cases_eq, eq-eqb, and_from}
 use Rattle.pas_profile.specs.Profiles.{IsPage, IsDirectoryOf}
@@ -12,17 +11,18 @@ use Rattle.pas_steps.specs.Allowed.{Allowed}
 use Rattle.pas_steps.specs.Calls.{Calls, Kept, Lost, now, nothing, Does, ClearAfter}
 use Rattle.pas_steps.specs.Desks.{Standing, CanCall, CanMake, Makes, made}
 use Rattle.pas_steps.specs.Events.{events_by, event_of}
-use Rattle.pas_steps.specs.Kinds.{Backing, returning, Giving, LookLife}
+use Rattle.pas_steps.specs.Kinds.{Backing, Only, Giving, LookLife}
 use Rattle.pas_steps.specs.Views.{View, holds, holds_on, has_right, knows_backed, KnowsDeed, epoch_of}
 use Rattle.pas_steps.specs.declared.step.Made.{Made}
 use Rattle.pas_steps.specs.declared.step.Step.TheVariants.{Back}
-use Rattle.pas_steps.proofs.Apart.{only_both, deeds_same}
+use Rattle.pas_steps.proofs.Apart.{deeds_same}
 use Rattle.pas_steps.proofs.Kept.{any_from}
 use Rattle.pas_steps.proofs.Called.{call_none, call_step, call_then, next_call, call_as}
-use Rattle.pas_steps.proofs.Calls.{does_as, does_then, does_none, does_idly, returns_are, does_after_nothing, kept_first}
+use Rattle.pas_steps.proofs.Calls.{does_as, does_then, does_none, does_idly, does_after_nothing, kept_first}
 use Rattle.pas_steps.proofs.Sets.{both_fates, same_truth, kept_kept}
 use Rattle.pas_steps.proofs.Frames.{with_few}
 use Rattle.pas_large.proofs.Claims.{pages_call, call_knowing, span_wider, span_in, in_parts, span_past, span_none, span_more}
+use Rattle.pas_large.proofs.InOrder.{only_backs, backs_few}
 use Rattle.pas_large.specs.Claims.{in_span, HasPages}
 use Rattle.pas_rights.specs.Leaves.{LeaveSteps}
 use Rattle.pas_steps.specs.InTurn.{InTurn}
@@ -54,10 +54,7 @@ pub backed_none : {σ : Standing} (d : Directory) (first : ℕ) → BacksRun d f
 backed_none d first = record {
   steps = [];
   calls = call_none (λ v met. record { does = does_none v; bears = λ g h. absurd (true≢false (sym h ∙ span_none first (g / 256))) });
-  kinds = tt;
-  backs = tt;
   order = none_in_turn BackStep first;
-  few = omega arith;
 }
 
 -- a page of a run that is held may be backed
@@ -80,7 +77,7 @@ module _ {σ σ1 : Standing} (d : Directory) (first end page : ℕ) (low : first
   has_still v met old = record {
     right = λ p is. old.does.right p ∙ met.right p is;
     held = λ g is. old.does.held g ∙ met.held g is;
-    deeds = λ p is. deeds_same (Backing ∷ []) refl p xs v so_far.kinds ∙ met.deeds p is;
+    deeds = λ p is. deeds_same (Backing ∷ []) refl p xs v (only_backs first (page - first) xs so_far.order) ∙ met.deeds p is;
     clear = record { on = λ q. old.does.clear q (met.clear.on q) };
   }
 
@@ -113,13 +110,7 @@ module _ {σ σ1 : Standing} (d : Directory) (first end page : ℕ) (low : first
   backed_more last a makes = record {
     steps = made (Back page) a ∷ xs;
     calls = call_step (BackedRun first end) so_calls makes may_back (λ v met old agrees. subst (λ q. BackedRun first q v (made (Back page) a ∷ (xs ++ v))) (sym last) (now_backed a v met old agrees));
-    kinds = (refl, so_far.kinds);
-    backs = (
-      (λ q e. let same : page ≡ q = cc in (omega (arith, same, low), omega (arith, same, high))),
-      always_map (λ m before. (q : ℕ) → m.step ≡ Back q → (first ≤ q) × (q < page)) (λ m before. (q : ℕ) → m.step ≡ Back q → (first ≤ q) × (q < end)) xs (λ m before h q e. let its = h q e in let lt = its.1 in (its.0, omega (arith, lt, high))) so_far.backs,
-    );
     order = more_in_turn BackStep first page end (made (Back page) a ∷ []) xs low last (a, refl) so_far.order;
-    few = let few = so_far.few in omega (arith, few, low, high);
   }
 
 -- ---- and left
@@ -128,7 +119,6 @@ left_run_none d first = record {
   steps = [];
   calls = call_none (λ v met. record { does = does_as (left_run first first) (does_none v) (λ g. inl refl) (λ q. ap (λ t. if t then Lost else Kept) (sym (span_none first q))) (λ q h. h); deeds = met.deeds });
   order = none_in_turn (λ page piece. LeaveSteps page d piece) first;
-  kinds = tt;
   few = omega arith;
 }
 
@@ -157,7 +147,6 @@ left_run_more d first page low so_far h =
       steps = h.steps ++ so_far.steps;
       calls = call_as (LeftRun d first (page + 1)) (call_knowing d (in_span first (page + 1)) calls (λ v met. met.deeds)) (λ v met. met) (λ v w met left. record { does = left.0; deeds = left.1 });
       order = more_in_turn (λ q piece. LeaveSteps q d piece) first page (page + 1) h.steps so_far.steps low refl h.order so_far.order;
-      kinds = only_both returning h.steps so_far.steps (returns_are page h.steps h.returns) so_far.kinds;
       few = let n = length-append h.steps so_far.steps in let a = h.few in let b = so_far.few in omega (arith, n, a, b, low);
     }
 
@@ -185,12 +174,18 @@ is_run_block d first n word block is =
 
 -- ---- a run is given: its pages are backed, the block is given, and the pages are left
 module _ {σ σ1 : Standing} (d : Directory) (first n : ℕ) (backs : BacksRun d first (first + n) σ σ1) where
+  order : InTurn BackStep (pages_from first n) backs.steps
+  order = run_in_turn BackStep first n backs.steps backs.order
+
+  kinds : Only (Backing ∷ []) backs.steps
+  kinds = only_backs first n backs.steps order
+
   may_give : IsDirectoryOf σ.seat.profile d → (v : View) → HasPages d first (first + n) v → BackedRun first (first + n) v (backs.steps ++ v) → MayGive σ1.seat.profile d.heap first 0 (n * 256) (backs.steps ++ v)
   may_give of_profile v met back = record {
     held = λ g inside. back.does.held g ∙ met.held g (sym (run_span first n g) ∙ inside);
     bears = λ g inside.
         let is = sym (run_span first n g) ∙ inside in let b = back.bears g is in let p = g / 256 in let clear = back.does.clear p (met.clear.on p) in
-        bears_by d p (subst (λ s. IsDirectoryOf s.profile d) (sym backs.calls.adds.seat_is) of_profile) (deeds_same (Backing ∷ []) refl p backs.steps v backs.kinds ∙ met.deeds p is) b.backed clear.stamped;
+        bears_by d p (subst (λ s. IsDirectoryOf s.profile d) (sym backs.calls.adds.seat_is) of_profile) (deeds_same (Backing ∷ []) refl p backs.steps v kinds ∙ met.deeds p is) b.backed clear.stamped;
   }
 
   pub can_give : IsDirectoryOf σ.seat.profile d → CanCall σ (HasPages d first (first + n)) → CanCall σ1 (MayGive σ1.seat.profile d.heap first 0 (n * 256))
@@ -215,7 +210,7 @@ module _ {σ σ1 : Standing} (d : Directory) (first n : ℕ) (backs : BacksRun d
           turn = gave.turn;
           leave = record {
             right = λ p is. gave.does.right p ∙ back.does.right p ∙ met.right p is;
-            deeds = λ p is. deeds_same (Giving ∷ LookLife ∷ []) refl p gs (backs.steps ++ v) (refl, (refl, tt)) ∙ deeds_same (Backing ∷ []) refl p backs.steps v backs.kinds ∙ met.deeds p is;
+            deeds = λ p is. deeds_same (Giving ∷ LookLife ∷ []) refl p gs (backs.steps ++ v) (refl, (refl, tt)) ∙ deeds_same (Backing ∷ []) refl p backs.steps v kinds ∙ met.deeds p is;
           };
         })
 
@@ -225,17 +220,13 @@ module _ {σ σ1 : Standing} (d : Directory) (first n : ℕ) (backs : BacksRun d
     pub gives_run : {σ3 : Standing} → LeavesRun d first (first + n) σ2 σ3 → GivesRun d first n block σ σ3
     gives_run left = record {
       backs = backs.steps;
-      back_kinds = backs.kinds;
-      back_pages = backs.backs;
-      back_order = run_in_turn BackStep first n backs.steps backs.order;
-      back_few = (let few = backs.few in omega (arith, few));
+      back_order = order;
       word = give.word;
       answer = give.answer;
       block_is = is_run_block d first n give.word block give.block_is;
       left = left.steps;
-      left_kinds = left.kinds;
       left_order = run_in_turn (λ page piece. LeaveSteps page d piece) first n left.steps left.order;
-      few = let a = length-append left.steps (gs ++ backs.steps) in let b = backs.few in let c = left.few in omega (arith, a, b, c);
+      few = let a = length-append left.steps (gs ++ backs.steps) in let b = backs_few first n backs.steps order in let c = left.few in omega (arith, a, b, c);
       calls = call_then (GaveRun d first n block) given_call left.calls (λ v met given. given.leave)
           (λ v met given left. record {
             does = does_as (of_pages (in_span first (first + n)) Lost) (does_then given.does left.does) (λ g. inl refl) (λ q. kept_first (if in_span first (first + n) q then Lost else Kept)) (λ q h. h);

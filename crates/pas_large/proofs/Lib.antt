@@ -2,6 +2,7 @@ mod Left
 pub mod Pages
 pub mod Claims
 mod Refusals
+pub mod InOrder
 pub mod Gives
 pub mod Finds
 mod Named

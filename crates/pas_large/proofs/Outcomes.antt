@@ -16,8 +16,9 @@ use Rattle.pas_large.specs.Allocates.{GaveLarge, IsAllocatedLarge, IsRefusedLarg
 use Rattle.pas_large.specs.Evidence.{DeedsOf}
 use Rattle.pas_large.specs.Finds.{MayFind, finding}
 use Rattle.pas_rights.specs.Gives.{give_steps}
-use Rattle.pas_large.specs.Gives.{run_block}
+use Rattle.pas_large.specs.Gives.{pages_from, run_block}
 use Rattle.pas_large.specs.Pages.{OnlyDeedsShow, claiming_old}
+use Rattle.pas_large.proofs.InOrder.{only_backs, backs_few, only_leaves}
 use Rattle.pas_large.proofs.Pages.{shows_both}
 
 -- each deed that was made is of the directory
@@ -73,13 +74,13 @@ module _ (f : Profile) (d : Directory) (n : ℕ) (tried : List Made) (old : Only
       of_region = is.holds_it.of_region;
       made = no_deed d tried old;
       backs = is.backs;
-      back_kinds = is.back_kinds;
-      back_few = is.back_few;
+      back_kinds = only_backs is.first n is.backs is.back_order;
+      back_few = backs_few is.first n is.backs is.back_order;
       word = is.word;
       answer = is.answer;
       block_is = is.block_is;
       left = is.left;
-      left_kinds = is.left_kinds;
+      left_kinds = only_leaves d (pages_from is.first n) is.left is.left_order;
       after_is = is.after_is;
       gave = is.gave;
     });
@@ -92,13 +93,13 @@ module _ (f : Profile) (d : Directory) (n : ℕ) (tried : List Made) (old : Only
     of_region = is.found.of_region;
     made = of_directory d n _ got is.found.deeds;
     backs = is.backs;
-    back_kinds = is.back_kinds;
-    back_few = is.back_few;
+    back_kinds = only_backs is.first n is.backs is.back_order;
+    back_few = backs_few is.first n is.backs is.back_order;
     word = is.word;
     answer = is.answer;
     block_is = is.block_is;
     left = is.left;
-    left_kinds = is.left_kinds;
+    left_kinds = only_leaves d (pages_from is.first n) is.left is.left_order;
     after_is = is.after_is;
     gave = is.gave;
   }

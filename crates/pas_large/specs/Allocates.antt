@@ -1,5 +1,5 @@
 -- The allocation of a large block.
-use Rattle.std.specs.Prelude.{ℕ, ◌+◌, ◌*◌, ◌/◌, ◌^◌, ◌<◌, ◌≤◌, ◌≡◌, Bool, true, false, List, [], ◌∷◌, ◌++◌, length, Option, Result, Ok, Err, MatchResult, ◌⊎◌}
+use Rattle.std.specs.Prelude.{ℕ, ◌+◌, ◌*◌, ◌/◌, ◌^◌, ◌<◌, ◌≤◌, ◌≡◌, Bool, true, false, List, ◌++◌, length, Option, Result, Ok, Err, MatchResult, ◌⊎◌}
 use Rattle.pas_profile.specs.declared.directory.Directory.{Directory}
 use Rattle.pas_profile.specs.declared.event.NoRoom.{NoRoom}
 use Rattle.pas_profile.specs.declared.name.Block.{Block}
@@ -9,7 +9,7 @@ use Rattle.pas_steps.specs.Calls.{Leads, nothing, Does}
 use Rattle.pas_steps.specs.Desks.{Standing, Adds, triples}
 use Rattle.pas_steps.specs.Lists.{Whole}
 use Rattle.pas_steps.specs.Frames.{OnlyScans}
-use Rattle.pas_steps.specs.Kinds.{Backing, Only, returning}
+use Rattle.pas_steps.specs.Kinds.{Only}
 use Rattle.pas_steps.specs.Past.{Always}
 use Rattle.pas_steps.specs.Views.{View, holds, KnowsDeed}
 use Rattle.pas_steps.specs.declared.step.Made.{Made}
@@ -18,7 +18,7 @@ use Rattle.pas_large.specs.Claims.{in_span}
 use Rattle.pas_large.specs.Finds.{MayFind, finding, FoundRun, FoundNone, LooksAlone}
 use Rattle.pas_large.specs.Named.{HoldsNamed, MissesNamed, missed_steps}
 use Rattle.pas_large.specs.Pages.{OnlyDeedsShow, claiming_old}
-use Rattle.pas_large.specs.Gives.{BacksIn, BackStep, pages_from, run_block}
+use Rattle.pas_large.specs.Gives.{BackStep, pages_from, run_block}
 use Rattle.pas_rights.specs.Gives.{give_steps}
 use Rattle.pas_rights.specs.Leaves.{LeaveSteps}
 use Rattle.pas_steps.specs.InTurn.{InTurn}
@@ -37,15 +37,11 @@ pub record IsAllocatedLarge (f : Profile) (d : Directory) (n : ℕ) (searched af
   pub first : ℕ
   pub found : FoundRun f d n searched first
   pub backs : List Made
-  pub back_kinds : Only (Backing ∷ []) backs
-  pub back_pages : BacksIn first (first + n) backs
   pub back_order : InTurn BackStep (pages_from first n) backs
-  pub back_few : length backs ≤ n
   pub word : ℕ
   pub answer : ℕ
   pub block_is : block ≡ run_block d first n word
   pub left : List Made
-  pub left_kinds : Only returning left
   pub left_order : InTurn (λ page piece. LeaveSteps page d piece) (pages_from first n) left
   pub after_is : after ≡ left ++ (give_steps first 0 block word answer ++ backs)
   pub few : length after ≤ 12 * n + 2
@@ -81,15 +77,11 @@ pub record IsAllocatedNamed (f : Profile) (d : Directory) (n : ℕ) (found : Opt
   pub first : ℕ
   pub holds_it : HoldsNamed f d n found tried first
   pub backs : List Made
-  pub back_kinds : Only (Backing ∷ []) backs
-  pub back_pages : BacksIn first (first + n) backs
   pub back_order : InTurn BackStep (pages_from first n) backs
-  pub back_few : length backs ≤ n
   pub word : ℕ
   pub answer : ℕ
   pub block_is : block ≡ run_block d first n word
   pub left : List Made
-  pub left_kinds : Only returning left
   pub left_order : InTurn (λ page piece. LeaveSteps page d piece) (pages_from first n) left
   pub after_is : after ≡ left ++ (give_steps first 0 block word answer ++ backs)
   pub few : length (after ++ tried) ≤ 18 * n + 2

@@ -8,17 +8,11 @@ use Rattle.pas_rights.specs.Gives.{give_steps}
 use Rattle.pas_rights.specs.Leaves.{LeaveSteps}
 use Rattle.pas_steps.specs.Desks.{Standing, Makes, made}
 use Rattle.pas_steps.specs.InTurn.{InTurn}
-use Rattle.pas_steps.specs.Kinds.{Backing, Only, returning}
-use Rattle.pas_steps.specs.Past.{Always}
 use Rattle.pas_steps.specs.Views.{View, has_right, KnowsDeed}
 use Rattle.pas_steps.specs.declared.step.Made.{Made}
 use Rattle.pas_steps.specs.declared.step.Step.TheVariants.{Back}
 use Rattle.pas_large.specs.Claims.{in_span, HasPages}
 use Rattle.pas_large.specs.Pages.{of_pages}
-
--- each back is of one of these pages
-abbrev pub BacksIn : ℕ → ℕ → List Made → Type 0
-BacksIn first end = Always (λ m before. (page : ℕ) → m.step ≡ Back page → (first ≤ page) × (page < end))
 
 -- so many pages from the first one on, the last one first
 abbrev pub pages_from : ℕ → ℕ → List ℕ
@@ -42,10 +36,7 @@ pub record BackedRun (first end : ℕ) (v w : View) : Type 0 where
 pub record BacksRun (d : Directory) (first end : ℕ) (desk desk' : Standing) : Type 0 where
   pub steps : List Made
   pub calls : Calls desk desk' (HasPages d first end) (BackedRun first end) steps
-  pub kinds : Only (Backing ∷ []) steps
-  pub backs : BacksIn first end steps
   pub order : InTurn BackStep (pages_from first (end - first)) steps
-  pub few : length steps ≤ end - first
 
 -- ---- and the pages are left
 pub record MayLeaveRun (d : Directory) (first end : ℕ) (v : View) : Type 0 where
@@ -64,7 +55,6 @@ pub record LeavesRun (d : Directory) (first end : ℕ) (desk desk' : Standing) :
   pub steps : List Made
   pub calls : Calls desk desk' (MayLeaveRun d first end) (LeftRun d first end) steps
   pub order : InTurn (λ page piece. LeaveSteps page d piece) (pages_from first (end - first)) steps
-  pub kinds : Only returning steps
   pub few : length steps ≤ 11 * (end - first)
 
 -- ---- and given
@@ -85,15 +75,11 @@ pub record GaveRun (d : Directory) (first n : ℕ) (block : Block) (v w : View) 
 
 pub record GivesRun (d : Directory) (first n : ℕ) (block : Block) (desk desk' : Standing) : Type 0 where
   pub backs : List Made
-  pub back_kinds : Only (Backing ∷ []) backs
-  pub back_pages : BacksIn first (first + n) backs
   pub back_order : InTurn BackStep (pages_from first n) backs
-  pub back_few : length backs ≤ n
   pub word : ℕ
   pub answer : ℕ
   pub block_is : block ≡ run_block d first n word
   pub left : List Made
-  pub left_kinds : Only returning left
   pub left_order : InTurn (λ page piece. LeaveSteps page d piece) (pages_from first n) left
   pub few : length (left ++ (give_steps first 0 block word answer ++ backs)) ≤ 12 * n + 2
   pub calls : Calls desk desk' (HasPages d first (first + n)) (GaveRun d first n block) (left ++ (give_steps first 0 block word answer ++ backs))

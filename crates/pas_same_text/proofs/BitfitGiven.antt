@@ -47,6 +47,7 @@ use Rattle.pas_rights.specs.Gives.{give_steps}
 use Rattle.pas_rights.specs.Looks.{ReadsAllFree}
 use Rattle.pas_rights.proofs.Hints.{leave_due}
 use Rattle.pas_rights.proofs.Orders.{leave_returns}
+use Rattle.pas_steps.proofs.Calls.{returns_are}
 use Rattle.pas_search.specs.Kinds.{IsReturnOf, KeepsMarks, searching}
 use Rattle.pas_search.specs.Searches.{MaySearch}
 use Rattle.pas_choice.specs.Allocates.{IsGiven}
@@ -151,6 +152,9 @@ module _ (f : Profile) (k name heap size align : ℕ) (p p' : Progress) (w : Wor
 
   abbrev gave : List Made
   gave = give_steps page first block given.word given.answer
+
+  left_kinds : Only returning given.left
+  left_kinds = returns_are page given.left (leave_returns page d given.left given.leaves)
 
   -- ---- the replay after them
   abbrev q : Progress
@@ -426,7 +430,7 @@ module _ (f : Profile) (k name heap size align : ℕ) (p p' : Progress) (w : Wor
         | inl left ↦
             let r = hint_read page given.left (hints_of given.left (leave_due page d given.left given.leaves)) left in
             let end = within in let one = some in
-            never_read given.left legal_left given.left_kinds (r.free (first / 64) (omega (arith, end, one)))
+            never_read given.left legal_left left_kinds (r.free (first / 64) (omega (arith, end, one)))
         | inr gives ↦ none_marked (Giving ∷ LookLife ∷ []) refl page gave gave_kinds (hint_marks page gave gives)
       ]
 
@@ -451,7 +455,7 @@ module _ (f : Profile) (k name heap size align : ℕ) (p p' : Progress) (w : Wor
       let known : known_deed (part k q.list) page ≡ word_after q.list (Word.Deed page) = known_is (known_deed (part k q.list) page) (word_after q.list (Word.Deed page)) (deeds_known f q.list there.legal k page) (λ none. deed_word_of-positive d (sym knows ∙ none)) in
       let e_is : e ≡ d = same_from_deed_word e d of_e.kind tt (sym word ∙ (sym known ∙ knows)) in
       let free : has_bit (word_after q.list (Word.Free page (r.grain / 64))) (r.grain % 64) ≡ true =
-      ap (λ (m : Whole). has_bit (word_after m (Word.Free page (r.grain / 64))) (r.grain % 64)) list_is ∙ grain_read returning refl f k base page r.grain given.left legal_left given.left_kinds r.read in
+      ap (λ (m : Whole). has_bit (word_after m (Word.Free page (r.grain / 64))) (r.grain % 64)) list_is ∙ grain_read returning refl f k base page r.grain given.left legal_left left_kinds r.read in
       bit_offered f q v valid there same_now page e of_e bit
       (open_from f q v valid there same_now e page r.grain r.small (ap (λ (x : Directory). usable_by_kind x.kind r.grain) e_is ∙ r.usable) (bit_at q.list page r.grain r.small ∙ free))
 

@@ -26,7 +26,8 @@ use Rattle.pas_cache.specs.Locals.{any_covers, any_keeps, IsLocal}
 use Rattle.pas_segregated.specs.declared.slots.Slots.{Slots}
 use Rattle.pas_rights.specs.Gives.{give_steps}
 use Rattle.pas_large.specs.Finds.{MayFind}
-use Rattle.pas_large.specs.Gives.{BacksIn}
+use Rattle.pas_large.proofs.InOrder.{BacksIn}
+use Rattle.pas_guard.proofs.Raised.{raised_pages, raised_leaves}
 use Rattle.pas_guard.specs.Books.{is_outer_of, is_outer, Each, FitsBook}
 use Rattle.pas_guard.specs.Evidence.{BackedReadHere}
 use Rattle.pas_guard.specs.Keepers.{IsBeside}
@@ -195,9 +196,9 @@ module _ (f : Profile) (keeper heap n : ℕ) (l : Whole) (guards guards' : List 
 
     after_bare : (page : ℕ) → ((r.first + 1 ≤ page) × (page < r.first + 1 + n) → ⊥) → BacksNot page raise.after
     after_bare page out = subst (BacksNot page) (sym r.after_is)
-        (not_both page r.left (give_steps (r.first + 1) 0 block r.word r.answer ++ r.backs) (none_backs returning page r.left refl r.left_kinds)
+        (not_both page r.left (give_steps (r.first + 1) 0 block r.word r.answer ++ r.backs) (none_backs returning page r.left refl (raised_leaves r))
         (not_both page (give_steps (r.first + 1) 0 block r.word r.answer) r.backs (none_backs (Giving ∷ LookLife ∷ []) page (give_steps (r.first + 1) 0 block r.word r.answer) refl (refl, (refl, tt)))
-        (backs_beside (r.first + 1) (r.first + 1 + n) page r.backs r.back_pages out)))
+        (backs_beside (r.first + 1) (r.first + 1 + n) page r.backs (raised_pages r) out)))
 
     own_bare : (page : ℕ) → ((r.first + 1 ≤ page) × (page < r.first + 1 + n) → ⊥) → word_after (triples keeper raise.searched ++ l) (Word.Backed page) ≡ 0 → word_after (triples keeper steps ++ l) (Word.Backed page) ≡ 0
     own_bare page out zero =

@@ -94,13 +94,11 @@ module _ (f : Profile) (k : ℕ) (l : Whole) (d : Directory) (n : ℕ) (found : 
     rise = rise_none claiming_old tried refl old;
     pages = is.holds_it.got;
     backs = is.backs;
-    back_kinds = is.back_kinds;
     back_order = is.back_order;
     word = is.word;
     answer = is.answer;
     block_is = is.block_is;
     left = is.left;
-    left_kinds = is.left_kinds;
     left_order = is.left_order;
     after_is = is.after_is;
     gave = is.gave;
@@ -133,13 +131,11 @@ module _ (f : Profile) (k : ℕ) (l : Whole) (d : Directory) (n : ℕ) (found : 
       rise = is.found.rise;
       pages = is.found.got;
       backs = is.backs;
-      back_kinds = is.back_kinds;
       back_order = is.back_order;
       word = is.word;
       answer = is.answer;
       block_is = is.block_is;
       left = is.left;
-      left_kinds = is.left_kinds;
       left_order = is.left_order;
       after_is = is.after_is;
       gave = is.gave;

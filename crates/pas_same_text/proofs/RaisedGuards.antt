@@ -52,6 +52,7 @@ use Rattle.pas_cache.specs.Kinds.{allocating}
 use Rattle.pas_guard.specs.Books.{is_outer_of, is_outer}
 use Rattle.pas_guard.specs.Guards.{left_last_first}
 use Rattle.pas_guard.specs.Raises.{guard_of, IsRaised}
+use Rattle.pas_guard.proofs.Raised.{raised_backs, raised_leaves}
 use Rattle.pas_guard.specs.Seeks.{seeking, HasSpan}
 use Rattle.pas_guard.specs.declared.book.Guard.{Guard as BookGuard}
 use Rattle.pas_report.specs.declared.record.Record.{Record}
@@ -204,7 +205,7 @@ module _ (f : Profile) (k name heap n : ℕ) (p q : Progress) (w : World) (valid
   events_are : events_by k own (rest ++ xs) ≡ Event.Give k block ∷ es
   events_are =
       ap (events_by k own) steps_are
-      ∙ (events_same returning refl k own run.left (gave ++ (run.backs ++ xs)) run.left_kinds
+      ∙ (events_same returning refl k own run.left (gave ++ (run.backs ++ xs)) (raised_leaves run)
       ∙ ap (λ (ys : List Event). Event.Give k block ∷ ys)
       (events_append k run.backs xs own
       ∙ (ap (λ (v : View). events_by k v run.backs ++ events_by k own xs) (sym (part_of_own k xs l))
@@ -385,10 +386,10 @@ module _ (f : Profile) (k name heap n : ℕ) (p q : Progress) (w : World) (valid
   legal_left = subst (Legal f) list_is there.legal
 
   never_read : (x b : ℕ) → IsInRun first (n + 2) x → b < 256 → ReadsGrain x b run.left → ⊥
-  never_read x b here small read = run_used x b here small (bit_at q.list x b small ∙ (ap (λ (m : Whole). has_bit (word_after m (Word.Free x (b / 64))) (b % 64)) list_is ∙ grain_read returning refl f k base x b run.left legal_left run.left_kinds read))
+  never_read x b here small read = run_used x b here small (bit_at q.list x b small ∙ (ap (λ (m : Whole). has_bit (word_after m (Word.Free x (b / 64))) (b % 64)) list_is ∙ grain_read returning refl f k base x b run.left legal_left (raised_leaves run) read))
 
   after_kinds : Only (Giving ∷ LookLife ∷ Backing ∷ []) (gave ++ run.backs)
-  after_kinds = (refl, (refl, only_within (Backing ∷ []) (Giving ∷ LookLife ∷ Backing ∷ []) run.backs refl run.back_kinds))
+  after_kinds = (refl, (refl, only_within (Backing ∷ []) (Giving ∷ LookLife ∷ Backing ∷ []) run.backs refl (raised_backs run)))
 
   mark_left : (x : ℕ) → IsMarked x rest → IsMarked x run.left
   mark_left x h = elim (marked_parts x run.left (gave ++ run.backs) (subst (IsMarked x) run.after_is h)) [
@@ -409,7 +410,7 @@ module _ (f : Profile) (k name heap n : ℕ) (p q : Progress) (w : World) (valid
 
   all_kinds : Only allocating (rest ++ xs)
   all_kinds = only_both allocating rest xs
-      (subst (Only allocating) (sym run.after_is) (only_both allocating run.left (gave ++ run.backs) (only_within returning allocating run.left refl run.left_kinds) (only_within (Giving ∷ LookLife ∷ Backing ∷ []) allocating (gave ++ run.backs) refl after_kinds)))
+      (subst (Only allocating) (sym run.after_is) (only_both allocating run.left (gave ++ run.backs) (only_within returning allocating run.left refl (raised_leaves run)) (only_within (Giving ∷ LookLife ∷ Backing ∷ []) allocating (gave ++ run.backs) refl after_kinds)))
       (only_within seeking allocating xs refl kinds)
 
   -- ---- no page of the run is offered then

@@ -52,6 +52,7 @@ use Rattle.pas_large.specs.Finds.{MayFind, finding}
 use Rattle.pas_guard.specs.Seeks.{seeking}
 use Rattle.pas_large.proofs.Outcomes.{MadeOf}
 use Rattle.pas_large.specs.Gives.{BackStep, pages_from, run_block}
+use Rattle.pas_large.proofs.InOrder.{only_backs, only_leaves}
 use Rattle.pas_large.specs.Pages.{GotPages}
 use Rattle.pas_large.proofs.Claims.{span_in, in_parts}
 use Rattle.pas_large.proofs.Gives.{run_is}
@@ -97,13 +98,11 @@ pub record GaveRun (f : Profile) (d : Directory) (first n : ℕ) (got after : Li
   pub rise : DeedsRise got
   pub pages : Leads f (MayFind d) (GotPages (in_span first (first + n)) d) got
   pub backs : List Made
-  pub back_kinds : Only (Backing ∷ []) backs
   pub back_order : InTurn BackStep (pages_from first n) backs
   pub word : ℕ
   pub answer : ℕ
   pub block_is : block ≡ run_block d first n word
   pub left : List Made
-  pub left_kinds : Only returning left
   pub left_order : LeftInTurn d first n left
   pub after_is : after ≡ left ++ (give_steps first 0 block word answer ++ backs)
   pub gave : Leads f (MayFind d) (GaveLarge d first n block) (after ++ got)
@@ -122,6 +121,12 @@ module _ (f : Profile) (k name heap first n : ℕ) (p : Progress) (u : World) (g
 
   abbrev c : Cached
   c = p.caches k
+
+  back_kinds : Only (Backing ∷ []) run.backs
+  back_kinds = only_backs first n run.backs run.back_order
+
+  left_kinds : Only returning run.left
+  left_kinds = only_leaves d (pages_from first n) run.left run.left_order
 
   abbrev l : Whole
   l = p.list
@@ -193,7 +198,7 @@ module _ (f : Profile) (k name heap first n : ℕ) (p : Progress) (u : World) (g
   events_are : events_by k own (rest ++ got) ≡ Event.Give k block ∷ es
   events_are =
       ap (events_by k own) steps_are
-      ∙ (events_same returning refl k own run.left (gave ++ (run.backs ++ got)) run.left_kinds
+      ∙ (events_same returning refl k own run.left (gave ++ (run.backs ++ got)) left_kinds
       ∙ ap (λ (xs : List Event). Event.Give k block ∷ xs)
       (events_append k run.backs got own
       ∙ (ap (λ (v : View). events_by k v run.backs ++ events_by k own got) (sym (part_of_own k got l))
@@ -332,7 +337,7 @@ module _ (f : Profile) (k name heap first n : ℕ) (p : Progress) (u : World) (g
 
   -- ---- marks
   after_kinds : Only (Giving ∷ LookLife ∷ Backing ∷ []) (gave ++ run.backs)
-  after_kinds = (refl, (refl, only_within (Backing ∷ []) (Giving ∷ LookLife ∷ Backing ∷ []) run.backs refl run.back_kinds))
+  after_kinds = (refl, (refl, only_within (Backing ∷ []) (Giving ∷ LookLife ∷ Backing ∷ []) run.backs refl back_kinds))
 
   mark_left : (x : ℕ) → IsMarked x rest → IsMarked x run.left
   mark_left x h = elim (marked_parts x run.left (gave ++ run.backs) (subst (IsMarked x) run.after_is h)) [
@@ -344,13 +349,13 @@ module _ (f : Profile) (k name heap first n : ℕ) (p : Progress) (u : World) (g
   no_hint x h = elim (once_parts (λ m. m.step ≡ Hint x) run.left (gave ++ run.backs) (subst (HintsPage x) run.after_is h)) [
     | inl left ↦
         let r = hint_read x run.left (hints_of run.left (left_due d (pages_from first n) run.left run.left_order)) left in
-        never_read x (left_marked d first n x run.left run.left_order (hint_marks x run.left left)) run.left legal_left run.left_kinds (r.free 0 (omega arith))
+        never_read x (left_marked d first n x run.left run.left_order (hint_marks x run.left left)) run.left legal_left left_kinds (r.free 0 (omega arith))
     | inr later ↦ none_marked (Giving ∷ LookLife ∷ Backing ∷ []) refl x (gave ++ run.backs) after_kinds (hint_marks x (gave ++ run.backs) later)
   ]
 
   all_kinds : Only allocating (rest ++ got)
   all_kinds = only_both allocating rest got
-      (subst (Only allocating) (sym run.after_is) (only_both allocating run.left (gave ++ run.backs) (only_within returning allocating run.left refl run.left_kinds) (only_within (Giving ∷ LookLife ∷ Backing ∷ []) allocating (gave ++ run.backs) refl after_kinds)))
+      (subst (Only allocating) (sym run.after_is) (only_both allocating run.left (gave ++ run.backs) (only_within returning allocating run.left refl left_kinds) (only_within (Giving ∷ LookLife ∷ Backing ∷ []) allocating (gave ++ run.backs) refl after_kinds)))
       (only_within finding allocating got refl run.kinds)
 
   -- ---- a page of the run is offered where a look of the leave read room
@@ -373,7 +378,7 @@ module _ (f : Profile) (k name heap first n : ℕ) (p : Progress) (u : World) (g
       let known : known_deed (part k q.list) x ≡ word_after q.list (Word.Deed x) = known_is (known_deed (part k q.list) x) (word_after q.list (Word.Deed x)) (deeds_known f q.list there.legal k x) (λ none. deed_word_of-positive d (sym knows ∙ none)) in
       let e_is : e ≡ d = same_from_deed_word e d of_e.kind tt (sym word ∙ (sym known ∙ knows)) in
       let free : has_bit (word_after q.list (Word.Free x (r.grain / 64))) (r.grain % 64) ≡ true =
-      ap (λ (m : Whole). has_bit (word_after m (Word.Free x (r.grain / 64))) (r.grain % 64)) list_is ∙ grain_read returning refl f k base x r.grain run.left legal_left run.left_kinds r.read in
+      ap (λ (m : Whole). has_bit (word_after m (Word.Free x (r.grain / 64))) (r.grain % 64)) list_is ∙ grain_read returning refl f k base x r.grain run.left legal_left left_kinds r.read in
       bit_offered f q v valid there same_now x e of_e bit
       (open_from f q v valid there same_now e x r.grain r.small (ap (λ (y : Directory). usable_by_kind y.kind r.grain) e_is ∙ r.usable) (bit_at q.list x r.grain r.small ∙ free))
 
