@@ -24,6 +24,7 @@ use Rattle.pas_core.proofs.MachineRuns.{agrees}
 use Rattle.pas_guard.specs.Evidence.{BackedReadHere}
 use Rattle.pas_guard.specs.Raises.{BacksNot}
 use Rattle.pas_guard.specs.Seeks.{LeftSince}
+use Rattle.pas_same_text.proofs.Tests.{eqb_itself}
 
 -- ---- one step: only a back makes a page that isn't backed a backed one
 stays_bare : (e : ℕ) (s : Step) (page old : ℕ) → (s ≡ Back page → ⊥) → old ≡ 0 → (if same_word (target s) (Word.Backed page) then new_value e s old else old) ≡ 0
@@ -61,10 +62,7 @@ held_unbacked f k j page (m ∷ xs) l valid legal other held = (
 )
   where
     is_same : (k j : ℕ) → k ≡ j → (k == j) ≡ true
-    is_same k j same = ap (λ (x : ℕ). k == x) (sym same) ∙ own k
-      where
-        own : (n : ℕ) → (n == n) ≡ true
-        own n = grind arith
+    is_same k j same = ap (λ (x : ℕ). k == x) (sym same) ∙ eqb_itself k
 
 -- where the page was read as not backed, and left alone since
 pub bare_since : (f : Profile) (k page : ℕ) (v : View) (xs : List Made) (l : Whole) → Legal f (triples k xs ++ l) → Since (BackedReadHere v page 0) (LeftSince page) xs → word_after (triples k xs ++ l) (Word.Backed page) ≡ 0

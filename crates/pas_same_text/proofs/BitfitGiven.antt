@@ -1,5 +1,5 @@
 -- A BIT-FIT REQUEST THAT IS SERVED: the page that was searched for gets a deed and memory where it has none, and the lowest place on it is given.
-use Rattle.std.proofs.Common.{◌≡◌, ◌≢◌, ℕ, ◌+◌, ◌*◌, ◌/◌, ◌%◌, ◌<◌, ◌≤◌, ◌==◌, Bool, true, false, not, ◌&&◌, ◌||◌, if◌then◌else◌, List, [], ◌∷◌, ◌++◌, Option, None, Some, Result, Ok, ◌⊎◌, inl, inr, refl, ap, sym, ◌∙◌, subst, arith, append_assoc}
+use Rattle.std.proofs.Common.{◌≡◌, ◌≢◌, ℕ, ◌+◌, ◌*◌, ◌/◌, ◌%◌, ◌<◌, ◌≤◌, ◌==◌, Bool, true, false, not, ◌&&◌, ◌||◌, if◌then◌else◌, List, [], ◌∷◌, ◌++◌, Option, None, Some, Result, Ok, ◌⊎◌, inl, inr, refl, ap, sym, ◌∙◌, subst, arith, append_assoc, append-nil}
 use Rattle.std.proofs.lemmas.Bool.{true≢false, false≢true, eq-eqb, false_from_ne_true}
 use Rattle.std.specs.List.{flat_map, filter}
 use Rattle.pas_bits.specs.Bits.{has_bit}
@@ -81,7 +81,7 @@ use Rattle.pas_same_text.proofs.Flushes.{visible_steps}
 use Rattle.pas_same_text.proofs.GivenPages.{open_from}
 use Rattle.pas_same_text.proofs.OuterPages.{guards_as, still_unguarded}
 use Rattle.pas_same_text.proofs.GivingBack.{HintsPage, OffersPage, IsMarked, once_parts, marked_parts, none_marked, returns_marked, hint_marks, offer_marks, offered_by, hints_of, hint_read, epoch_stays_by}
-use Rattle.pas_same_text.proofs.LoggedFrees.{after_with, nothing_more}
+use Rattle.pas_same_text.proofs.LoggedFrees.{after_with}
 use Rattle.pas_same_text.proofs.ReadyPages.{AllAtPage, shown, shown_events, shown_records, shown_lives, shown_rest, search_at, same_live, deed_beside, readied}
 use Rattle.pas_same_text.proofs.RestingPages.{bit_at, deed_now, bit_tells, bit_offered}
 use Rattle.pas_same_text.proofs.SearchedMarks.{IsSearchedTo, hints_kept, offers_kept}
@@ -99,10 +99,6 @@ not_hinted page (m ∷ xs) all (inr h) = not_hinted page xs all.1 h
 pub one_more : (b : Block) (bs : List Block) (g : ℕ) (t : Bool) → in_run (grain_of b.name) (length_of b) g ≡ false → is_covered (if t then b ∷ bs else bs) g ≡ is_covered bs g
 one_more b bs g true none = ap (λ (u : Bool). u || is_covered bs g) none
 one_more b bs g false none = refl
-
-no_steps : (xs : List Made) → xs ++ [] ≡ xs
-no_steps [] = refl
-no_steps (x ∷ xs) = ap (λ (ys : List Made). x ∷ ys) (no_steps xs)
 
 module _ (f : Profile) (k name heap size align : ℕ) (p p' : Progress) (w : World) (block : Block) (thread : IsThread f k) (admitted : IsAdmitted f size align heap) (route : route_in f size align ≡ Route.Bitfit) (valid : IsValid f) (before : IsBetween f p) (after : IsBetween f p') (same : IsSame f p w)
     (a : Answer) (served : IsServed f k (record { name = name; heap = heap; size = size; align = align }) (having p.names (part k p.list) (p.caches k)) a) (reached : p' ≡ after_answer p k a) (is : served.answer ≡ Ok block) where
@@ -387,7 +383,7 @@ module _ (f : Profile) (k name heap size align : ℕ) (p p' : Progress) (w : Wor
       ∙ ap (λ (t : Bool). if t then Some live else live_in (es ++ visible l) (address_of block.name)) (eq-eqb (address_of block.name) (address_of block.name) refl)
     where
       silent : (xs : List Made) → Only returning xs → events_by k (part k base) xs ≡ []
-      silent xs only = ap (events_by k (part k base)) (sym (no_steps xs)) ∙ events_same returning refl k (part k base) xs [] only
+      silent xs only = ap (events_by k (part k base)) (sym (append-nil xs)) ∙ events_same returning refl k (part k base) xs [] only
 
   -- no look of the leave reads the first grain as free
   never_read : (xs : List Made) → Legal f (triples k xs ++ base) → Only returning xs → Once (ReadsAllFree page (first / 64)) xs → ⊥
@@ -471,7 +467,7 @@ module _ (f : Profile) (k name heap size align : ℕ) (p p' : Progress) (w : Wor
     caches = same_now.caches;
     guards = same_now.guards;
     names = ap (λ (b : Block). named name (Some b) ∷ (shown es w).names) (sym block_is) ∙ ap (λ (ns : List Named). named name (Some block) ∷ ns) ((shown_rest es w).names ∙ same.names);
-    records = ap (λ (rs : List Record). p.records ++ rs) (nothing_more (records_of (events_by k own (rest ++ search))))
+    records = ap (λ (rs : List Record). p.records ++ rs) (append-nil (records_of (events_by k own (rest ++ search))))
         ∙ (ap (λ (xs : List Event). p.records ++ records_of xs) (given.events k own)
         ∙ events_recorded p.records w.records v.records (Event.Give k block ∷ es) same.records
         (ap (λ (b : Block). Record.Event (Event.Give k b) ∷ (shown es w).records) (sym block_is) ∙ ap (λ (rs : List Record). Record.Event (Event.Give k block) ∷ rs) (shown_records es w)));

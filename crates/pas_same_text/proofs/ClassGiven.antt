@@ -1,6 +1,6 @@
 -- A REQUEST OF A CLASS THAT A PAGE SERVES, where the cache has place for a local allocator: the page that was searched for gets a deed and memory where it has none, its
 -- slots are taken, the lowest of them is given, and the others are cached.
-use Rattle.std.proofs.Common.{◌≡◌, ◌≢◌, ℕ, ◌+◌, ◌*◌, ◌/◌, ◌%◌, ◌<◌, ◌≤◌, ◌==◌, Bool, true, false, not, ◌&&◌, if◌then◌else◌, List, [], ◌∷◌, ◌++◌, Option, None, Some, Result, Ok, ◌⊎◌, inl, inr, refl, ap, sym, ◌∙◌, subst, append_assoc, arith}
+use Rattle.std.proofs.Common.{◌≡◌, ◌≢◌, ℕ, ◌+◌, ◌*◌, ◌/◌, ◌%◌, ◌<◌, ◌≤◌, ◌==◌, Bool, true, false, not, ◌&&◌, if◌then◌else◌, List, [], ◌∷◌, ◌++◌, Option, None, Some, Result, Ok, ◌⊎◌, inl, inr, refl, ap, sym, ◌∙◌, subst, append_assoc, arith, append-nil}
 use Rattle.std.proofs.lemmas.Bool.{true≢false, false≢true, eq-eqb, eqb-true, or_cases, or_left, or_right, false_from_ne_true}
 use Rattle.pas_bits.specs.Bits.{has_bit}
 use Rattle.pas_bits.specs.Masks.{is_set}
@@ -83,7 +83,7 @@ use Rattle.pas_same_text.proofs.Flushes.{visible_steps}
 use Rattle.pas_same_text.proofs.FreeGrains.{free_same}
 use Rattle.pas_same_text.proofs.GivenPages.{open_from}
 use Rattle.pas_same_text.proofs.GivingBack.{HintsPage, OffersPage, IsMarked, once_parts, marked_parts, none_marked, returns_marked, hint_marks, offer_marks, offered_by, hints_of, hint_read, epoch_stays_by}
-use Rattle.pas_same_text.proofs.LoggedFrees.{after_with, nothing_more}
+use Rattle.pas_same_text.proofs.LoggedFrees.{after_with}
 use Rattle.pas_same_text.proofs.MadePlace.{all_left}
 use Rattle.pas_same_text.proofs.ReadSlots.{shared_row}
 use Rattle.pas_same_text.proofs.ReadyPages.{AllAtPage, shown, shown_events, shown_records, shown_lives, shown_rest, search_at, deed_beside, readied}
@@ -580,7 +580,7 @@ module _ (f : Profile) (k name heap class : ℕ) (p : Progress) (w : World) (has
     caches = same_now.caches;
     guards = same_now.guards;
     names = ap (λ (b : Block). named name (Some b) ∷ (shown es w).names) (sym block_is) ∙ ap (λ (ns : List Named). named name (Some block) ∷ ns) ((shown_rest es w).names ∙ has.same.names);
-    records = ap (λ (rs : List Record). p.records ++ rs) (nothing_more (records_of (events_by k own (given ++ ys))))
+    records = ap (λ (rs : List Record). p.records ++ rs) (append-nil (records_of (events_by k own (given ++ ys))))
         ∙ (ap (λ (xs : List Event). p.records ++ records_of xs) events_are
         ∙ events_recorded p.records w.records v.records (Event.Give k block ∷ es) has.same.records
         (ap (λ (b : Block). Record.Event (Event.Give k b) ∷ (shown es w).records) (sym block_is) ∙ ap (λ (rs : List Record). Record.Event (Event.Give k block) ∷ rs) (shown_records es w)));

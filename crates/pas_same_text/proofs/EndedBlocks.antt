@@ -1,7 +1,8 @@
 -- What the text does where a block ends: its grains come back to its pages, and no other page changes.
-use Rattle.std.proofs.Common.{◌≡◌, ℕ, ◌+◌, ◌*◌, ◌==◌, nat_lt, Bool, true, false, not, ◌&&◌, ◌||◌, if◌then◌else◌, List, [], ◌∷◌, ◌++◌, length, Some, None, Option, inl, inr, refl, ap, sym, ◌∙◌}
+use Rattle.std.proofs.Common.{◌≡◌, ℕ, ◌+◌, ◌*◌, ◌==◌, nat_lt, Bool, true, false, not, ◌&&◌, if◌then◌else◌, List, [], ◌∷◌, ◌++◌, length, Some, None, Option, inl, inr, refl, ap, sym, ◌∙◌}
 use Rattle.std.proofs.lemmas.Bool.{false≢true, eqb-true, eq-eqb}
 use Rattle.std.specs.List.{list_any, filter}
+use Rattle.std.proofs.Math.Bool.{or-false}
 use Rattle.pas_bits.specs.Runs.{in_run, meets_page}
 use Rattle.pas_profile.specs.Blocks.{address_of, grain_of, length_of}
 use Rattle.pas_profile.specs.Profiles.{IsPage}
@@ -31,12 +32,8 @@ rejected_returns f k name why w = record {
   backed = λ page. refl;
   grows = λ page b small h. h;
   others = λ page b of none small. refl;
-  hinted = λ page. no_more (is_hinted w page);
+  hinted = λ page. sym (or-false (is_hinted w page));
 }
-  where
-    no_more : (x : Bool) → x ≡ (x || false)
-    no_more true = refl
-    no_more false = refl
 
 -- ---- a block that ends
 module _ (f : Profile) (k : ℕ) (name : Name) (b : Live) (w : World) (run : Run f w.events) (live : w.live ≡ lives_in w.events) (lives : live_in w.events (address_of name) ≡ Some b) where

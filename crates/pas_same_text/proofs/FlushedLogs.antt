@@ -1,7 +1,7 @@
 -- A FLUSH, entry by entry: its steps beside what the text does.
-use Rattle.std.proofs.Common.{◌≡◌, ℕ, zero, suc, ◌-◌, ◌/◌, ◌<◌, ◌≤◌, ◌==◌, nat_lt, Bool, true, false, ◌||◌, if◌then◌else◌, List, [], ◌∷◌, ◌++◌, length, map, reverse, take, Option, None, Some, inl, inr, refl, ap, sym, ◌∙◌, subst, append_assoc, length-append, arith}
+use Rattle.std.proofs.Common.{◌≡◌, ℕ, zero, suc, ◌-◌, ◌/◌, ◌<◌, ◌≤◌, ◌==◌, nat_lt, Bool, true, false, if◌then◌else◌, List, [], ◌∷◌, ◌++◌, length, map, reverse, take, Option, None, Some, inl, inr, refl, ap, sym, ◌∙◌, subst, append_assoc, length-append, arith, append-nil}
 use Rattle.std.specs.Prelude.{option_to_list}
-use Rattle.std.proofs.lemmas.Bool.{eq-eqb, false≢true}
+use Rattle.std.proofs.lemmas.Bool.{eq-eqb, false≢true, or_left, or_right}
 use Rattle.std.proofs.lemmas.Bool.Decides.{nat_tests}
 use Rattle.std.proofs.lemmas.Grind.{reverse_onto}
 use Rattle.std.specs.List.{flat_map}
@@ -62,11 +62,7 @@ take_both (suc k) [] ys = ap (λ n. take n ys) {y = suc k} (omega arith)
 take_both (suc k) (x ∷ xs) ys = ap (λ n. x ∷ take k xs ++ take n ys) (omega arith) ∙ ap (λ zs. x ∷ zs) (take_both k xs ys)
 
 flat_both : (h : Settled → List EndedRun) (xs : List Settled) (x : Settled) → flat_map h (xs ++ x ∷ []) ≡ flat_map h xs ++ h x
-flat_both h [] x = nothing_after (h x)
-  where
-    nothing_after : (ys : List EndedRun) → ys ++ [] ≡ ys
-    nothing_after [] = refl
-    nothing_after (y ∷ ys) = ap (λ (zs : List EndedRun). y ∷ zs) (nothing_after ys)
+flat_both h [] x = append-nil (h x)
 flat_both h (y ∷ xs) x = ap (λ (zs : List EndedRun). h y ++ zs) (flat_both h xs x) ∙ sym (append_assoc (h y) (flat_map h xs) (h x))
 
 noted_more : (es : List EndedRun) (s : Settled) (settled : List Settled) → noted_after es (s ∷ settled) ≡ noted_after es settled ++ take (64 - length (noted_after es settled)) (noted_for s)
@@ -79,16 +75,12 @@ noted_more es s settled =
     ∙ (sym (append_assoc es (take n xs) (take (n - length (take n xs)) (noted_for s)))
     ∙ ap (λ (m : ℕ). (es ++ take n xs) ++ take m (noted_for s)) (omega (arith, long))))
 
-nothing_more : {A : Type 0} (xs : List A) → xs ++ [] ≡ xs
-nothing_more [] = refl
-nothing_more {A} (x ∷ xs) = ap (λ (ys : List A). x ∷ ys) (nothing_more xs)
-
 take_none : {A : Type 0} (n : ℕ) → take {A = A} n [] ≡ []
 take_none zero = refl
 take_none (suc n) = refl
 
 noted_start : (es : List EndedRun) → noted_after es [] ≡ es
-noted_start es = ap (λ (xs : List EndedRun). es ++ xs) (take_none (64 - length es)) ∙ nothing_more es
+noted_start es = ap (λ (xs : List EndedRun). es ++ xs) (take_none (64 - length es)) ∙ append-nil es
 
 -- one run at most
 room_for : (noted : List EndedRun) (o : Option EndedRun) (t : Bool) → nat_lt (length noted) 64 ≡ t → (if t then noted ++ option_to_list o else noted) ≡ noted ++ take (64 - length noted) (option_to_list o)
@@ -101,7 +93,7 @@ room_for noted (Some run) true e = let lt : length noted < 64 = grind (arith, na
 room_for noted o false e =
     let le : 64 ≤ length noted = grind (arith, nat_tests, e) in
     let none : 64 - length noted ≡ 0 = omega (arith, le) in
-    sym (ap (λ (n : ℕ). noted ++ take n (option_to_list o)) none ∙ nothing_more noted)
+    sym (ap (λ (n : ℕ). noted ++ take n (option_to_list o)) none ∙ append-nil noted)
 
 -- ---- lists of entries
 each_last : {A : Type 0} (does : A → World → World) (xs : List A) (x : A) (w : World) → each does (xs ++ x ∷ []) w ≡ does x (each does xs w)
@@ -121,14 +113,6 @@ pub record IsEndedOn (es es' : List Event) (pages : List ℕ) (q : ℕ) : Type 0
 pub record OnlyFewer (es es' : List Event) : Type 0 where
   pub lives : (a : ℕ) (b : Live) → live_in es' a ≡ Some b → live_in es a ≡ Some b
   pub deeds : (page : ℕ) → deed_in es' page ≡ deed_in es page
-
-or_left : (x y : Bool) → x ≡ true → (x || y) ≡ true
-or_left true y h = refl
-or_left false y h = absurd (false≢true h)
-
-or_right : (x y : Bool) → y ≡ true → (x || y) ≡ true
-or_right true y h = refl
-or_right false y h = h
 
 -- what the event for an entry does to the live blocks
 still_gone : (k epoch : ℕ) (entry : Entry) (o : Outcome) (es : List Event) (a : ℕ) → live_in es a ≡ None → live_in (event_for k epoch entry o ∷ es) a ≡ None
@@ -290,7 +274,7 @@ module _ (f : Profile) (k epoch : ℕ) (s : Settled) (piece : List Made) (l : Wh
     none_noted : own_then s v k ≡ cache_of v k
     none_noted = ap (λ (runs : List EndedRun). record (cache_of v k) { noted = runs })
         (ap (λ (runs : List EndedRun). noted_of v k ++ take (64 - length (noted_of v k)) runs) (ap (noted_by s.entry.name s.directory) outcome)
-        ∙ (ap (λ (runs : List EndedRun). noted_of v k ++ runs) (take_none (64 - length (noted_of v k))) ∙ nothing_more (noted_of v k)))
+        ∙ (ap (λ (runs : List EndedRun). noted_of v k ++ runs) (take_none (64 - length (noted_of v k))) ∙ append-nil (noted_of v k)))
 
     rejected_taken : IsTakenBy f k s piece v x (own_then s v k)
     rejected_taken = subst (λ (w : World). IsTakenBy f k s piece v w (own_then s v k)) (sym rejected_text) (record {

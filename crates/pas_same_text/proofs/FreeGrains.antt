@@ -3,6 +3,7 @@
 use Rattle.std.proofs.Common.{◌≡◌, ℕ, ◌+◌, ◌*◌, ◌/◌, ◌<◌, ◌≤◌, ◌≢◌, Bool, true, false, not, ◌&&◌, ◌||◌, List, length, Some, ◌⊎◌, inl, inr, refl, ap, sym, ◌∙◌, subst, arith}
 use Rattle.std.proofs.lemmas.Bool.{eq-eqb, eqb-true, false≢true, true≢false, or_cases, or_left, or_right, false_from_ne_true, cases_lt}
 use Rattle.std.specs.List.{list_any}
+use Rattle.std.proofs.Math.Bool.{and-false, or-false}
 use Rattle.pas_bits.specs.Runs.{in_run, meets_page}
 use Rattle.pas_bits.proofs.Runs.{run_meets}
 use Rattle.pas_profile.specs.Blocks.{address_of, length_of}
@@ -31,7 +32,7 @@ use Rattle.pas_same_text.specs.Words.{free_bit}
 use Rattle.pas_same_text.proofs.LiveBlocks.{LivesSo, lives_so, lives_listed}
 use Rattle.pas_same_text.proofs.OuterPages.{guarded_by, outer_guarded}
 use Rattle.pas_same_text.proofs.Slots.{has_grain, grains_same, IsOfCache, of_cache, in_all, cached_any, any_cached}
-use Rattle.pas_same_text.proofs.Tests.{and_second, any_filtered, filtered_any}
+use Rattle.pas_same_text.proofs.Tests.{and_second, any_filtered, filtered_any, on_page}
 
 -- ---- actors
 -- an actor that is neither the scavenger nor past the last thread is a thread
@@ -41,10 +42,6 @@ thread_or f k some few = let last : k ≤ f.threads = le_or (cases_lt f.threads 
     le_or : (f.threads < k) ⊎ (k ≤ f.threads) → k ≤ f.threads
     le_or (inl past) = absurd (few past)
     le_or (inr le) = le
-
--- grain b of a page is on it
-pub on_page : (page b : ℕ) → b < 256 → (256 * page + b) / 256 ≡ page
-on_page page b small = omega (arith, small)
 
 module _ (f : Profile) (p : Progress) (between : IsBetween f p) where
   -- whose outer page a page is, is an actor of the region
@@ -142,9 +139,6 @@ module _ (f : Profile) (p : Progress) (w : World) (valid : IsValid f) (between :
       (o.0, o.1, outer_held f p between o.0 (256 * page + b) (ap (is_outer (p.books o.0)) (on_page page b small) ∙ o.1))
 
   -- ---- A GRAIN
-  no_more : (x : Bool) → (x && false) ≡ false
-  no_more true = refl
-  no_more false = refl
 
   free_here : (page b : ℕ) → b < 256 → IsInOnePlace p.list (256 * page + b) → is_free w page b ≡ (free_bit p.list (256 * page + b) || is_guarded w page)
   free_here page b small (inl free) =
@@ -167,7 +161,7 @@ module _ (f : Profile) (p : Progress) (w : World) (valid : IsValid f) (between :
           let unguarded : is_guarded w page ≡ false = false_from_ne_true (is_guarded w page) (λ h.
           let o = guarded_held page b small h in never_both f p between held.actor (256 * page + b) page cached (ap (λ (j : ℕ). is_outer (p.books j) page) (alone o.0 o.2) ∙ o.1)) in
           ap (λ (t : Bool). not (is_covered (blocks_on w page) (256 * page + b)) && not t) (cached_some held.actor page b small is cached)
-          ∙ (no_more (not (is_covered (blocks_on w page) (256 * page + b)))
+          ∙ (and-false (not (is_covered (blocks_on w page) (256 * page + b)))
           ∙ sym (ap (λ (t : Bool). t || is_guarded w page) held.not_free ∙ unguarded))
 
       in_book : is_outer (p.books held.actor) page ≡ true → is_free w page b ≡ (free_bit p.list (256 * page + b) || is_guarded w page)
@@ -186,11 +180,7 @@ module _ (f : Profile) (p : Progress) (w : World) (valid : IsValid f) (between :
 
   -- of a page that no guard has; and where the bit is set
   pub free_unless : (page b : ℕ) → b < 256 → is_guarded w page ≡ false → is_free w page b ≡ free_bit p.list (256 * page + b)
-  free_unless page b small none = free_same page b small ∙ (ap (λ (t : Bool). free_bit p.list (256 * page + b) || t) none ∙ no_other (free_bit p.list (256 * page + b)))
-    where
-      no_other : (x : Bool) → (x || false) ≡ x
-      no_other true = refl
-      no_other false = refl
+  free_unless page b small none = free_same page b small ∙ (ap (λ (t : Bool). free_bit p.list (256 * page + b) || t) none ∙ or-false (free_bit p.list (256 * page + b)))
 
   pub bit_free : (page b : ℕ) → b < 256 → free_bit p.list (256 * page + b) ≡ true → is_free w page b ≡ true
   bit_free page b small bit = free_same page b small ∙ or_left (free_bit p.list (256 * page + b)) (is_guarded w page) bit

@@ -1,6 +1,6 @@
 -- What the text does where the local allocators of a cache go: their slots come back to their pages.
 use Rattle.std.proofs.Common.{◌≡◌, ℕ, ◌+◌, ◌-◌, ◌*◌, ◌≤◌, ◌==◌, Bool, true, false, not, ◌&&◌, ◌||◌, if◌then◌else◌, cond, List, [], ◌∷◌, ◌++◌, length, map, refl, ap, sym, ◌∙◌, subst, arith}
-use Rattle.std.proofs.lemmas.Bool.{eq-eqb, eqb-true, false≢true}
+use Rattle.std.proofs.lemmas.Bool.{eq-eqb, eqb-true, false≢true, or_right}
 use Rattle.std.proofs.lemmas.List.Folds.{list_any-append}
 use Rattle.std.proofs.lemmas.List.Sums.{sum_by-cons}
 use Rattle.std.specs.List.{list_any, count_by}
@@ -21,6 +21,7 @@ use Rattle.pas_same_text.proofs.CacheLists.{all_locals, own_with, many_with, wit
 use Rattle.pas_same_text.proofs.GivenBack.{Returns, OnlyHints, minded_last, all_only_hints, returns_nothing, returns_then}
 use Rattle.pas_same_text.proofs.SameLocals.{for_same}
 use Rattle.pas_same_text.proofs.Slots.{has_grain, cached_any, any_cached}
+use Rattle.pas_same_text.proofs.Tests.{or_none, and_more}
 
 -- ---- one local allocator of a heap and class
 abbrev pub AreUnique : List Local → Type 0
@@ -128,11 +129,7 @@ module _ (f : Profile) (k : ℕ) (l : Local) (ls : List Local) (w : World) (is :
   left = ap (others l.heap l.class) is ∙ others_rest l ls unique
 
   any_left : (p : Local → Bool) → list_any p new.locals ≡ true → list_any p (locals_of w k) ≡ true
-  any_left p h = ap (list_any p) is ∙ or_second (p l) (list_any p ls) (ap (list_any p) (sym left) ∙ h)
-    where
-      or_second : (x y : Bool) → y ≡ true → (x || y) ≡ true
-      or_second true y h = refl
-      or_second false y h = h
+  any_left p h = ap (list_any p) is ∙ or_right (p l) (list_any p ls) (ap (list_any p) (sym left) ∙ h)
 
   any_other : (p : Local → Bool) → p l ≡ false → list_any p (locals_of w k) ≡ true → list_any p new.locals ≡ true
   any_other p none h = ap (list_any p) left ∙ (ap (λ (t : Bool). t || list_any p ls) (sym none) ∙ (ap (list_any p) (sym is) ∙ h))
@@ -143,28 +140,14 @@ module _ (f : Profile) (k : ℕ) (l : Local) (ls : List Local) (w : World) (is :
   cached_other : (page b : ℕ) → (l.page == page) ≡ false → is_cached (locals_on w page) b ≡ true → is_cached (locals_on bare page) b ≡ true
   cached_other page b none h = any_cached bare.caches page b (with_any w.caches k new (has_grain page b) (any_other (has_grain page b) (ap (λ (t : Bool). t && list_any (λ s. in_run s (class_grains l.class) b) l.slots) none)) (cached_any w.caches page b h))
 
-  freed_more : (x c d : Bool) → (d ≡ true → c ≡ true) → (x && not c) ≡ true → (x && not d) ≡ true
-  freed_more true true d more h = absurd (false≢true h)
-  freed_more true false true more h = absurd (false≢true (more refl))
-  freed_more true false false more h = refl
-  freed_more false c d more h = absurd (false≢true h)
-
   one_returns : Returns f (l.page ∷ []) w (gives_up k l w)
   one_returns = minded_last f (l.page ∷ []) w bare
       (λ page h. subst (IsPage f) (eqb-true l.page page (or_none (l.page == page) h)) page_of)
       (λ page. refl)
-      (λ page b small h. freed_more (not (is_covered (blocks_on w page) (256 * page + b))) (is_cached (locals_on w page) b) (is_cached (locals_on bare page) b) (cached_less page b) h)
+      (λ page b small h. and_more (not (is_covered (blocks_on w page) (256 * page + b))) (is_cached (locals_on w page) b) (is_cached (locals_on bare page) b) (cached_less page b) h)
       (λ page b of none small. ap (λ (t : Bool). not (is_covered (blocks_on w page) (256 * page + b)) && not t)
-      (same_truth (is_cached (locals_on bare page) b) (is_cached (locals_on w page) b) (cached_less page b) (cached_other page b (not_or (l.page == page) none))))
+      (same_truth (is_cached (locals_on bare page) b) (is_cached (locals_on w page) b) (cached_less page b) (cached_other page b (or_none (l.page == page) none))))
       refl
-    where
-      or_none : (x : Bool) → (x || false) ≡ true → x ≡ true
-      or_none true h = refl
-      or_none false h = h
-
-      not_or : (x : Bool) → (x || false) ≡ false → x ≡ false
-      not_or true h = h
-      not_or false h = refl
 
   abbrev pub gone : World
   gone = gives_up k l w

@@ -1,6 +1,6 @@
 -- The live blocks in a list, and those that the machine has by their addresses.
 use Rattle.std.proofs.Common.{◌≡◌, ℕ, ◌/◌, ◌%◌, ◌<◌, ◌≢◌, ◌==◌, Bool, true, false, not, ◌&&◌, ◌||◌, if◌then◌else◌, List, [], ◌∷◌, Option, Some, None, ◌⊎◌, inl, inr, refl, ap, sym, ◌∙◌, arith}
-use Rattle.std.proofs.lemmas.Bool.{eq-eqb, ne_eqb, eqb-false, false≢true, true≢false, or_cases, or_left}
+use Rattle.std.proofs.lemmas.Bool.{eq-eqb, ne_eqb, eqb-false, false≢true, true≢false, or_cases, or_left, or_right, not-true}
 use Rattle.std.specs.List.{list_any}
 use Rattle.pas_bits.specs.Runs.{in_run}
 use Rattle.pas_bits.proofs.Runs.{first_of_run}
@@ -71,10 +71,6 @@ ended k name e es p o =
       some = o.some;
       so = and_second (not (is_at (address_of name) o.live.block)) (p o.live.block) o.so;
     }
-  where
-    not-true : (x : Bool) → not x ≡ true → x ≡ false
-    not-true true h = absurd (false≢true h)
-    not-true false h = refl
 
 -- .. after an event that gives and ends none
 still : (e : Event) (es : List Event) (p : Block → Bool) (o : LivesSo es p) → live_in (e ∷ es) o.address ≡ live_in es o.address → LivesSo (e ∷ es) p
@@ -108,11 +104,7 @@ given_listed true block k old b p rest is older so =
     block_in : Block → Option Live → Block
     block_in d None = d
     block_in d (Some l) = l.block
-given_listed false block k old b p rest is older so = or_second (p block) rest (older is)
-  where
-    or_second : (x y : Bool) → y ≡ true → (x || y) ≡ true
-    or_second true y h = refl
-    or_second false y h = h
+given_listed false block k old b p rest is older so = or_right (p block) rest (older is)
 
 ended_live : (t : Bool) (old : Option Live) (b : Live) → (if t then None else old) ≡ Some b → (t ≡ false) × (old ≡ Some b)
 ended_live true old b is = absurd (none_some is)

@@ -85,6 +85,7 @@ use Rattle.pas_same_text.proofs.SmallActs.{records_next}
 use Rattle.pas_same_text.proofs.SoughtRuns.{IsRunOf, IsMadeOf}
 use Rattle.pas_same_text.proofs.StopSteps.{ReadsGrain, grain_read}
 use Rattle.pas_same_text.proofs.TriedRuns.{unowned_free, visible_mid, made_events, found_made, found_pages}
+use Rattle.pas_same_text.proofs.Tests.{on_page}
 
 -- ---- what backings of pages in turn leave as it is
 module _ (k : ℕ) where
@@ -327,9 +328,6 @@ module _ (f : Profile) (k name heap n : ℕ) (p q : Progress) (w : World) (valid
   -- ---- grains
   in_block : (g : ℕ) → in_run (grain_of block.name) (length_of block) g ≡ in_span (first + 1) (first + 1 + n) (g / 256)
   in_block g = ap (λ (b : Block). in_run (grain_of b.name) (length_of b) g) run.block_is ∙ run_is d (first + 1) n run.word g
-
-  on_page : (x b : ℕ) → b < 256 → (256 * x + b) / 256 ≡ x
-  on_page x b small = omega (arith, small)
 
   covers : (x b : ℕ) → IsInRun (first + 1) n x → b < 256 → in_run (grain_of block.name) (length_of block) (256 * x + b) ≡ true
   covers x b here small = in_block (256 * x + b) ∙ (ap (in_span (first + 1) (first + 1 + n)) (on_page x b small) ∙ span_in (first + 1) (first + 1 + n) x here.0 here.1)

@@ -1,6 +1,6 @@
 -- Pages whenever all actors are at rest: a page with room that nobody keeps is offered, and an offered page is offered in the text where it has room.
 use Rattle.std.proofs.Common.{◌≡◌, ℕ, zero, suc, ◌+◌, ◌*◌, ◌/◌, ◌%◌, ◌<◌, ◌≤◌, ◌==◌, Bool, true, false, not, ◌&&◌, List, Option, None, Some, inl, inr, refl, ap, sym, ◌∙◌, arith}
-use Rattle.std.proofs.lemmas.Bool.{eq-eqb, eqb-true, false≢true, true≢false, and_cases, and_from, not_from_false, false_from_ne_true}
+use Rattle.std.proofs.lemmas.Bool.{eq-eqb, eqb-true, false≢true, true≢false, and_cases, and_from, not_from_false, false_from_ne_true, not-true, not-false}
 use Rattle.pas_bits.specs.Bits.{has_bit}
 use Rattle.pas_profile.specs.Directories.{number_of, deed_word_of, deed_word_numbered, directory_read, IsKind}
 use Rattle.pas_profile.specs.Profiles.{IsValid, IsDirectoryOf}
@@ -62,14 +62,6 @@ deed_told d (Some e) h = record { deed = e; is = refl; number = eqb-true (number
 same_number : (a b : Directory) → IsKind a.kind → IsKind b.kind → number_of a ≡ number_of b → a ≡ b
 same_number a b ka kb same = same_from_deed_word a b ka kb (sym (numbered a ka) ∙ (ap deed_word_numbered same ∙ numbered b kb))
 
-no-not : (x : Bool) → not x ≡ true → x ≡ false
-no-not true h = absurd (false≢true h)
-no-not false h = refl
-
-not-no : (x : Bool) → not x ≡ false → x ≡ true
-not-no true h = refl
-not-no false h = absurd (true≢false h)
-
 -- the bit of grain b of a page
 pub bit_at : (l : Whole) (page b : ℕ) → b < 256 → free_bit l (256 * page + b) ≡ has_bit (word_after l (Word.Free page (b / 64))) (b % 64)
 bit_at l page b small =
@@ -88,7 +80,7 @@ pub is_opened : (w : World) (d : Directory) (page : ℕ) → is_guarded w page �
 is_opened w d page none room = and_from (not (is_guarded w page)) (has_room w d page) (not_from_false (is_guarded w page) none) room
 
 pub open_unguarded : (w : World) (d : Directory) (page : ℕ) → is_open w d page ≡ true → is_guarded w page ≡ false
-open_unguarded w d page h = no-not (is_guarded w page) (and_first (not (is_guarded w page)) (has_room w d page) h)
+open_unguarded w d page h = not-true (is_guarded w page) (and_first (not (is_guarded w page)) (has_room w d page) h)
 
 pub open_room : (w : World) (d : Directory) (page : ℕ) → is_open w d page ≡ true → has_room w d page ≡ true
 open_room w d page h = and_second (not (is_guarded w page)) (has_room w d page) h
@@ -137,11 +129,11 @@ module _ (f : Profile) (p : Progress) (w : World) (valid : IsValid f) (between :
   offered_bit page d of h =
       let own : is_of w d page ≡ true = and_first (is_of w d page) (not (is_kept w page) && is_open w d page) h in
       let rest : (not (is_kept w page) && is_open w d page) ≡ true = and_second (is_of w d page) (not (is_kept w page) && is_open w d page) h in
-      let kept : is_kept w page ≡ false = no-not (is_kept w page) (and_first (not (is_kept w page)) (is_open w d page) rest) in
+      let kept : is_kept w page ≡ false = not-true (is_kept w page) (and_first (not (is_kept w page)) (is_open w d page) rest) in
       let open_page : is_open w d page ≡ true = had_open w d page h in
       let room : has_room w d page ≡ true = open_room w d page open_page in
-      let o : Fails 0 256 (λ b. not (usable_by_kind d.kind b && is_free w page b)) = some_fails 256 0 (λ b. not (usable_by_kind d.kind b && is_free w page b)) (no-not (each_of 0 256 (λ b. not (usable_by_kind d.kind b && is_free w page b))) room) in
-      let both : (usable_by_kind d.kind o.number && is_free w page o.number) ≡ true = not-no (usable_by_kind d.kind o.number && is_free w page o.number) o.fails in
+      let o : Fails 0 256 (λ b. not (usable_by_kind d.kind b && is_free w page b)) = some_fails 256 0 (λ b. not (usable_by_kind d.kind b && is_free w page b)) (not-true (each_of 0 256 (λ b. not (usable_by_kind d.kind b && is_free w page b))) room) in
+      let both : (usable_by_kind d.kind o.number && is_free w page o.number) ≡ true = not-false (usable_by_kind d.kind o.number && is_free w page o.number) o.fails in
       let small : o.number < 256 = o.high in
       let word : word_after p.list (Word.Deed page) ≡ deed_word_of d = word_now page d (deed_now page d of own) in
       offered_where page o.number d small of word kept

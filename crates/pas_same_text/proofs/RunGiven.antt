@@ -1,5 +1,5 @@
 -- A REQUEST FOR WHOLE PAGES THAT IS SERVED by a run: its pages get deeds and memory where they have none, the lowest first, and their block is given.
-use Rattle.std.proofs.Common.{◌≡◌, ◌≢◌, ℕ, ◌+◌, ◌*◌, ◌/◌, ◌%◌, ◌<◌, ◌≤◌, ◌==◌, Bool, true, false, not, ◌&&◌, if◌then◌else◌, List, [], ◌∷◌, ◌++◌, Option, None, Some, ◌⊎◌, inl, inr, refl, ap, sym, ◌∙◌, subst, arith, append_assoc}
+use Rattle.std.proofs.Common.{◌≡◌, ◌≢◌, ℕ, ◌+◌, ◌*◌, ◌/◌, ◌%◌, ◌<◌, ◌≤◌, ◌==◌, Bool, true, false, not, ◌&&◌, if◌then◌else◌, List, [], ◌∷◌, ◌++◌, Option, None, Some, ◌⊎◌, inl, inr, refl, ap, sym, ◌∙◌, subst, arith, append_assoc, append-nil}
 use Rattle.std.proofs.lemmas.Bool.{true≢false, false≢true, eq-eqb, false_from_ne_true}
 use Rattle.std.specs.List.{flat_map, filter}
 use Rattle.pas_bits.specs.Bits.{has_bit}
@@ -80,7 +80,7 @@ use Rattle.pas_same_text.proofs.Flushes.{visible_steps}
 use Rattle.pas_same_text.proofs.GivenPages.{open_from}
 use Rattle.pas_same_text.proofs.GivingBack.{HintsPage, OffersPage, IsMarked, once_parts, marked_parts, none_marked, hint_marks, offer_marks, offered_by, hints_of, hint_read, epoch_stays_by}
 use Rattle.pas_same_text.proofs.LeftRuns.{LeftInTurn, left_marked, left_due, left_room}
-use Rattle.pas_same_text.proofs.LoggedFrees.{after_with, nothing_more}
+use Rattle.pas_same_text.proofs.LoggedFrees.{after_with}
 use Rattle.pas_same_text.proofs.OuterPages.{guards_as, still_unguarded}
 use Rattle.pas_same_text.proofs.ReadyPages.{shown, shown_events, shown_records, shown_lives, shown_rest}
 use Rattle.pas_same_text.proofs.RestingPages.{bit_at, deed_now, bit_tells, bit_offered}
@@ -88,6 +88,7 @@ use Rattle.pas_same_text.proofs.RunEvents.{in_turn, each_in_turn, shown_both, de
 use Rattle.pas_same_text.proofs.RunMarks.{DeedsOn, IsRunTo, run_hints, run_offers}
 use Rattle.pas_same_text.proofs.RunsFound.{DeedsInRun}
 use Rattle.pas_same_text.proofs.StopSteps.{ReadsRoom, grain_read}
+use Rattle.pas_same_text.proofs.Tests.{on_page}
 
 -- The n pages from the first one on were got by the first of these steps, which made deeds of pages of this run alone, the lowest first. By the others they were backed, the lowest
 -- first, their block was given, and they were left.
@@ -267,9 +268,6 @@ module _ (f : Profile) (k name heap first n : ℕ) (p : Progress) (u : World) (g
   in_block : (g : ℕ) → in_run (grain_of block.name) (length_of block) g ≡ in_span first (first + n) (g / 256)
   in_block g = ap (λ (b : Block). in_run (grain_of b.name) (length_of b) g) run.block_is ∙ run_is d first n run.word g
 
-  on_page : (x b : ℕ) → b < 256 → (256 * x + b) / 256 ≡ x
-  on_page x b small = omega (arith, small)
-
   covers : (x b : ℕ) → IsInRun first n x → b < 256 → in_run (grain_of block.name) (length_of block) (256 * x + b) ≡ true
   covers x b here small = in_block (256 * x + b) ∙ (ap (in_span first (first + n)) (on_page x b small) ∙ span x here)
 
@@ -422,7 +420,7 @@ module _ (f : Profile) (k name heap first n : ℕ) (p : Progress) (u : World) (g
     caches = same_now.caches;
     guards = same_now.guards;
     names = ap (λ (b : Block). named name (Some b) ∷ (shown es u).names) (sym block_is) ∙ ap (λ (ns : List Named). named name (Some block) ∷ ns) ((shown_rest es u).names ∙ same.names);
-    records = ap (λ (rs : List Record). p.records ++ rs) (nothing_more (records_of (events_by k own (rest ++ got))))
+    records = ap (λ (rs : List Record). p.records ++ rs) (append-nil (records_of (events_by k own (rest ++ got))))
         ∙ (ap (λ (xs : List Event). p.records ++ records_of xs) events_are
         ∙ events_recorded p.records u.records v.records (Event.Give k block ∷ es) same.records
         (ap (λ (b : Block). Record.Event (Event.Give k b) ∷ (shown es u).records) (sym block_is) ∙ ap (λ (rs : List Record). Record.Event (Event.Give k block) ∷ rs) (shown_records es u)));

@@ -2,6 +2,7 @@
 use Rattle.std.proofs.Common.{◌≡◌, ◌≢◌, ℕ, zero, suc, ◌+◌, ◌<◌, ◌≤◌, Bool, true, false, ◌&&◌, if◌then◌else◌, List, [], ◌∷◌, ◌++◌, Option, None, Some, Ok, Err, inl, inr, refl, ap, sym, ◌∙◌, arith}
 use Rattle.std.proofs.lemmas.Bool.{true≢false, cases_Bool, cases_eq}
 use Rattle.std.specs.List.{find}
+use Rattle.std.proofs.Math.Bool.{and-false}
 use Rattle.pas_profile.specs.Directories.{number_of}
 use Rattle.pas_profile.specs.Profiles.{IsPage}
 use Rattle.pas_profile.specs.declared.directory.Directory.{Directory}
@@ -51,10 +52,6 @@ find_none test (suc n) from none =
     first_at test from (find test (numbers_from (from + 1) n)) (test from) refl (none from (omega arith) (omega arith))
     ∙ find_none test n (from + 1) (λ q low high. none q (omega (arith, low)) (omega (arith, high)))
 
-no_more : (x : Bool) → (x && false) ≡ false
-no_more true = refl
-no_more false = refl
-
 module _ (no_fit : Readings → Type 0) (f : Profile) (d : Directory) (k : ℕ) (p : Progress) (w : World) (fits : ℕ → List ℕ) where
   abbrev l : Whole
   l = p.list
@@ -72,7 +69,7 @@ module _ (no_fit : Readings → Type 0) (f : Profile) (d : Directory) (k : ℕ) 
 
     -- a page on which it doesn't fit doesn't serve; where a guard has it, it isn't offered
     unfit_over : (q : ℕ) → IsPage f q → no_fit (free_of_page l q) → (t : Bool) → is_offered_text w d q ≡ t → serves q ≡ false
-    unfit_over q of unfit true offered = ap (λ (t : Bool). is_offered_text w d q && t) (s.fits_same.none q of (open_unguarded w d q (had_open w d q offered)) unfit) ∙ no_more (is_offered_text w d q)
+    unfit_over q of unfit true offered = ap (λ (t : Bool). is_offered_text w d q && t) (s.fits_same.none q of (open_unguarded w d q (had_open w d q offered)) unfit) ∙ and-false (is_offered_text w d q)
     unfit_over q of unfit false offered = ap (λ (t : Bool). t && some_of (fits q)) offered
 
     -- a page that didn't fit or was read as not offered serves in the text neither

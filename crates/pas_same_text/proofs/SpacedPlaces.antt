@@ -1,6 +1,6 @@
 -- Lists of places that follow each other at a step, and those of them that pass a test.
 use Rattle.std.proofs.Common.{◌≡◌, ℕ, zero, suc, ◌+◌, ◌*◌, ◌<◌, Bool, true, false, ◌||◌, if◌then◌else◌, List, [], ◌∷◌, take, inl, inr, refl, ap, ◌∙◌, arith}
-use Rattle.std.proofs.lemmas.Bool.{false≢true, or_cases}
+use Rattle.std.proofs.lemmas.Bool.{false≢true, or_cases, or_left, or_right}
 use Rattle.std.proofs.Math.Nat.{suc-mul}
 use Rattle.std.specs.List.{list_any, filter}
 use Rattle.pas_one_text.specs.Searches.{some_of}
@@ -20,19 +20,12 @@ some_filtered test [] = refl
 some_filtered test (x ∷ xs) = some_next x (filter test xs) (test x) (list_any test xs) (some_filtered test xs)
 
 -- the i-th of them
-or_first : (x y : Bool) → x ≡ true → (x || y) ≡ true
-or_first true y h = refl
-or_first false y h = absurd (false≢true h)
-
-or_second : (x y : Bool) → y ≡ true → (x || y) ≡ true
-or_second true y h = refl
-or_second false y h = h
 
 pub in_spaced : (test : ℕ → Bool) (n from step i : ℕ) → i < n → test (from + i * step) ≡ true → list_any test (spaced from step n) ≡ true
 in_spaced test zero from step i lt h = absurd (omega (arith, lt))
-in_spaced test (suc n) from step zero lt h = or_first (test from) (list_any test (spaced (from + step) step n)) (ap test (omega arith) ∙ h)
+in_spaced test (suc n) from step zero lt h = or_left (test from) (list_any test (spaced (from + step) step n)) (ap test (omega arith) ∙ h)
 in_spaced test (suc n) from step (suc i) lt h =
-    or_second (test from) (list_any test (spaced (from + step) step n)) (in_spaced test n (from + step) step i (omega (arith, lt)) (ap test (next from step i) ∙ h))
+    or_right (test from) (list_any test (spaced (from + step) step n)) (in_spaced test n (from + step) step i (omega (arith, lt)) (ap test (next from step i) ∙ h))
   where
     next : (from step i : ℕ) → from + step + i * step ≡ from + suc i * step
     next from step i = let m = suc-mul i step in omega (arith, m)

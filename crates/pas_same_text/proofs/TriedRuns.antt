@@ -2,6 +2,7 @@
 use Rattle.std.proofs.Common.{◌≡◌, ◌≢◌, ℕ, ◌+◌, ◌*◌, ◌/◌, ◌<◌, ◌≤◌, ◌==◌, nat_le, Bool, true, false, not, ◌&&◌, ◌||◌, if◌then◌else◌, List, [], ◌∷◌, ◌++◌, Option, None, Some, ◌⊎◌, inl, inr, refl, ap, sym, ◌∙◌, subst, arith}
 use Rattle.std.proofs.lemmas.Bool.{false≢true, eq-eqb, eqb-true, eqb-false, false_from_ne_true}
 use Rattle.std.proofs.Math.Path.{fun_ext}
+use Rattle.std.proofs.Math.Bool.{and-false}
 use Rattle.std.specs.List.{AllByRecursion}
 use Rattle.pas_profile.specs.Directories.{number_of}
 use Rattle.pas_profile.specs.Profiles.{IsValid, IsDirectoryOf}
@@ -159,12 +160,8 @@ module _ (f : Profile) (k heap n : ℕ) (p : Progress) (w : World) (valid : IsVa
     | inl low ↦ ap (λ (t : Bool). not t && not (backed_in w.events (r + n + 1))) (backed_told r ∙ one_backed (backed_in (visible l) r) (sym low ∙ backed_of f l between.legal r))
     | inr high ↦
         ap (λ (t : Bool). not (backed_in w.events r) && not t) (backed_told (r + n + 1) ∙ one_backed (backed_in (visible l) (r + n + 1)) (sym high ∙ backed_of f l between.legal (r + n + 1)))
-        ∙ neither (not (backed_in w.events r))
+        ∙ and-false (not (backed_in w.events r))
   ]
-    where
-      neither : (t : Bool) → (t && false) ≡ false
-      neither true = refl
-      neither false = refl
 
   -- ==== THE SEARCH, whose deeds are of pages of these runs below the end; each page of such a run has its deed then
   module _ (xs : List Made) (legal : Legal f (triples k xs ++ l)) (kinds : Only seeking xs) (rise : DeedsRise xs) (due : Always ReturnsDuly xs) (met : MayFind d (part k l)) where
