@@ -1,6 +1,7 @@
 -- A BIT-FIT REQUEST THAT IS SERVED: the page that was searched for gets a deed and memory where it has none, and the lowest place on it is given.
 use Rattle.std.proofs.Common.{◌≡◌, ◌≢◌, ℕ, ◌+◌, ◌*◌, ◌/◌, ◌%◌, ◌<◌, ◌≤◌, ◌==◌, Bool, true, false, not, ◌&&◌, ◌||◌, if◌then◌else◌, List, [], ◌∷◌, ◌++◌, Option, None, Some, Result, Ok, ◌⊎◌, inl, inr, refl, ap, sym, ◌∙◌, subst, arith, append_assoc, append-nil}
 use Rattle.std.proofs.lemmas.Bool.{true≢false, false≢true, eq-eqb, false_from_ne_true}
+use Rattle.std.proofs.lemmas.Option.{none-some}
 use Rattle.std.specs.List.{flat_map, filter}
 use Rattle.pas_bits.specs.Bits.{has_bit}
 use Rattle.pas_bits.specs.Runs.{in_run, meets_page}
@@ -235,13 +236,8 @@ module _ (f : Profile) (k name heap size align : ℕ) (p p' : Progress) (w : Wor
   bears = let end = within in let one = some in let on : (256 * page + first) / 256 ≡ page = omega (arith, end, one) in
       subst (Bears f (es ++ w.events) block.heap) on (run.0.bears (256 * page + first) (covers first (omega arith) (omega (arith, one))))
 
-  is_there : Option Directory → Bool
-  is_there None = false
-  is_there (Some e) = true
-
   ready : readies k d page w ≡ shown es w
-  unfolding is_there
-  ready = readied k d page f es w at run.1 (λ none. false≢true (ap is_there (sym none ∙ bears.deed))) bears.backed
+  ready = readied k d page f es w at run.1 (λ none. none-some _ (sym none ∙ bears.deed)) bears.backed
 
   -- ---- what was free
   old : HasSame f p w

@@ -1,6 +1,7 @@
 -- A request of a class for which the thread's cache has a slot.
 use Rattle.std.proofs.Common.{◌≡◌, ℕ, ◌+◌, ◌*◌, ◌<◌, ◌==◌, Bool, true, false, not, ◌&&◌, if◌then◌else◌, List, [], ◌∷◌, ◌++◌, Option, None, Some, Result, Ok, Err, inl, inr, refl, ap, sym, ◌∙◌, subst, arith, append-nil}
 use Rattle.std.proofs.lemmas.Bool.{eqb-true, false≢true}
+use Rattle.std.proofs.lemmas.Option.{same_Some, none-some}
 use Rattle.std.specs.List.{find}
 use Rattle.pas_bits.specs.Masks.{HasMember, IsLowestSet}
 use Rattle.pas_profile.specs.Blocks.{address_of}
@@ -187,24 +188,12 @@ head_of [] x h = absurd (false≢true h)
 head_of (n ∷ more) x h = record { head = n; more = more; is = refl }
 
 -- what is found passes the test
-some_slots : Slots → Option Slots → Slots
-some_slots x None = x
-some_slots x (Some y) = y
-
 found_at : (heap class : ℕ) (x s : Slots) (rest : Option Slots) (t : Bool) → is_for_slots heap class x ≡ t → (rest ≡ Some s → is_for_slots heap class s ≡ true) → (if t then Some x else rest) ≡ Some s → is_for_slots heap class s ≡ true
-unfolding some_slots
-found_at heap class x s rest true e later same = subst (λ (y : Slots). is_for_slots heap class y ≡ true) (ap (some_slots x) same) e
+found_at heap class x s rest true e later same = subst (λ (y : Slots). is_for_slots heap class y ≡ true) (same_Some x s same) e
 found_at heap class x s rest false e later same = later same
 
 pub found_passes : (heap class : ℕ) (slots : List Slots) (s : Slots) → local_for heap class slots ≡ Some s → is_for_slots heap class s ≡ true
-found_passes heap class [] s is = absurd (none is)
-  where
-    is_some : Option Slots → Bool
-    is_some None = false
-    is_some (Some x) = true
-
-    none : None ≡ Some s → ⊥
-    none e = false≢true (ap is_some e)
+found_passes heap class [] s is = absurd (none-some s is)
 found_passes heap class (x ∷ slots) s is = found_at heap class x s (local_for heap class slots) (is_for_slots heap class x) refl (found_passes heap class slots s) is
 
 -- what the text does where it finds a local allocator with a slot

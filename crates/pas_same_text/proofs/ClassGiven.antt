@@ -1,7 +1,8 @@
 -- A REQUEST OF A CLASS THAT A PAGE SERVES, where the cache has place for a local allocator: the page that was searched for gets a deed and memory where it has none, its
 -- slots are taken, the lowest of them is given, and the others are cached.
-use Rattle.std.proofs.Common.{◌≡◌, ◌≢◌, ℕ, ◌+◌, ◌*◌, ◌/◌, ◌%◌, ◌<◌, ◌≤◌, ◌==◌, Bool, true, false, not, ◌&&◌, if◌then◌else◌, List, [], ◌∷◌, ◌++◌, Option, None, Some, Result, Ok, ◌⊎◌, inl, inr, refl, ap, sym, ◌∙◌, subst, append_assoc, arith, append-nil}
+use Rattle.std.proofs.Common.{◌≡◌, ◌≢◌, ℕ, ◌+◌, ◌*◌, ◌/◌, ◌%◌, ◌<◌, ◌≤◌, ◌==◌, Bool, true, false, not, ◌&&◌, if◌then◌else◌, List, [], ◌∷◌, ◌++◌, None, Some, Result, Ok, ◌⊎◌, inl, inr, refl, ap, sym, ◌∙◌, subst, append_assoc, arith, append-nil}
 use Rattle.std.proofs.lemmas.Bool.{true≢false, false≢true, eq-eqb, eqb-true, or_cases, or_left, or_right, false_from_ne_true}
+use Rattle.std.proofs.lemmas.Option.{none-some}
 use Rattle.pas_bits.specs.Bits.{has_bit}
 use Rattle.pas_bits.specs.Masks.{is_set}
 use Rattle.pas_bits.proofs.Runs.{to_run}
@@ -77,7 +78,7 @@ use Rattle.pas_same_text.proofs.BitfitGiven.{not_hinted}
 use Rattle.pas_same_text.proofs.CacheLists.{same_with}
 use Rattle.pas_same_text.proofs.CachedSlots.{block_same, text_block, text_locals, HasHead, head_of}
 use Rattle.pas_same_text.proofs.ClassFits.{class_fits, read_unguarded}
-use Rattle.pas_same_text.proofs.FetchedClasses.{HasPlace, may_fetch}
+use Rattle.pas_same_text.proofs.FetchedClasses.{HasPlace, may_fetch, keeps_unshared}
 use Rattle.pas_same_text.proofs.FlushActs.{events_recorded}
 use Rattle.pas_same_text.proofs.Flushes.{visible_steps}
 use Rattle.pas_same_text.proofs.FreeGrains.{free_same}
@@ -100,13 +101,6 @@ use Rattle.pas_same_text.proofs.TakenSlots.{all_taken, row_taken, slots_rise}
 -- the replay after the block was given of slots that were fetched, of which these are left
 abbrev pub fetched_to : Progress → ℕ → ℕ → List Made → Slots → Block → Progress
 fetched_to p k name steps rest block = after_with p k steps None (named name (Some block) ∷ p.names) (record (p.caches k) { locals = (p.caches k).locals ++ rest ∷ [] })
-
--- slots keep the right of their page where the heap isn't shared
-keeps_unshared : (right shared : Bool) (a b : ℕ) → kind_of_class (not right) a ≡ kind_of_class shared b → right ≡ not shared
-keeps_unshared true false a b same = refl
-keeps_unshared false true a b same = refl
-keeps_unshared true true a b same = absurd (let bad = same in cc)
-keeps_unshared false false a b same = absurd (let bad = same in cc)
 
 -- of a grain that wasn't held before some steps these tell whether it is held
 held_by_steps : (g : ℕ) (xs : List Made) (v : View) → holds v g ≡ false → holds (xs ++ v) g ≡ holds xs g
@@ -332,13 +326,8 @@ module _ (f : Profile) (k name heap class : ℕ) (p : Progress) (w : World) (has
       let on : (256 * page + start) / 256 ≡ page = omega (arith, lt) in
       subst (Bears f (es ++ w.events) block.heap) on (run.0.bears (256 * page + start) (to_run (grain_of block.name) (length_of block) (256 * page + start) (omega (arith, g)) (omega (arith, g, m, one))))
 
-  is_there : Option Directory → Bool
-  is_there None = false
-  is_there (Some e) = true
-
   ready : readies k d page w ≡ shown es w
-  unfolding is_there
-  ready = readied k d page f es w at run.1 (λ none. false≢true (ap is_there (sym none ∙ bears.deed))) bears.backed
+  ready = readied k d page f es w at run.1 (λ none. none-some _ (sym none ∙ bears.deed)) bears.backed
 
   -- ---- the text
   abbrev v : World

@@ -1,9 +1,10 @@
 -- A FLUSH, entry by entry: its steps beside what the text does.
 use Rattle.std.proofs.Common.{◌≡◌, ℕ, zero, suc, ◌-◌, ◌/◌, ◌<◌, ◌≤◌, ◌==◌, nat_lt, Bool, true, false, if◌then◌else◌, List, [], ◌∷◌, ◌++◌, length, map, reverse, take, Option, None, Some, inl, inr, refl, ap, sym, ◌∙◌, subst, append_assoc, length-append, arith, append-nil}
 use Rattle.std.specs.Prelude.{option_to_list}
-use Rattle.std.proofs.lemmas.Bool.{eq-eqb, false≢true, or_left, or_right}
+use Rattle.std.proofs.lemmas.Bool.{eq-eqb, or_left, or_right}
 use Rattle.std.proofs.lemmas.Bool.Decides.{nat_tests}
 use Rattle.std.proofs.lemmas.Grind.{reverse_onto}
+use Rattle.std.proofs.lemmas.Option.{same_Some, none-some}
 use Rattle.std.specs.List.{flat_map}
 use Rattle.pas_bits.specs.Runs.{meets_page}
 use Rattle.pas_profile.specs.Blocks.{address_of, grain_of, length_of}
@@ -126,12 +127,8 @@ still_gone k epoch entry (Refused read) es a h = h
 fewer_one : (k epoch : ℕ) (entry : Entry) (o : Outcome) (es : List Event) → OnlyFewer es (event_for k epoch entry o ∷ es)
 fewer_one k epoch entry (Ended grains) es = record { lives = λ a b h. by_test a b (address_of entry.name == a) h; deeds = λ page. refl }
   where
-    is_some : Option Live → Bool
-    is_some None = false
-    is_some (Some l) = true
-
     by_test : (a : ℕ) (b : Live) (t : Bool) → (if t then None else live_in es a) ≡ Some b → live_in es a ≡ Some b
-    by_test a b true h = absurd (false≢true (ap is_some h))
+    by_test a b true h = absurd (none-some b h)
     by_test a b false h = h
 fewer_one k epoch entry (Refused read) es = record { lives = λ a b h. h; deeds = λ page. refl }
 
@@ -168,10 +165,6 @@ pub record IsTakenBy (f : Profile) (k : ℕ) (s : Settled) (piece : List Made) (
 
 abbrev own_then : Settled → World → ℕ → Cache
 own_then s v k = record (cache_of v k) { noted = noted_of v k ++ take (64 - length (noted_of v k)) (noted_for s) }
-
-abbrev or_this : Live → Option Live → Live
-or_this d None = d
-or_this d (Some x) = x
 
 module _ (f : Profile) (k epoch : ℕ) (s : Settled) (piece : List Made) (l : Whole) (valid : IsValid f) (legal : Legal f (triples k piece ++ l)) (is : EntrySteps s piece) (known : epoch_of (part k l) ≡ epoch)
     (v : World) (live : v.live ≡ lives_in v.events) (events : v.events ≡ visible l) (now : v.epoch ≡ epoch) where
@@ -215,7 +208,7 @@ module _ (f : Profile) (k epoch : ℕ) (s : Settled) (piece : List Made) (l : Wh
 
     ended_shown : IsShown (Event.End k s.entry.name epoch) v x
     ended_shown = subst (λ (e : ℕ). IsShown (Event.End k s.entry.name e) v x) now
-        (end_shown f k s.entry v live (b, lives, found.turn) (λ b' there. subst (λ (c : Live). is_other_room s.entry c.block ≡ false) (ap (or_this b) (sym lives ∙ there)) found.room))
+        (end_shown f k s.entry v live (b, lives, found.turn) (λ b' there. subst (λ (c : Live). is_other_room s.entry c.block ≡ false) (same_Some b b' (sym lives ∙ there)) found.room))
 
     run_same : large_run b.block.name (length_of b.block) (deed_in v.events (address_of b.block.name / 4096)) ≡ large_run s.entry.name grains s.directory
     run_same =

@@ -1,10 +1,11 @@
 -- A grain is free in the text exactly where its bit is set or a guard has its page, and a page is kept exactly where an actor has its right: whenever all
 -- actors are at rest.
-use Rattle.std.proofs.Common.{◌≡◌, ℕ, ◌+◌, ◌*◌, ◌/◌, ◌<◌, ◌≤◌, ◌≢◌, Bool, true, false, not, ◌&&◌, ◌||◌, List, length, Some, ◌⊎◌, inl, inr, refl, ap, sym, ◌∙◌, subst, arith}
+use Rattle.std.proofs.Common.{◌≡◌, ℕ, ◌+◌, ◌*◌, ◌/◌, ◌<◌, ◌≤◌, ◌≢◌, Bool, true, false, not, ◌&&◌, ◌||◌, List, length, Some, ◌⊎◌, inl, inr, refl, ap, sym, ◌∙◌, subst, arith, ◌%◌}
 use Rattle.std.proofs.lemmas.Bool.{eq-eqb, eqb-true, false≢true, true≢false, or_cases, or_left, or_right, false_from_ne_true, cases_lt}
 use Rattle.std.specs.List.{list_any}
 use Rattle.std.proofs.Math.Bool.{and-false, or-false}
 use Rattle.pas_bits.specs.Runs.{in_run, meets_page}
+use Rattle.pas_bits.specs.Bits.{has_bit}
 use Rattle.pas_bits.proofs.Runs.{run_meets}
 use Rattle.pas_profile.specs.Blocks.{address_of, length_of}
 use Rattle.pas_profile.specs.Blocks.{grain_of as first_grain}
@@ -13,9 +14,11 @@ use Rattle.pas_profile.specs.declared.name.Block.{Block}
 use Rattle.pas_profile.specs.declared.profile.Profile.{Profile}
 use Rattle.pas_machine.specs.State.{Live, live_in}
 use Rattle.pas_machine.proofs.LiveBlocks.{lives_where}
-use Rattle.pas_steps.specs.Lists.{part, visible}
+use Rattle.pas_steps.specs.Lists.{part, visible, word_after, Whole}
 use Rattle.pas_steps.specs.Views.{View, holds, has_right}
+use Rattle.pas_steps.specs.Effects.{free_word_at}
 use Rattle.pas_core.specs.Good.{IsPartOf, IsInOnePlace}
+use Rattle.pas_core.specs.Rights.{free_of_page}
 use Rattle.pas_core.proofs.MachineRuns.{runs, in_one_place}
 use Rattle.pas_core.proofs.Offers.{no_other_actor}
 use Rattle.pas_segregated.specs.declared.slots.Slots.{Slots}
@@ -42,6 +45,14 @@ thread_or f k some few = let last : k ≤ f.threads = le_or (cases_lt f.threads 
     le_or : (f.threads < k) ⊎ (k ≤ f.threads) → k ≤ f.threads
     le_or (inl past) = absurd (few past)
     le_or (inr le) = le
+
+-- the bit of grain b of a page, as one of the words that a search reads
+pub bit_read : (l : Whole) (page b : ℕ) → free_bit l (256 * page + b) ≡ free_of_page l page b
+bit_read l page b =
+    let turned : 256 * page + b ≡ page * 256 + b = omega arith in
+    let bit : (256 * page + b) % 64 ≡ b % 64 = omega arith in
+    ap (λ (g : ℕ). has_bit (word_after l (free_word_at g)) ((256 * page + b) % 64)) turned
+    ∙ ap (λ (x : ℕ). has_bit (word_after l (free_word_at (page * 256 + b))) x) bit
 
 module _ (f : Profile) (p : Progress) (between : IsBetween f p) where
   -- whose outer page a page is, is an actor of the region
@@ -181,6 +192,9 @@ module _ (f : Profile) (p : Progress) (w : World) (valid : IsValid f) (between :
   -- of a page that no guard has; and where the bit is set
   pub free_unless : (page b : ℕ) → b < 256 → is_guarded w page ≡ false → is_free w page b ≡ free_bit p.list (256 * page + b)
   free_unless page b small none = free_same page b small ∙ (ap (λ (t : Bool). free_bit p.list (256 * page + b) || t) none ∙ or-false (free_bit p.list (256 * page + b)))
+
+  pub read_unless : (page b : ℕ) → b < 256 → is_guarded w page ≡ false → is_free w page b ≡ free_of_page p.list page b
+  read_unless page b small none = free_unless page b small none ∙ bit_read p.list page b
 
   pub bit_free : (page b : ℕ) → b < 256 → free_bit p.list (256 * page + b) ≡ true → is_free w page b ≡ true
   bit_free page b small bit = free_same page b small ∙ or_left (free_bit p.list (256 * page + b)) (is_guarded w page) bit

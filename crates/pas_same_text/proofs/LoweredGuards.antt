@@ -185,7 +185,6 @@ apart_split t [] page apart h = absurd (false≢true h)
 apart_split t (g ∷ gs) page apart h = split_at t g gs page (t g) apart (apart_split t gs page apart.2) h
 
 -- a guard whose low page is none of theirs stays before them
-
 none_first : (g : BookGuard) (page : ℕ) (rest : Bool) → (is_outer_of g page || rest) ≡ false → ((g.low == page) ≡ false) × (rest ≡ false)
 none_first g page rest none = by_test (g.low == page) (g.high == page) rest none
   where

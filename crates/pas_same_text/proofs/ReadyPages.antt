@@ -1,7 +1,7 @@
 -- A PAGE IS MADE READY for a block: the events of a search before a give are those of the text, by the machine's rules alone.
 use Rattle.std.proofs.Common.{◌≡◌, ◌≢◌, ℕ, ◌==◌, Bool, true, false, if◌then◌else◌, List, [], ◌∷◌, ◌++◌, map, Option, None, Some, ◌⊎◌, inl, inr, refl, ap, sym, ◌∙◌, subst}
-use Rattle.std.proofs.lemmas.Bool.{true≢false, false≢true, eq-eqb, eqb-true, false_from_ne_true}
-use Rattle.std.proofs.lemmas.Option.{same_Some}
+use Rattle.std.proofs.lemmas.Bool.{true≢false, eq-eqb, eqb-true, false_from_ne_true}
+use Rattle.std.proofs.lemmas.Option.{same_Some, none-some}
 use Rattle.pas_profile.specs.declared.directory.Directory.{Directory}
 use Rattle.pas_profile.specs.declared.event.Event.{Event}
 use Rattle.pas_profile.specs.declared.profile.Profile.{Profile}
@@ -17,6 +17,7 @@ use Rattle.pas_one_text.specs.State.{World, shows, live_after}
 use Rattle.pas_one_text.specs.Pages.{is_none}
 use Rattle.pas_one_text.specs.Searches.{deeds, backs, readies}
 use Rattle.pas_same_text.specs.Same.{lives_in}
+use Rattle.pas_same_text.proofs.Tests.{eqb_itself}
 
 -- ---- events that are shown
 abbrev pub shown : List Event → World → World
@@ -106,13 +107,9 @@ module _ (k : ℕ) (d : Directory) (page : ℕ) where
       at e IsAtPage.Backs = refl
 
   -- ---- none but those that are due
-  is_there : Option Directory → Bool
-  is_there None = false
-  is_there (Some x) = true
 
   deed_there : (o : Option Directory) → (if page == page then Some d else o) ≡ None → ⊥
-  unfolding is_there
-  deed_there o none = false≢true (sym (ap is_there none) ∙ ap (λ (t : Bool). is_there (if t then Some d else o)) (eq-eqb page page refl))
+  deed_there o none = none-some d (sym none ∙ ap (λ (t : Bool). if t then Some d else o) (eqb_itself page))
 
   none_before : (f : Profile) (es base : List Event) → AllAtPage k d page es → Run f (es ++ base) → deed_in (es ++ base) page ≡ None → es ≡ []
   none_before f [] base all run none = refl

@@ -11,7 +11,7 @@ use Rattle.pas_profile.specs.declared.word.Word.TheVariants as Word
 use Rattle.pas_profile.proofs.Codecs.{numbered, deed_word_of-positive, read-deed_word_of, directory_from_profile, same_from_deed_word}
 use Rattle.pas_machine.specs.State.{deed_in}
 use Rattle.pas_steps.specs.Clear.{IsClear}
-use Rattle.pas_steps.specs.Lists.{Whole, part, word_after, visible}
+use Rattle.pas_steps.specs.Lists.{Whole, part, word_after, visible, Legal}
 use Rattle.pas_steps.specs.Views.{usable_by, usable_by_kind}
 use Rattle.pas_core.specs.Good.{word_of_deed}
 use Rattle.pas_core.specs.Rights.{eligible_bit, IsUsableFree, IsRightOffered, IsRightInOnePlace}
@@ -20,7 +20,7 @@ use Rattle.pas_core.proofs.Offers.{offered_at_rest}
 use Rattle.pas_core.proofs.Rights.{right_in_one_place}
 use Rattle.pas_answers.specs.Answers.{Progress}
 use Rattle.pas_one_text.specs.State.{World}
-use Rattle.pas_one_text.specs.Pages.{each_of, is_same, is_of, is_kept, is_guarded, is_free, has_room, is_offered}
+use Rattle.pas_one_text.specs.Pages.{each_of, is_same, is_of, is_kept, is_guarded, is_free, has_room, is_offered, is_none}
 use Rattle.pas_same_text.specs.Same.{HasSame}
 use Rattle.pas_same_text.specs.Acts.{IsBetween}
 use Rattle.pas_same_text.specs.Words.{free_bit}
@@ -50,6 +50,18 @@ some_fails (suc n) from test h = elim (and_cases (test from) (each_of (from + 1)
 ]
 
 -- ---- deeds
+-- a page has a deed where its word isn't 0
+pub no_word : (o : Option Directory) → is_none o ≡ true → word_of_deed o ≡ 0
+no_word None h = refl
+no_word (Some e) h = absurd (false≢true h)
+
+pub unowned_by : (o : Option Directory) → word_of_deed o ≡ 0 → is_none o ≡ true
+unowned_by None h = refl
+unowned_by (Some e) h = absurd (deed_word_of-positive e h)
+
+pub owned_is : (f : Profile) (l : Whole) (w : World) → Legal f l → w.events ≡ visible l → (page : ℕ) → word_after l (Word.Deed page) ≡ word_of_deed (deed_in w.events page)
+owned_is f l w legal events page = deed_of f l legal page ∙ ap (λ (es : List Event). word_of_deed (deed_in es page)) (sym events)
+
 pub record IsDeedOf (o : Option Directory) (d : Directory) : Type 0 where
   pub deed : Directory
   pub is : o ≡ Some deed

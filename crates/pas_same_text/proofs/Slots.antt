@@ -47,7 +47,6 @@ module _ (s : Slots) (l : Local) (b : ℕ) (same : IsSameLocal s l) (is : IsClas
   slots_same = same_truth (list_any (λ x. in_run x (class_grains l.class) b) l.slots) (is_set s.starts (start_of s.class b)) slot_set set_slot
 
 -- grain b of a page, as one of the region
-
 grain_of : (page b : ℕ) → b < 256 → (256 * page + b) % 256 ≡ b
 grain_of page b small = omega (arith, small)
 

@@ -20,7 +20,6 @@ some_filtered test [] = refl
 some_filtered test (x ∷ xs) = some_next x (filter test xs) (test x) (list_any test xs) (some_filtered test xs)
 
 -- the i-th of them
-
 pub in_spaced : (test : ℕ → Bool) (n from step i : ℕ) → i < n → test (from + i * step) ≡ true → list_any test (spaced from step n) ≡ true
 in_spaced test zero from step i lt h = absurd (omega (arith, lt))
 in_spaced test (suc n) from step zero lt h = or_left (test from) (list_any test (spaced (from + step) step n)) (ap test (omega arith) ∙ h)

@@ -25,9 +25,9 @@ use Rattle.pas_steps.specs.declared.step.Made.{Made}
 use Rattle.pas_steps.specs.declared.step.Step.TheVariants.{Deed}
 use Rattle.pas_steps.proofs.Parts.{part_of_own}
 use Rattle.pas_steps.proofs.Past.{always_map}
-use Rattle.pas_core.specs.Good.{word_of_deed, word_of_backed}
+use Rattle.pas_core.specs.Good.{word_of_deed}
 use Rattle.pas_core.proofs.Deeds.{deed_of, backed_of, known_is}
-use Rattle.pas_core.proofs.MachineRuns.{runs}
+use Rattle.pas_core.proofs.MachineRuns.{runs, one_backed}
 use Rattle.pas_core.proofs.Nexts.{agreed_steps}
 use Rattle.pas_core.proofs.Rights.{Nowhere, is_with, spot_of, DeedFits, no_deed, spotted, deeds_known, free_without_deed}
 use Rattle.pas_scan.specs.Runs.{IsInRun}
@@ -55,7 +55,7 @@ use Rattle.pas_same_text.proofs.GivingBack.{backed_stays}
 use Rattle.pas_same_text.proofs.KeptPages.{keeper}
 use Rattle.pas_same_text.proofs.RaiseWalk.{below, below_all, all_so, IsWalked, found_text, none_text}
 use Rattle.pas_same_text.proofs.ReadyPages.{shown, shown_events, shown_rest}
-use Rattle.pas_same_text.proofs.RestingPages.{is_open}
+use Rattle.pas_same_text.proofs.RestingPages.{is_open, owned_is, unowned_by}
 use Rattle.pas_same_text.proofs.RunEvents.{deeded, deeds_of, deeded_falls, deeded_events, deeds_live}
 use Rattle.pas_same_text.proofs.RunsSame.{run_usable, usable_run}
 use Rattle.pas_same_text.proofs.SoughtRuns.{IsRunOf, IsBackedRun, IsMadeOf, failed_run, found_run, bad_run, made_pages}
@@ -68,9 +68,6 @@ all_true : (d : Directory) (kept room empty : Bool) → kept ≡ false → room 
 all_true d kept room empty none some full =
     ap (λ (t : Bool). (t && (not kept && room)) && empty) (eq-eqb (number_of d) (number_of d) refl)
     ∙ (ap (λ (t : Bool). (not t && room) && empty) none ∙ (ap (λ (t : Bool). t && empty) some ∙ full))
-
-one_backed : (b : Bool) → 1 ≡ word_of_backed b → b ≡ true
-one_backed b h = grind arith
 
 word_some : (o : Option Directory) → word_of_deed o ≢ 0 → o ≢ None
 word_some o some none = some (ap word_of_deed none)
@@ -108,11 +105,7 @@ module _ (f : Profile) (k heap n : ℕ) (p : Progress) (w : World) (valid : IsVa
       false≢true (sym (ap (is_with by.0) nowhere) ∙ (sym (at.has by.0) ∙ by.1)))
 
   no_deed_in : (page : ℕ) → word_after l (Word.Deed page) ≡ 0 → is_none (deed_in w.events page) ≡ true
-  no_deed_in page none = by_word (deed_in w.events page) (ap (λ (es : List Event). word_of_deed (deed_in es page)) same.pages.events ∙ (sym (deed_of f l between.legal page) ∙ none))
-    where
-      by_word : (o : Option Directory) → word_of_deed o ≡ 0 → is_none o ≡ true
-      by_word None is = refl
-      by_word (Some e) is = absurd (deed_word_of-positive e is)
+  no_deed_in page none = unowned_by (deed_in w.events page) (sym (owned_is f l w between.legal same.pages.events page) ∙ none)
 
   -- ---- deeds of such pages change no page's use
   same_use : (o : Option Directory) (qs : List ℕ) (page : ℕ) → usable_in d o (mine qs) page ≡ usable_in d o w page

@@ -1,7 +1,8 @@
 -- Each act leaves each live block on grains that blocks of its page's directory may cover.
 use Rattle.std.proofs.Common.{◌≡◌, ℕ, ◌/◌, ◌%◌, ◌<◌, ◌==◌, nat_le, max, Bool, true, false, if◌then◌else◌, List, [], ◌∷◌, ◌++◌, length, map, reverse, Option, None, Some, Result, Ok, Err, MatchResult, inl, inr, refl, ap, sym, ◌∙◌, subst, arith}
-use Rattle.std.proofs.lemmas.Bool.{false≢true, eqb-true}
+use Rattle.std.proofs.lemmas.Bool.{eqb-true}
 use Rattle.std.proofs.lemmas.Bool.Decides.{nat_tests}
+use Rattle.std.proofs.lemmas.Option.{same_Some, none-some}
 use Rattle.std.specs.List.{AllByRecursion}
 use Rattle.pas_bits.specs.Runs.{in_run}
 use Rattle.pas_bits.proofs.Runs.{run_of}
@@ -80,31 +81,21 @@ GivesUsably es (Event.Give k block) = IsUsableGive es block
 GivesUsably es (Event.End k name e) = Unit {0}
 GivesUsably es (Event.Reject k name why) = Unit {0}
 
-is_some : {A : Type 0} → Option A → Bool
-is_some None = false
-is_some (Some x) = true
-
 deed_usable : (f : Profile) (es : List Event) (p : ℕ) (d own : Directory) (address : ℕ) (b : Live) (g : ℕ) (t : Bool) → (p == g / 256) ≡ t → Run f es → deed_in es p ≡ None → live_in es address ≡ Some b → IsPartOf g address b
     → AreBlocksUsable es → (if t then Some d else deed_in es (g / 256)) ≡ Some own → usable_by_kind own.kind (g % 256) ≡ true
-unfolding is_some
 deed_usable f es p d own address b g true e run none lives of usable is =
     let bears : Bears f es b.block.heap (g / 256) = all_borne f es run address b lives g of in
-    absurd (false≢true (ap is_some (sym none ∙ (ap (deed_in es) (eqb-true p (g / 256) e) ∙ bears.deed))))
+    absurd (none-some _ (sym none ∙ (ap (deed_in es) (eqb-true p (g / 256) e) ∙ bears.deed)))
 deed_usable f es p d own address b g false e run none lives of usable is = usable.usable address b lives g of own is
 
 ended_usable : (es : List Event) (own : Directory) (address : ℕ) (b : Live) (g : ℕ) (t : Bool) → (if t then None else live_in es address) ≡ Some b → IsPartOf g address b → AreBlocksUsable es → deed_in es (g / 256) ≡ Some own → usable_by_kind own.kind (g % 256) ≡ true
-unfolding is_some
-ended_usable es own address b g true lives of usable is = absurd (false≢true (ap is_some lives))
+ended_usable es own address b g true lives of usable is = absurd (none-some b lives)
 ended_usable es own address b g false lives of usable is = usable.usable address b lives g of own is
-
-abbrev or_this : Live → Option Live → Live
-or_this d None = d
-or_this d (Some x) = x
 
 given_usable : (k : ℕ) (block : Block) (es : List Event) (own : Directory) (address : ℕ) (b : Live) (g : ℕ) (t : Bool) → (address_of block.name == address) ≡ t → (if t then Some (record { actor = k; block = block }) else live_in es address) ≡ Some b → IsPartOf g address b
     → IsUsableGive es block → AreBlocksUsable es → deed_in es (g / 256) ≡ Some own → usable_by_kind own.kind (g % 256) ≡ true
 given_usable k block es own address b g true e lives of give usable is =
-    let same : block ≡ b.block = ap (λ (o : Option Live). (or_this (record { actor = k; block = block }) o).block) lives in
+    let same : block ≡ b.block = ap (λ (l : Live). l.block) (same_Some (record { actor = k; block = block }) b lives) in
     let at : address_of block.name ≡ address = eqb-true (address_of block.name) address e in
     give g (ap (λ (a : ℕ). in_run (a / 16) (length_of block) g) at ∙ (ap (λ (x : Block). in_run (address / 16) (length_of x) g) same ∙ of)) own is
 given_usable k block es own address b g false e lives of give usable is = usable.usable address b lives g of own is
