@@ -17,7 +17,6 @@ use Rattle.pas_profile.specs.declared.event.NoRoom.{NoRoom}
 use Rattle.pas_profile.specs.declared.name.Block.{Block}
 use Rattle.pas_profile.specs.declared.profile.Profile.{Profile}
 use Rattle.pas_profile.specs.declared.word.Word.TheVariants as Word
-use Rattle.pas_profile.proofs.Codecs.{deed_word_of-positive, same_from_deed_word}
 use Rattle.pas_machine.specs.Machine.{Run, Bears}
 use Rattle.pas_machine.specs.State.{Live, live_in, deed_in, gives_in}
 use Rattle.pas_steps.specs.Agreement.{Agreed}
@@ -30,20 +29,19 @@ use Rattle.pas_steps.specs.Evidence.{Readings}
 use Rattle.pas_steps.specs.Kinds.{Only, Giving, LookLife, returning}
 use Rattle.pas_steps.specs.Lists.{Whole, part, word_after, visible, Legal}
 use Rattle.pas_steps.specs.Past.{Once, Always}
-use Rattle.pas_steps.specs.Views.{View, has_right, known_deed, usable_by_kind}
+use Rattle.pas_steps.specs.Views.{View, has_right, known_deed}
 use Rattle.pas_steps.specs.declared.step.Made.{Made}
 use Rattle.pas_steps.specs.declared.step.Step.{Step}
 use Rattle.pas_steps.specs.declared.step.Step.TheVariants.{Offer, Unpark, Hint}
 use Rattle.pas_steps.proofs.Adding.{triples_append}
 use Rattle.pas_steps.proofs.Apart.{events_same}
 use Rattle.pas_steps.proofs.Parts.{part_of_own}
-use Rattle.pas_core.specs.Good.{IsInOnePlace, word_of_deed}
+use Rattle.pas_core.specs.Good.{IsInOnePlace}
 use Rattle.pas_core.specs.Rights.{empty_bit, eligible_bit, free_of_page}
-use Rattle.pas_core.proofs.Deeds.{deed_of, known_is}
 use Rattle.pas_core.proofs.MachineRuns.{runs, in_one_place}
 use Rattle.pas_core.proofs.Nexts.{agreed_steps}
 use Rattle.pas_core.proofs.OneActor.{LendsNone, lends_none, legal_earlier, fit_entry}
-use Rattle.pas_core.proofs.Rights.{right_in_one_place, right_not_offered, deeds_known}
+use Rattle.pas_core.proofs.Rights.{right_not_offered}
 use Rattle.pas_rights.specs.Gives.{give_steps}
 use Rattle.pas_rights.specs.Looks.{ReadsAllFree}
 use Rattle.pas_rights.proofs.Hints.{leave_due}
@@ -79,16 +77,15 @@ use Rattle.pas_same_text.proofs.CachedSlots.{block_of, block_same}
 use Rattle.pas_same_text.proofs.CacheLists.{same_kept}
 use Rattle.pas_same_text.proofs.FlushActs.{events_recorded}
 use Rattle.pas_same_text.proofs.Flushes.{visible_steps}
-use Rattle.pas_same_text.proofs.GivenPages.{open_from}
 use Rattle.pas_same_text.proofs.OuterPages.{guards_as, still_unguarded}
 use Rattle.pas_same_text.proofs.GivingBack.{HintsPage, OffersPage, IsMarked, once_parts, marked_parts, none_marked, returns_marked, hint_marks, offer_marks, offered_by, hints_of, hint_read, epoch_stays_by}
 use Rattle.pas_same_text.proofs.LoggedFrees.{after_with}
 use Rattle.pas_same_text.proofs.ReadyPages.{AllAtPage, shown, shown_events, shown_records, shown_lives, shown_rest, search_at, same_live, deed_beside, readied}
-use Rattle.pas_same_text.proofs.RestingPages.{bit_at, deed_now, bit_tells, bit_offered}
 use Rattle.pas_same_text.proofs.SearchedMarks.{IsSearchedTo, hints_kept, offers_kept}
 use Rattle.pas_same_text.proofs.SearchedPages.{offered_chosen, deed_chosen}
 use Rattle.pas_same_text.proofs.SearchMarks.{free_shown}
-use Rattle.pas_same_text.proofs.StopSteps.{ReadsRoom, grain_read, leave_room}
+use Rattle.pas_same_text.proofs.StopSteps.{ReadsRoom, leave_room}
+use Rattle.pas_same_text.proofs.RoomsRead.{read_offered}
 
 -- the page that serves isn't hinted by the search
 pub not_hinted : (page : ℕ) (xs : List Made) → Always (KeepsMarks page) xs → HintsPage page xs → ⊥
@@ -439,17 +436,9 @@ module _ (f : Profile) (k name heap size align : ℕ) (p p' : Progress) (w : Wor
 
   own_offer : (e : Directory) → IsDirectoryOf f e → eligible_bit q.list (number_of e) page ≡ true → is_offered v e page ≡ true
   own_offer e of_e bit =
-      let r = offer_left e bit in
-      let tells = bit_tells f q v valid there same_now page e of_e (right_in_one_place f q.list there.legal page) bit in
-      let word : word_after q.list (Word.Deed page) ≡ deed_word_of e = deed_of f q.list there.legal page ∙ ap word_of_deed (deed_now f q v valid there same_now page e of_e tells.0) in
       let knows : known_deed (part k q.list) page ≡ deed_word_of d =
       ap (λ (x : View). known_deed x page) (part_of_own k (rest ++ search) l) ∙ (given.gave.from own may (agreed_steps f k l (rest ++ search) valid legal)).deed in
-      let known : known_deed (part k q.list) page ≡ word_after q.list (Word.Deed page) = known_is (known_deed (part k q.list) page) (word_after q.list (Word.Deed page)) (deeds_known f q.list there.legal k page) (λ none. deed_word_of-positive d (sym knows ∙ none)) in
-      let e_is : e ≡ d = same_from_deed_word e d of_e.kind tt (sym word ∙ (sym known ∙ knows)) in
-      let free : has_bit (word_after q.list (Word.Free page (r.grain / 64))) (r.grain % 64) ≡ true =
-      ap (λ (m : Whole). has_bit (word_after m (Word.Free page (r.grain / 64))) (r.grain % 64)) list_is ∙ grain_read returning refl f k base page r.grain given.left legal_left left_kinds r.read in
-      bit_offered f q v valid there same_now page e of_e bit
-      (open_from f q v valid there same_now e page r.grain r.small (ap (λ (x : Directory). usable_by_kind x.kind r.grain) e_is ∙ r.usable) (bit_at q.list page r.grain r.small ∙ free))
+      read_offered f q v valid there same_now returning refl k base given.left list_is left_kinds page e d of_e bit tt knows (offer_left e bit)
 
   -- ---- ALL
   given_same : IsSame f q v

@@ -106,6 +106,31 @@ pub with_twice : (cs : List Cache) (k : ℕ) (a b : Cache) → with_cache (with_
 with_twice [] k a b = refl
 with_twice (c ∷ cs) k a b = twice_at c cs k a b (k == 1) refl (λ e. with_twice cs (k - 1) a b)
 
+-- ---- one local allocator goes
+module _ (f : Profile) (k : ℕ) (l : Local) (w : World) (page_of : IsPage f l.page) (less : (p : Local → Bool) → list_any p (others l.heap l.class (locals_of w k)) ≡ true → list_any p (locals_of w k) ≡ true)
+    (rest : (p : Local → Bool) → p l ≡ false → list_any p (locals_of w k) ≡ true → list_any p (others l.heap l.class (locals_of w k)) ≡ true) where
+  abbrev fewer : Cache
+  fewer = record (cache_of w k) { locals = others l.heap l.class (locals_of w k) }
+
+  abbrev without_one : World
+  without_one = set_locals k (others l.heap l.class (locals_of w k)) w
+
+  cached_less : (page b : ℕ) → is_cached (locals_on without_one page) b ≡ true → is_cached (locals_on w page) b ≡ true
+  cached_less page b h = any_cached w.caches page b (any_with w.caches k fewer (has_grain page b) (less (has_grain page b)) (cached_any without_one.caches page b h))
+
+  cached_other : (page b : ℕ) → (l.page == page) ≡ false → is_cached (locals_on w page) b ≡ true → is_cached (locals_on without_one page) b ≡ true
+  cached_other page b none h = any_cached without_one.caches page b
+      (with_any w.caches k fewer (has_grain page b) (rest (has_grain page b) (ap (λ (t : Bool). t && list_any (λ s. in_run s (class_grains l.class) b) l.slots) none)) (cached_any w.caches page b h))
+
+  pub one_returns : Returns f (l.page ∷ []) w (gives_up k l w)
+  one_returns = minded_last f (l.page ∷ []) w without_one
+      (λ page h. subst (IsPage f) (eqb-true l.page page (or_none (l.page == page) h)) page_of)
+      (λ page. refl)
+      (λ page b small h. and_more (not (is_covered (blocks_on w page) (256 * page + b))) (is_cached (locals_on w page) b) (is_cached (locals_on without_one page) b) (cached_less page b) h)
+      (λ page b of none small. ap (λ (t : Bool). not (is_covered (blocks_on w page) (256 * page + b)) && not t)
+      (same_truth (is_cached (locals_on without_one page) b) (is_cached (locals_on w page) b) (cached_less page b) (cached_other page b (or_none (l.page == page) none))))
+      refl
+
 -- ==== A CACHE IS GIVEN UP: these local allocators of it, in order
 pub record IsGivenUp (f : Profile) (k : ℕ) (ls : List Local) (w v : World) : Type 0 where
   pub events : v.events ≡ w.events
@@ -134,21 +159,6 @@ module _ (f : Profile) (k : ℕ) (l : Local) (ls : List Local) (w : World) (is :
   any_other : (p : Local → Bool) → p l ≡ false → list_any p (locals_of w k) ≡ true → list_any p new.locals ≡ true
   any_other p none h = ap (list_any p) left ∙ (ap (λ (t : Bool). t || list_any p ls) (sym none) ∙ (ap (list_any p) (sym is) ∙ h))
 
-  cached_less : (page b : ℕ) → is_cached (locals_on bare page) b ≡ true → is_cached (locals_on w page) b ≡ true
-  cached_less page b h = any_cached w.caches page b (any_with w.caches k new (has_grain page b) (any_left (has_grain page b)) (cached_any bare.caches page b h))
-
-  cached_other : (page b : ℕ) → (l.page == page) ≡ false → is_cached (locals_on w page) b ≡ true → is_cached (locals_on bare page) b ≡ true
-  cached_other page b none h = any_cached bare.caches page b (with_any w.caches k new (has_grain page b) (any_other (has_grain page b) (ap (λ (t : Bool). t && list_any (λ s. in_run s (class_grains l.class) b) l.slots) none)) (cached_any w.caches page b h))
-
-  one_returns : Returns f (l.page ∷ []) w (gives_up k l w)
-  one_returns = minded_last f (l.page ∷ []) w bare
-      (λ page h. subst (IsPage f) (eqb-true l.page page (or_none (l.page == page) h)) page_of)
-      (λ page. refl)
-      (λ page b small h. and_more (not (is_covered (blocks_on w page) (256 * page + b))) (is_cached (locals_on w page) b) (is_cached (locals_on bare page) b) (cached_less page b) h)
-      (λ page b of none small. ap (λ (t : Bool). not (is_covered (blocks_on w page) (256 * page + b)) && not t)
-      (same_truth (is_cached (locals_on bare page) b) (is_cached (locals_on w page) b) (cached_less page b) (cached_other page b (or_none (l.page == page) none))))
-      refl
-
   abbrev pub gone : World
   gone = gives_up k l w
 
@@ -171,7 +181,7 @@ module _ (f : Profile) (k : ℕ) (l : Local) (ls : List Local) (w : World) (is :
         ∙ (ap (λ (c : Cache). with_cache gone.caches k (record c { locals = [] })) (own_gone some few)
         ∙ (ap (λ (cs : List Cache). with_cache cs k (record (cache_of w k) { locals = [] })) only.caches
         ∙ with_twice w.caches k new (record (cache_of w k) { locals = [] })));
-    returns = returns_then f (l.page ∷ []) (map (λ x. x.page) ls) w gone v one_returns up.returns;
+    returns = returns_then f (l.page ∷ []) (map (λ x. x.page) ls) w gone v (one_returns f k l w page_of any_left any_other) up.returns;
   }
 
 abbrev pub AllOfRegion : Profile → List Local → Type 0

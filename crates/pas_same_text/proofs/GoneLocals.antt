@@ -1,20 +1,15 @@
 -- ONE LOCAL ALLOCATOR GOES, in the text alone: wherever it stands in its cache.
-use Rattle.std.proofs.Common.{◌≡◌, ℕ, ◌+◌, ◌*◌, ◌==◌, Bool, true, false, not, ◌&&◌, ◌||◌, if◌then◌else◌, List, [], ◌∷◌, Some, refl, ap, sym, ◌∙◌, subst}
+use Rattle.std.proofs.Common.{◌≡◌, ℕ, ◌==◌, Bool, true, false, not, ◌||◌, if◌then◌else◌, List, [], ◌∷◌, Some, refl, ap, sym, ◌∙◌}
 use Rattle.std.proofs.lemmas.Bool.{false≢true, eqb-true, or_right}
 use Rattle.std.proofs.lemmas.Option.{same_Some}
 use Rattle.std.specs.List.{list_any, find}
-use Rattle.pas_bits.specs.Runs.{in_run}
-use Rattle.pas_profile.specs.Classes.{class_grains}
 use Rattle.pas_profile.specs.Profiles.{IsPage}
 use Rattle.pas_profile.specs.declared.profile.Profile.{Profile}
-use Rattle.pas_steps.proofs.Sets.{same_truth}
 use Rattle.pas_one_text.specs.State.{Local, Cache, World, cache_of, locals_of, set_locals}
-use Rattle.pas_one_text.specs.Pages.{is_covered, is_cached, blocks_on, locals_on}
 use Rattle.pas_one_text.specs.Classes.{is_for, others, gives_up}
-use Rattle.pas_same_text.proofs.GivenBack.{Returns, OnlyHints, minded_last, all_only_hints}
-use Rattle.pas_same_text.proofs.GivenUp.{AreUnique, any_with, with_any}
-use Rattle.pas_same_text.proofs.Slots.{has_grain, cached_any, any_cached}
-use Rattle.pas_same_text.proofs.Tests.{and_first, and_second, or_none, and_more, or_more}
+use Rattle.pas_same_text.proofs.GivenBack.{Returns, OnlyHints, all_only_hints}
+use Rattle.pas_same_text.proofs.GivenUp.{AreUnique, one_returns}
+use Rattle.pas_same_text.proofs.Tests.{and_first, and_second, or_more}
 
 -- ---- the others of a cache
 
@@ -50,21 +45,8 @@ module _ (f : Profile) (k : ℕ) (l : Local) (w : World) (unique : AreUnique (lo
   abbrev bare : World
   bare = set_locals k (others l.heap l.class (locals_of w k)) w
 
-  cached_less : (page b : ℕ) → is_cached (locals_on bare page) b ≡ true → is_cached (locals_on w page) b ≡ true
-  cached_less page b h = any_cached w.caches page b (any_with w.caches k left (has_grain page b) (any_less (has_grain page b) l.heap l.class (locals_of w k)) (cached_any bare.caches page b h))
-
-  cached_other : (page b : ℕ) → (l.page == page) ≡ false → is_cached (locals_on w page) b ≡ true → is_cached (locals_on bare page) b ≡ true
-  cached_other page b none h = any_cached bare.caches page b
-      (with_any w.caches k left (has_grain page b) (any_other (has_grain page b) l.heap l.class l (locals_of w k) unique found (ap (λ (t : Bool). t && list_any (λ s. in_run s (class_grains l.class) b) l.slots) none)) (cached_any w.caches page b h))
-
   pub gone_returns : Returns f (l.page ∷ []) w (gives_up k l w)
-  gone_returns = minded_last f (l.page ∷ []) w bare
-      (λ page h. subst (IsPage f) (eqb-true l.page page (or_none (l.page == page) h)) page_of)
-      (λ page. refl)
-      (λ page b small h. and_more (not (is_covered (blocks_on w page) (256 * page + b))) (is_cached (locals_on w page) b) (is_cached (locals_on bare page) b) (cached_less page b) h)
-      (λ page b of none small. ap (λ (t : Bool). not (is_covered (blocks_on w page) (256 * page + b)) && not t)
-      (same_truth (is_cached (locals_on bare page) b) (is_cached (locals_on w page) b) (cached_less page b) (cached_other page b (or_none (l.page == page) none))))
-      refl
+  gone_returns = one_returns f k l w page_of (λ p h. any_less p l.heap l.class (locals_of w k) h) (λ p none h. any_other p l.heap l.class l (locals_of w k) unique found none h)
 
   pub gone_only : OnlyHints bare (gives_up k l w)
   gone_only = all_only_hints (l.page ∷ []) bare

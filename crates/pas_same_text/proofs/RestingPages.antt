@@ -12,12 +12,12 @@ use Rattle.pas_profile.proofs.Codecs.{numbered, deed_word_of-positive, read-deed
 use Rattle.pas_machine.specs.State.{deed_in}
 use Rattle.pas_steps.specs.Clear.{IsClear}
 use Rattle.pas_steps.specs.Lists.{Whole, part, word_after, visible, Legal}
-use Rattle.pas_steps.specs.Views.{usable_by, usable_by_kind}
+use Rattle.pas_steps.specs.Views.{usable_by, usable_by_kind, known_deed}
 use Rattle.pas_core.specs.Good.{word_of_deed}
 use Rattle.pas_core.specs.Rights.{eligible_bit, IsUsableFree, IsRightOffered, IsRightInOnePlace}
-use Rattle.pas_core.proofs.Deeds.{deed_of, directory_is_of}
+use Rattle.pas_core.proofs.Deeds.{deed_of, directory_is_of, known_is}
 use Rattle.pas_core.proofs.Offers.{offered_at_rest}
-use Rattle.pas_core.proofs.Rights.{right_in_one_place}
+use Rattle.pas_core.proofs.Rights.{right_in_one_place, deeds_known}
 use Rattle.pas_answers.specs.Answers.{Progress}
 use Rattle.pas_one_text.specs.State.{World}
 use Rattle.pas_one_text.specs.Pages.{each_of, is_same, is_of, is_kept, is_guarded, is_free, has_room, is_offered, is_none}
@@ -61,6 +61,10 @@ unowned_by (Some e) h = absurd (deed_word_of-positive e h)
 
 pub owned_is : (f : Profile) (l : Whole) (w : World) → Legal f l → w.events ≡ visible l → (page : ℕ) → word_after l (Word.Deed page) ≡ word_of_deed (deed_in w.events page)
 owned_is f l w legal events page = deed_of f l legal page ∙ ap (λ (es : List Event). word_of_deed (deed_in es page)) (sym events)
+
+-- an actor that knows the deed of a page knows its word
+pub word_known : (f : Profile) (l : Whole) → Legal f l → (k page : ℕ) (d : Directory) → known_deed (part k l) page ≡ deed_word_of d → word_after l (Word.Deed page) ≡ deed_word_of d
+word_known f l legal k page d knows = sym (known_is (known_deed (part k l) page) (word_after l (Word.Deed page)) (deeds_known f l legal k page) (λ none. deed_word_of-positive d (sym knows ∙ none))) ∙ knows
 
 pub record IsDeedOf (o : Option Directory) (d : Directory) : Type 0 where
   pub deed : Directory
@@ -113,7 +117,7 @@ module _ (f : Profile) (p : Progress) (w : World) (valid : IsValid f) (between :
       let of_own : IsDirectoryOf f o.deed = directory_is_of f p.list between.legal page o.deed there in
       there ∙ ap (λ (x : Directory). Some x) (same_number o.deed d of_own.kind of.kind o.number)
 
-  word_now : (page : ℕ) (d : Directory) → deed_in (visible p.list) page ≡ Some d → word_after p.list (Word.Deed page) ≡ deed_word_of d
+  pub word_now : (page : ℕ) (d : Directory) → deed_in (visible p.list) page ≡ Some d → word_after p.list (Word.Deed page) ≡ deed_word_of d
   word_now page d is = deed_of f p.list between.legal page ∙ ap word_of_deed is
 
   pub free_at : (page b : ℕ) → b < 256 → is_guarded w page ≡ false → is_free w page b ≡ has_bit (word_after p.list (Word.Free page (b / 64))) (b % 64)

@@ -12,7 +12,7 @@ use Rattle.pas_profile.specs.declared.event.Event.{Event}
 use Rattle.pas_profile.specs.declared.name.Block.{Block}
 use Rattle.pas_profile.specs.declared.profile.Profile.{Profile}
 use Rattle.pas_profile.specs.declared.word.Word.TheVariants as Word
-use Rattle.pas_profile.proofs.Codecs.{deed_word_of-positive, same_from_deed_word}
+use Rattle.pas_profile.proofs.Codecs.{deed_word_of-positive}
 use Rattle.pas_machine.specs.Machine.{Run}
 use Rattle.pas_machine.specs.State.{Live, live_in, deed_in, gives_in}
 use Rattle.pas_steps.specs.Agreement.{Agreed}
@@ -25,7 +25,7 @@ use Rattle.pas_steps.specs.InTurn.{InTurn}
 use Rattle.pas_steps.specs.Kinds.{Only, Giving, LookLife, Backing, returning}
 use Rattle.pas_steps.specs.Lists.{Whole, part, word_after, visible, Legal}
 use Rattle.pas_steps.specs.Past.{Once, Always}
-use Rattle.pas_steps.specs.Views.{View, has_right, known_deed, usable_by_kind}
+use Rattle.pas_steps.specs.Views.{View, has_right, known_deed}
 use Rattle.pas_steps.specs.declared.step.Made.{Made}
 use Rattle.pas_steps.specs.declared.step.Step.{Step}
 use Rattle.pas_steps.specs.declared.step.Step.TheVariants.{Deed, Hint}
@@ -36,11 +36,11 @@ use Rattle.pas_steps.proofs.Past.{always_map}
 use Rattle.pas_steps.proofs.Parts.{part_of_own}
 use Rattle.pas_core.specs.Good.{IsInOnePlace, word_of_deed}
 use Rattle.pas_core.specs.Rights.{eligible_bit}
-use Rattle.pas_core.proofs.Deeds.{deed_of, known_is}
+use Rattle.pas_core.proofs.Deeds.{deed_of}
 use Rattle.pas_core.proofs.MachineRuns.{runs, in_one_place}
 use Rattle.pas_core.proofs.Nexts.{agreed_steps}
 use Rattle.pas_core.proofs.OneActor.{legal_earlier}
-use Rattle.pas_core.proofs.Rights.{right_in_one_place, right_not_offered, deeds_known}
+use Rattle.pas_core.proofs.Rights.{right_not_offered}
 use Rattle.pas_rights.specs.Gives.{give_steps}
 use Rattle.pas_rights.specs.Looks.{ReadsAllFree}
 use Rattle.pas_scan.specs.Runs.{IsInRun}
@@ -77,18 +77,18 @@ use Rattle.pas_same_text.proofs.CachedSlots.{block_of, block_same}
 use Rattle.pas_same_text.proofs.CacheLists.{same_kept}
 use Rattle.pas_same_text.proofs.FlushActs.{events_recorded}
 use Rattle.pas_same_text.proofs.Flushes.{visible_steps}
-use Rattle.pas_same_text.proofs.GivenPages.{open_from}
 use Rattle.pas_same_text.proofs.GivingBack.{HintsPage, OffersPage, IsMarked, once_parts, marked_parts, none_marked, hint_marks, offer_marks, offered_by, hints_of, hint_read, epoch_stays_by}
 use Rattle.pas_same_text.proofs.LeftRuns.{LeftInTurn, left_marked, left_due, left_room}
 use Rattle.pas_same_text.proofs.LoggedFrees.{after_with}
 use Rattle.pas_same_text.proofs.OuterPages.{guards_as, still_unguarded}
 use Rattle.pas_same_text.proofs.ReadyPages.{shown, shown_events, shown_records, shown_lives, shown_rest}
-use Rattle.pas_same_text.proofs.RestingPages.{bit_at, deed_now, bit_tells, bit_offered}
+use Rattle.pas_same_text.proofs.RestingPages.{word_known}
 use Rattle.pas_same_text.proofs.RunEvents.{in_turn, each_in_turn, shown_both, deeded, deeds_of, deeded_falls, deeded_within, deeded_events, deeds_beside, deeds_in_turn, backs_in_turn, backs_beside, deeds_live, backs_live}
 use Rattle.pas_same_text.proofs.RunMarks.{DeedsOn, IsRunTo, run_hints, run_offers}
 use Rattle.pas_same_text.proofs.RunsFound.{DeedsInRun}
-use Rattle.pas_same_text.proofs.StopSteps.{ReadsRoom, grain_read}
+use Rattle.pas_same_text.proofs.StopSteps.{ReadsRoom}
 use Rattle.pas_same_text.proofs.Tests.{on_page}
+use Rattle.pas_same_text.proofs.RoomsRead.{read_offered}
 
 -- The n pages from the first one on were got by the first of these steps, which made deeds of pages of this run alone, the lowest first. By the others they were backed, the lowest
 -- first, their block was given, and they were left.
@@ -219,7 +219,7 @@ module _ (f : Profile) (k name heap first n : ℕ) (p : Progress) (u : World) (g
   word_mid : (x : ℕ) → IsInRun first n x → word_after mid (Word.Deed x) ≡ deed_word_of d
   word_mid x here =
       let knows : known_deed (part k mid) x ≡ deed_word_of d = ap (λ (v : View). known_deed v x) (part_of_own k got l) ∙ pages.deeds x (span x here) in
-      sym (known_is (known_deed (part k mid) x) (word_after mid (Word.Deed x)) (deeds_known f mid legal_got k x) (λ none. deed_word_of-positive d (sym knows ∙ none))) ∙ knows
+      word_known f mid legal_got k x d knows
 
   deeds_there : (x : ℕ) → IsInRun first n x → deed_in (ds ++ u.events) x ≢ None
   deeds_there x here = no_deed_there d (deed_in (ds ++ u.events) x) (ap (λ (xs : List Event). word_of_deed (deed_in xs x)) (sym visible_mid) ∙ (sym (deed_of f mid legal_got x) ∙ word_mid x here))
@@ -369,16 +369,8 @@ module _ (f : Profile) (k name heap first n : ℕ) (p : Progress) (u : World) (g
 
   own_offer : (x : ℕ) (e : Directory) → IsInRun first n x → IsDirectoryOf f e → eligible_bit q.list (number_of e) x ≡ true → is_offered v e x ≡ true
   own_offer x e here of_e bit =
-      let r = offer_left x e here bit in
-      let tells = bit_tells f q v valid there same_now x e of_e (right_in_one_place f q.list there.legal x) bit in
-      let word : word_after q.list (Word.Deed x) ≡ deed_word_of e = deed_of f q.list there.legal x ∙ ap word_of_deed (deed_now f q v valid there same_now x e of_e tells.0) in
       let knows : known_deed (part k q.list) x ≡ deed_word_of d = ap (λ (y : View). known_deed y x) (part_of_own k (rest ++ got) l) ∙ given.deeds x (span x here) in
-      let known : known_deed (part k q.list) x ≡ word_after q.list (Word.Deed x) = known_is (known_deed (part k q.list) x) (word_after q.list (Word.Deed x)) (deeds_known f q.list there.legal k x) (λ none. deed_word_of-positive d (sym knows ∙ none)) in
-      let e_is : e ≡ d = same_from_deed_word e d of_e.kind tt (sym word ∙ (sym known ∙ knows)) in
-      let free : has_bit (word_after q.list (Word.Free x (r.grain / 64))) (r.grain % 64) ≡ true =
-      ap (λ (m : Whole). has_bit (word_after m (Word.Free x (r.grain / 64))) (r.grain % 64)) list_is ∙ grain_read returning refl f k base x r.grain run.left legal_left left_kinds r.read in
-      bit_offered f q v valid there same_now x e of_e bit
-      (open_from f q v valid there same_now e x r.grain r.small (ap (λ (y : Directory). usable_by_kind y.kind r.grain) e_is ∙ r.usable) (bit_at q.list x r.grain r.small ∙ free))
+      read_offered f q v valid there same_now returning refl k base run.left list_is left_kinds x e d of_e bit tt knows (offer_left x e here bit)
 
   within : (x : ℕ) → in_span first (first + n) x ≡ true → IsInRun first n x
   within x h = in_parts first (first + n) x h

@@ -22,7 +22,7 @@ use Rattle.pas_profile.specs.declared.name.Block.{Block}
 use Rattle.pas_profile.specs.declared.profile.Profile.{Profile}
 use Rattle.pas_profile.specs.declared.word.Word.TheVariants as Word
 use Rattle.pas_profile.proofs.ClassFacts.{usable_grains_le, class_suits, class_known}
-use Rattle.pas_profile.proofs.Codecs.{deed_word_of-positive, same_from_deed_word}
+use Rattle.pas_profile.proofs.Codecs.{same_from_deed_word}
 use Rattle.pas_machine.specs.Machine.{Run, Bears}
 use Rattle.pas_machine.specs.State.{Live, live_in, deed_in}
 use Rattle.pas_machine.proofs.LiveBlocks.{all_borne}
@@ -36,10 +36,9 @@ use Rattle.pas_steps.proofs.Apart.{no_events}
 use Rattle.pas_steps.proofs.Frames.{events_append}
 use Rattle.pas_steps.proofs.Parts.{part_of_own}
 use Rattle.pas_core.specs.Good.{IsPartOf, word_of_deed}
-use Rattle.pas_core.proofs.Deeds.{known_is, deed_of, directory_is_of}
+use Rattle.pas_core.proofs.Deeds.{deed_of, directory_is_of}
 use Rattle.pas_core.proofs.MachineRuns.{runs}
 use Rattle.pas_core.proofs.OneActor.{legal_before, legal_earlier}
-use Rattle.pas_core.proofs.Rights.{deeds_known}
 use Rattle.pas_free_log.specs.Flushes.{Settled, shown_for, event_for}
 use Rattle.pas_free_log.specs.Logs.{entry_of, sized_entry}
 use Rattle.pas_free_log.specs.declared.ending.Outcome.{Outcome as TheEnd}
@@ -67,6 +66,7 @@ use Rattle.pas_answers.specs.Reaching.{AnswersTried, AnswersGuarded}
 use Rattle.pas_answers.proofs.Reached.{tried_on, pieces_back}
 use Rattle.pas_same_text.specs.Acts.{AreBlocksUsable, HasUsableBlocks, KeepsUsable}
 use Rattle.pas_same_text.proofs.Flushes.{visible_steps}
+use Rattle.pas_same_text.proofs.RestingPages.{word_known}
 
 -- ---- one event
 -- the block may be given so: each of its grains is one that blocks of its page's directory may cover
@@ -243,9 +243,7 @@ module _ (f : Profile) (k heap size align : ℕ) (l : Whole) (steps : List Made)
       let deed : deed_in (visible whole) page ≡ Some d = ap (λ (es : List Event). deed_in es page) shown ∙ is in
       let word : word_after whole (Word.Deed page) ≡ deed_word_of d = deed_of f whole legal page ∙ ap word_of_deed deed in
       let some : known_deed (part k whole) page ≡ deed_word_of wanted.directory = ap (λ (v : View). known_deed v page) (part_of_own k steps l) ∙ given.of_directory g of in
-      let known : known_deed (part k whole) page ≡ word_after whole (Word.Deed page) =
-      known_is (known_deed (part k whole) page) (word_after whole (Word.Deed page)) (deeds_known f whole legal k page) (λ none. deed_word_of-positive wanted.directory (sym some ∙ none)) in
-      let same : d ≡ wanted.directory = same_from_deed_word d wanted.directory (directory_is_of f whole legal page d deed).kind (kind_known f (is_shared f heap) size align (route_in f size align) refl) (sym word ∙ (sym known ∙ some)) in
+      let same : d ≡ wanted.directory = same_from_deed_word d wanted.directory (directory_is_of f whole legal page d deed).kind (kind_known f (is_shared f heap) size align (route_in f size align) refl) (sym word ∙ word_known f whole legal k page wanted.directory some) in
       ap (λ (x : Directory). usable_by_kind x.kind (g % 256)) same ∙ placed_usable f (is_shared f heap) size align (route_in f size align) block g refl given.placed given.room of
 
   by_answer : (answer : Result Block NoRoom) → RequestEnds k wanted (part k l) steps answer → AreBlocksUsable (visible whole)
