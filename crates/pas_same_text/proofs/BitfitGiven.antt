@@ -34,7 +34,6 @@ use Rattle.pas_steps.specs.declared.step.Made.{Made}
 use Rattle.pas_steps.specs.declared.step.Step.{Step}
 use Rattle.pas_steps.specs.declared.step.Step.TheVariants.{Offer, Unpark, Hint}
 use Rattle.pas_steps.proofs.Adding.{triples_append}
-use Rattle.pas_steps.proofs.Apart.{events_same}
 use Rattle.pas_steps.proofs.Parts.{part_of_own}
 use Rattle.pas_core.specs.Good.{IsInOnePlace}
 use Rattle.pas_core.specs.Rights.{empty_bit, eligible_bit, free_of_page}
@@ -76,9 +75,9 @@ use Rattle.pas_same_text.proofs.BitfitFits.{bitfit_fits, lowest_is}
 use Rattle.pas_same_text.proofs.CachedSlots.{block_of, block_same}
 use Rattle.pas_same_text.proofs.CacheLists.{same_kept}
 use Rattle.pas_same_text.proofs.FlushActs.{events_recorded}
-use Rattle.pas_same_text.proofs.Flushes.{visible_steps}
+use Rattle.pas_same_text.proofs.Flushes.{visible_steps, unshown}
 use Rattle.pas_same_text.proofs.OuterPages.{guards_as, still_unguarded}
-use Rattle.pas_same_text.proofs.GivingBack.{HintsPage, OffersPage, IsMarked, once_parts, marked_parts, none_marked, returns_marked, hint_marks, offer_marks, offered_by, hints_of, hint_read, epoch_stays_by}
+use Rattle.pas_same_text.proofs.GivingBack.{HintsPage, OffersPage, IsMarked, once_parts, none_marked, returns_marked, hint_marks, offer_marks, offered_by, hints_of, hint_read, epoch_stays_by, marked_left}
 use Rattle.pas_same_text.proofs.LoggedFrees.{after_with}
 use Rattle.pas_same_text.proofs.ReadyPages.{AllAtPage, shown, shown_events, shown_records, shown_lives, shown_rest, search_at, same_live, deed_beside, readied}
 use Rattle.pas_same_text.proofs.SearchedMarks.{IsSearchedTo, hints_kept, offers_kept}
@@ -329,10 +328,9 @@ module _ (f : Profile) (k name heap size align : ℕ) (p p' : Progress) (w : Wor
   gave_kinds = (refl, (refl, tt))
 
   mark_left : (x : ℕ) → IsMarked x rest → IsMarked x given.left × (page ≡ x)
-  mark_left x h = elim (marked_parts x given.left gave (subst (IsMarked x) given.after_is h)) [
-    | inl marked ↦ (marked, returns_marked page x given.left (leave_returns page d given.left given.leaves) marked)
-    | inr later ↦ absurd (none_marked (Giving ∷ LookLife ∷ []) refl x gave gave_kinds later)
-  ]
+  mark_left x h =
+      let marked = marked_left (Giving ∷ LookLife ∷ []) refl x given.left gave gave_kinds (subst (IsMarked x) given.after_is h) in
+      (marked, returns_marked page x given.left (leave_returns page d given.left given.leaves) marked)
 
   searched_to : IsSearchedTo f k p q w v d page search rest
   searched_to = record {
@@ -372,11 +370,8 @@ module _ (f : Profile) (k name heap size align : ℕ) (p p' : Progress) (w : Wor
 
   lives : (xs : List Made) → Only returning xs → live_in (visible (triples k xs ++ base)) (address_of block.name) ≡ Some live
   lives xs only =
-      ap (λ (evs : List Event). live_in evs (address_of block.name)) (visible_steps k xs base ∙ (ap (λ (evs : List Event). evs ++ visible base) (silent xs only) ∙ visible_steps k (gave ++ search) l))
+      ap (λ (evs : List Event). live_in evs (address_of block.name)) (unshown returning refl k xs base only ∙ visible_steps k (gave ++ search) l)
       ∙ ap (λ (t : Bool). if t then Some live else live_in (es ++ visible l) (address_of block.name)) (eq-eqb (address_of block.name) (address_of block.name) refl)
-    where
-      silent : (xs : List Made) → Only returning xs → events_by k (part k base) xs ≡ []
-      silent xs only = ap (events_by k (part k base)) (sym (append-nil xs)) ∙ events_same returning refl k (part k base) xs [] only
 
   -- no look of the leave reads the first grain as free
   never_read : (xs : List Made) → Legal f (triples k xs ++ base) → Only returning xs → Once (ReadsAllFree page (first / 64)) xs → ⊥

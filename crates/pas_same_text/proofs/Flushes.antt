@@ -12,9 +12,11 @@ use Rattle.pas_steps.specs.Lists.{Whole, part, visible, Legal}
 use Rattle.pas_steps.specs.Views.{View, epoch_of}
 use Rattle.pas_steps.specs.declared.step.Made.{Made}
 use Rattle.pas_steps.specs.declared.step.Step.TheVariants.{Look}
+use Rattle.pas_steps.specs.Kinds.{Kinds, Only, apart, showing}
 use Rattle.pas_steps.proofs.Adding.{triples_append}
 use Rattle.pas_steps.proofs.Frames.{with_append}
 use Rattle.pas_steps.proofs.Parts.{part_of_own}
+use Rattle.pas_steps.proofs.Apart.{no_events}
 use Rattle.pas_core.proofs.MachineRuns.{runs}
 use Rattle.pas_free_log.specs.Flushes.{Settled, shown_for}
 use Rattle.pas_free_log.specs.declared.ending.Outcome.{Outcome}
@@ -63,6 +65,9 @@ visible_steps k (m ∷ steps) l =
     ap (λ (v : View). with_event (event_of k (epoch_of v) m.step m.answer) (visible (triples k steps ++ l))) (part_of_own k steps l)
     ∙ (ap (with_event (event_of k (epoch_of (steps ++ part k l)) m.step m.answer)) (visible_steps k steps l)
     ∙ with_append (event_of k (epoch_of (steps ++ part k l)) m.step m.answer) (events_by k (part k l) steps) (visible l))
+
+pub unshown : (ks : Kinds) → apart ks showing ≡ true → (k : ℕ) (steps : List Made) (l : Whole) → Only ks steps → visible (triples k steps ++ l) ≡ visible l
+unshown ks w k steps l only = visible_steps k steps l ∙ ap (λ (es : List Event). es ++ visible l) (no_events ks w k (part k l) steps only)
 
 legal_before : (f : Profile) (xs l : Whole) → Legal f (xs ++ l) → Legal f l
 legal_before f [] l legal = legal

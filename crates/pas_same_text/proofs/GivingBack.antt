@@ -86,6 +86,9 @@ none_marked ks w q [] only h = h
 none_marked ks w q (m ∷ xs) only (inl h) = mark_kind q m.step (in_apart ks (Hinting ∷ Offering ∷ []) (place_of (kind_of m.step)) w only.0) h
 none_marked ks w q (m ∷ xs) only (inr h) = none_marked ks w q xs only.1 h
 
+pub marked_left : (ks : Kinds) → apart ks (Hinting ∷ Offering ∷ []) ≡ true → (q : ℕ) (ys xs : List Made) → Only ks xs → IsMarked q (ys ++ xs) → IsMarked q ys
+marked_left ks w q ys xs only h = elim (marked_parts q ys xs h) [ inl marked ↦ marked | inr later ↦ absurd (none_marked ks w q xs only later) ]
+
 return_mark : (p q : ℕ) (s : Step) → IsReturn p s → is_mark q s ≡ true → p ≡ q
 return_mark p q s (IsReturn.LooksFree word) h = absurd (false≢true h)
 return_mark p q s IsReturn.LooksBacked h = absurd (false≢true h)

@@ -15,7 +15,7 @@ use Rattle.pas_steps.specs.Desks.{triples}
 use Rattle.pas_steps.specs.Lists.{part, word_after, visible, Legal}
 use Rattle.pas_steps.specs.Views.{View, holds, KnowsDeed, usable_by_kind}
 use Rattle.pas_steps.specs.declared.step.Made.{Made}
-use Rattle.pas_steps.proofs.Apart.{only_within, no_events}
+use Rattle.pas_steps.proofs.Apart.{only_within}
 use Rattle.pas_core.specs.Good.{word_of_deed}
 use Rattle.pas_core.proofs.Deeds.{deed_of}
 use Rattle.pas_core.proofs.Grains.{one_holder}
@@ -35,7 +35,7 @@ use Rattle.pas_one_text.specs.Runs.{large_of}
 use Rattle.pas_same_text.specs.Same.{told_guard, IsSame, HasSame, AreSameCaches, lives_in}
 use Rattle.pas_same_text.specs.Acts.{IsBetween, StaysSame}
 use Rattle.pas_same_text.specs.Words.{free_bit}
-use Rattle.pas_same_text.proofs.Flushes.{visible_steps}
+use Rattle.pas_same_text.proofs.Flushes.{unshown}
 use Rattle.pas_same_text.proofs.FreeGrains.{cached_held, outer_held, held_by, never_both, holder_thread}
 use Rattle.pas_same_text.proofs.GivenPages.{IsGivenBack, open_from, covered_not_held, free_left, given_pages}
 use Rattle.pas_same_text.proofs.GivingBack.{hint_marks, offer_marks, epoch_stays_by}
@@ -94,7 +94,7 @@ module _ (f : Profile) (keeper : ℕ) (all : Bool) (p : Progress) (w : World) (s
   lowered = all_lowered f downs w (region_of f keeper test (p.books keeper) (before.rest.working keeper is).locals.guards_of_region)
 
   shown : visible p'.list ≡ visible p.list
-  shown = visible_steps keeper steps p.list ∙ ap (λ (es : List Event). es ++ visible p.list) (no_events sweeping refl keeper (part keeper p.list) steps sweep.kinds)
+  shown = unshown sweeping refl keeper steps p.list sweep.kinds
 
   -- ---- whose pages they are
   -- an outer page of one that goes down was the keeper's

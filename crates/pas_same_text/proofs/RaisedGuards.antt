@@ -72,7 +72,7 @@ use Rattle.pas_same_text.proofs.CachedSlots.{block_of, block_same}
 use Rattle.pas_same_text.proofs.FlushActs.{events_recorded}
 use Rattle.pas_same_text.proofs.Flushes.{visible_steps}
 use Rattle.pas_same_text.proofs.FreeGrains.{outer_held}
-use Rattle.pas_same_text.proofs.GivingBack.{HintsPage, OffersPage, IsMarked, once_parts, marked_parts, none_marked, hint_marks, offer_marks, offered_by, hints_of, hint_read, epoch_stays_by}
+use Rattle.pas_same_text.proofs.GivingBack.{HintsPage, OffersPage, IsMarked, once_parts, none_marked, hint_marks, offer_marks, offered_by, hints_of, hint_read, epoch_stays_by, marked_left}
 use Rattle.pas_same_text.proofs.KeepersRest.{outer_last}
 use Rattle.pas_same_text.proofs.LeftRuns.{all_marked, all_in_run, left_due, left_room}
 use Rattle.pas_same_text.proofs.MissedGuards.{made_listed, all_listed, deed_listed, deed_unlisted, live_listed, IsLeftFree, left_offered}
@@ -390,10 +390,7 @@ module _ (f : Profile) (k name heap n : ℕ) (p q : Progress) (w : World) (valid
   after_kinds = (refl, (refl, only_within (Backing ∷ []) (Giving ∷ LookLife ∷ Backing ∷ []) run.backs refl (raised_backs run)))
 
   mark_left : (x : ℕ) → IsMarked x rest → IsMarked x run.left
-  mark_left x h = elim (marked_parts x run.left (gave ++ run.backs) (subst (IsMarked x) run.after_is h)) [
-    | inl marked ↦ marked
-    | inr later ↦ absurd (none_marked (Giving ∷ LookLife ∷ Backing ∷ []) refl x (gave ++ run.backs) after_kinds later)
-  ]
+  mark_left x h = marked_left (Giving ∷ LookLife ∷ Backing ∷ []) refl x run.left (gave ++ run.backs) after_kinds (subst (IsMarked x) run.after_is h)
 
   left_here : (x : ℕ) → IsMarked x run.left → IsInRun first (n + 2) x
   left_here x h = all_marked d (IsInRun first (n + 2)) (left_last_first first n) x run.left (left_in_run first n) run.left_order h

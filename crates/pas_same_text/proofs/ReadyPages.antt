@@ -107,7 +107,6 @@ module _ (k : ℕ) (d : Directory) (page : ℕ) where
       at e IsAtPage.Backs = refl
 
   -- ---- none but those that are due
-
   deed_there : (o : Option Directory) → (if page == page then Some d else o) ≡ None → ⊥
   deed_there o none = none-some d (sym none ∙ ap (λ (t : Bool). if t then Some d else o) (eqb_itself page))
 

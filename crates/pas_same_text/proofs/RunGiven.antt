@@ -30,7 +30,7 @@ use Rattle.pas_steps.specs.declared.step.Made.{Made}
 use Rattle.pas_steps.specs.declared.step.Step.{Step}
 use Rattle.pas_steps.specs.declared.step.Step.TheVariants.{Deed, Hint}
 use Rattle.pas_steps.proofs.Adding.{triples_append}
-use Rattle.pas_steps.proofs.Apart.{events_same, no_events, only_both, only_within}
+use Rattle.pas_steps.proofs.Apart.{events_same, only_both, only_within}
 use Rattle.pas_steps.proofs.Frames.{events_append}
 use Rattle.pas_steps.proofs.Past.{always_map}
 use Rattle.pas_steps.proofs.Parts.{part_of_own}
@@ -76,8 +76,8 @@ use Rattle.pas_same_text.proofs.BitfitGiven.{one_more}
 use Rattle.pas_same_text.proofs.CachedSlots.{block_of, block_same}
 use Rattle.pas_same_text.proofs.CacheLists.{same_kept}
 use Rattle.pas_same_text.proofs.FlushActs.{events_recorded}
-use Rattle.pas_same_text.proofs.Flushes.{visible_steps}
-use Rattle.pas_same_text.proofs.GivingBack.{HintsPage, OffersPage, IsMarked, once_parts, marked_parts, none_marked, hint_marks, offer_marks, offered_by, hints_of, hint_read, epoch_stays_by}
+use Rattle.pas_same_text.proofs.Flushes.{visible_steps, unshown}
+use Rattle.pas_same_text.proofs.GivingBack.{HintsPage, OffersPage, IsMarked, once_parts, none_marked, hint_marks, offer_marks, offered_by, hints_of, hint_read, epoch_stays_by, marked_left}
 use Rattle.pas_same_text.proofs.LeftRuns.{LeftInTurn, left_marked, left_due, left_room}
 use Rattle.pas_same_text.proofs.LoggedFrees.{after_with}
 use Rattle.pas_same_text.proofs.OuterPages.{guards_as, still_unguarded}
@@ -307,7 +307,7 @@ module _ (f : Profile) (k name heap first n : ℕ) (p : Progress) (u : World) (g
   lives : (xs : List Made) → Only returning xs → live_in (visible (triples k xs ++ base)) (address_of block.name) ≡ Some live
   lives xs only =
       ap (λ (evs : List Event). live_in evs (address_of block.name))
-      (visible_steps k xs base ∙ (ap (λ (evs : List Event). evs ++ visible base) (no_events returning refl k (part k base) xs only) ∙ visible_steps k (gave ++ (run.backs ++ got)) l))
+      (unshown returning refl k xs base only ∙ visible_steps k (gave ++ (run.backs ++ got)) l)
       ∙ ap (λ (t : Bool). if t then Some live else live_in (events_by k own (run.backs ++ got) ++ visible l) (address_of block.name)) (eq-eqb (address_of block.name) (address_of block.name) refl)
 
   -- no look of the leave reads the first grain of a page of the run as free
@@ -338,10 +338,7 @@ module _ (f : Profile) (k name heap first n : ℕ) (p : Progress) (u : World) (g
   after_kinds = (refl, (refl, only_within (Backing ∷ []) (Giving ∷ LookLife ∷ Backing ∷ []) run.backs refl back_kinds))
 
   mark_left : (x : ℕ) → IsMarked x rest → IsMarked x run.left
-  mark_left x h = elim (marked_parts x run.left (gave ++ run.backs) (subst (IsMarked x) run.after_is h)) [
-    | inl marked ↦ marked
-    | inr later ↦ absurd (none_marked (Giving ∷ LookLife ∷ Backing ∷ []) refl x (gave ++ run.backs) after_kinds later)
-  ]
+  mark_left x h = marked_left (Giving ∷ LookLife ∷ Backing ∷ []) refl x run.left (gave ++ run.backs) after_kinds (subst (IsMarked x) run.after_is h)
 
   no_hint : (x : ℕ) → HintsPage x rest → ⊥
   no_hint x h = elim (once_parts (λ m. m.step ≡ Hint x) run.left (gave ++ run.backs) (subst (HintsPage x) run.after_is h)) [
