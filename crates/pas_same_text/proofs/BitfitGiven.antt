@@ -1,7 +1,6 @@
 -- A BIT-FIT REQUEST THAT IS SERVED: the page that was searched for gets a deed and memory where it has none, and the lowest place on it is given.
 use Rattle.std.proofs.Common.{◌≡◌, ◌≢◌, ℕ, ◌+◌, ◌*◌, ◌/◌, ◌%◌, ◌<◌, ◌≤◌, ◌==◌, Bool, true, false, not, ◌&&◌, ◌||◌, if◌then◌else◌, List, [], ◌∷◌, ◌++◌, Option, None, Some, Result, Ok, ◌⊎◌, inl, inr, refl, ap, sym, ◌∙◌, subst, arith, append_assoc, append-nil}
 use Rattle.std.proofs.lemmas.Bool.{true≢false, false≢true, eq-eqb, false_from_ne_true}
-use Rattle.std.proofs.lemmas.Option.{none-some}
 use Rattle.std.specs.List.{flat_map, filter}
 use Rattle.pas_bits.specs.Bits.{has_bit}
 use Rattle.pas_bits.specs.Runs.{in_run, meets_page}
@@ -16,33 +15,29 @@ use Rattle.pas_profile.specs.declared.event.Event.{Event}
 use Rattle.pas_profile.specs.declared.event.NoRoom.{NoRoom}
 use Rattle.pas_profile.specs.declared.name.Block.{Block}
 use Rattle.pas_profile.specs.declared.profile.Profile.{Profile}
-use Rattle.pas_profile.specs.declared.word.Word.TheVariants as Word
-use Rattle.pas_machine.specs.Machine.{Run, Bears}
+use Rattle.pas_machine.specs.Machine.{Run}
 use Rattle.pas_machine.specs.State.{Live, live_in, deed_in, gives_in}
 use Rattle.pas_steps.specs.Agreement.{Agreed}
 use Rattle.pas_steps.specs.Calls.{Kept, Gained}
 use Rattle.pas_steps.specs.Calls.{now as has_now}
 use Rattle.pas_steps.specs.Desks.{triples}
-use Rattle.pas_steps.specs.Effects.{target, free_word_at}
+use Rattle.pas_steps.specs.Effects.{free_word_at}
 use Rattle.pas_steps.specs.Events.{events_by}
 use Rattle.pas_steps.specs.Evidence.{Readings}
 use Rattle.pas_steps.specs.Kinds.{Only, Giving, LookLife, returning}
 use Rattle.pas_steps.specs.Lists.{Whole, part, word_after, visible, Legal}
-use Rattle.pas_steps.specs.Past.{Once, Always}
+use Rattle.pas_steps.specs.Past.{Always}
 use Rattle.pas_steps.specs.Views.{View, has_right, known_deed}
 use Rattle.pas_steps.specs.declared.step.Made.{Made}
-use Rattle.pas_steps.specs.declared.step.Step.{Step}
 use Rattle.pas_steps.specs.declared.step.Step.TheVariants.{Offer, Unpark, Hint}
 use Rattle.pas_steps.proofs.Adding.{triples_append}
 use Rattle.pas_steps.proofs.Parts.{part_of_own}
-use Rattle.pas_core.specs.Good.{IsInOnePlace}
 use Rattle.pas_core.specs.Rights.{empty_bit, eligible_bit, free_of_page}
-use Rattle.pas_core.proofs.MachineRuns.{runs, in_one_place}
+use Rattle.pas_core.proofs.MachineRuns.{runs}
 use Rattle.pas_core.proofs.Nexts.{agreed_steps}
 use Rattle.pas_core.proofs.OneActor.{LendsNone, lends_none, legal_earlier, fit_entry}
 use Rattle.pas_core.proofs.Rights.{right_not_offered}
 use Rattle.pas_rights.specs.Gives.{give_steps}
-use Rattle.pas_rights.specs.Looks.{ReadsAllFree}
 use Rattle.pas_rights.proofs.Hints.{leave_due}
 use Rattle.pas_rights.proofs.Orders.{leave_returns}
 use Rattle.pas_steps.proofs.Calls.{returns_are}
@@ -79,12 +74,13 @@ use Rattle.pas_same_text.proofs.Flushes.{visible_steps, unshown}
 use Rattle.pas_same_text.proofs.OuterPages.{guards_as, still_unguarded}
 use Rattle.pas_same_text.proofs.GivingBack.{HintsPage, OffersPage, IsMarked, once_parts, none_marked, returns_marked, hint_marks, offer_marks, offered_by, hints_of, hint_read, epoch_stays_by, marked_left}
 use Rattle.pas_same_text.proofs.LoggedFrees.{after_with}
-use Rattle.pas_same_text.proofs.ReadyPages.{AllAtPage, shown, shown_events, shown_records, shown_lives, shown_rest, search_at, same_live, deed_beside, readied}
+use Rattle.pas_same_text.proofs.ReadyPages.{AllAtPage, shown, shown_events, shown_records, shown_lives, shown_rest, search_at, same_live, deed_beside, given_ready}
 use Rattle.pas_same_text.proofs.SearchedMarks.{IsSearchedTo, hints_kept, offers_kept}
 use Rattle.pas_same_text.proofs.SearchedPages.{offered_chosen, deed_chosen}
 use Rattle.pas_same_text.proofs.SearchMarks.{free_shown}
 use Rattle.pas_same_text.proofs.StopSteps.{ReadsRoom, leave_room}
-use Rattle.pas_same_text.proofs.RoomsRead.{read_offered}
+use Rattle.pas_same_text.proofs.RoomsRead.{read_offered, never_read}
+use Rattle.pas_same_text.proofs.FreeGrains.{free_uncovered}
 
 -- the page that serves isn't hinted by the search
 pub not_hinted : (page : ℕ) (xs : List Made) → Always (KeepsMarks page) xs → HintsPage page xs → ⊥
@@ -228,12 +224,8 @@ module _ (f : Profile) (k name heap size align : ℕ) (p p' : Progress) (w : Wor
   covers : (b : ℕ) → first ≤ b → b < first + n → in_run (grain_of block.name) (length_of block) (256 * page + b) ≡ true
   covers b low high = let g = grain in let m = long in to_run (grain_of block.name) (length_of block) (256 * page + b) (omega (arith, low, g)) (omega (arith, high, g, m))
 
-  bears : Bears f (es ++ w.events) block.heap page
-  bears = let end = within in let one = some in let on : (256 * page + first) / 256 ≡ page = omega (arith, end, one) in
-      subst (Bears f (es ++ w.events) block.heap) on (run.0.bears (256 * page + first) (covers first (omega arith) (omega (arith, one))))
-
   ready : readies k d page w ≡ shown es w
-  ready = readied k d page f es w at run.1 (λ none. none-some _ (sym none ∙ bears.deed)) bears.backed
+  ready = let end = within in let one = some in let m = long in given_ready k d page f es w k block first at run (omega (arith, end, one)) grain (omega (arith, m, one))
 
   -- ---- what was free
   old : HasSame f p w
@@ -374,34 +366,8 @@ module _ (f : Profile) (k name heap size align : ℕ) (p p' : Progress) (w : Wor
       ∙ ap (λ (t : Bool). if t then Some live else live_in (es ++ visible l) (address_of block.name)) (eq-eqb (address_of block.name) (address_of block.name) refl)
 
   -- no look of the leave reads the first grain as free
-  never_read : (xs : List Made) → Legal f (triples k xs ++ base) → Only returning xs → Once (ReadsAllFree page (first / 64)) xs → ⊥
-  never_read [] all only h = h
-  never_read (m ∷ xs) all only (inr h) = never_read xs all.1 only.1 h
-  never_read (m ∷ xs) all only (inl h) = by_place (in_one_place f (triples k xs ++ base) valid all.1 (256 * page + first))
-    where
-      small : first < 256
-      small = let end = within in let one = some in omega (arith, end, one)
-
-      word : free_word_at (256 * page + first) ≡ Word.Free page (first / 64)
-      word =
-          let s = small in
-          let at_page : (256 * page + first) / 256 ≡ page = omega (arith, s) in
-          let at_word : (256 * page + first) / 64 % 4 ≡ first / 64 = omega (arith, s) in
-          ap (λ (x : ℕ). Word.Free x ((256 * page + first) / 64 % 4)) at_page ∙ ap (λ (u : ℕ). Word.Free page u) at_word
-
-      free : free_bit (triples k xs ++ base) (256 * page + first) ≡ true
-      free =
-          let answer : m.answer ≡ word_after (triples k xs ++ base) (free_word_at (256 * page + first)) =
-          all.0.answer_is ∙ (ap (λ (s : Step). word_after (triples k xs ++ base) (target s)) h.0 ∙ ap (word_after (triples k xs ++ base)) (sym word)) in
-          ap (λ (x : ℕ). has_bit x ((256 * page + first) % 64)) (sym answer) ∙ h.1 ((256 * page + first) % 64) (omega arith)
-
-      part_of : in_run (address_of block.name / 16) (length_of block) (256 * page + first) ≡ true
-      part_of = let one = some in covers first (omega arith) (omega (arith, one))
-
-      by_place : IsInOnePlace (triples k xs ++ base) (256 * page + first) → ⊥
-      by_place (inl o) = o.no_block (address_of block.name) live (lives xs only.1) part_of
-      by_place (inr (inl o)) = true≢false (sym free ∙ o.not_free)
-      by_place (inr (inr o)) = true≢false (sym free ∙ o.not_free)
+  taken : (xs : List Made) → Legal f (triples k xs ++ base) → Only returning xs → free_bit (triples k xs ++ base) (256 * page + first) ≡ true → ⊥
+  taken xs legal only free = let one = some in free_uncovered f (triples k xs ++ base) valid legal (256 * page + first) free (address_of block.name) live (lives xs only) (covers first (omega arith) (omega (arith, one)))
 
   own_hint : HintsPage page (rest ++ search) → empty_bit l page ≡ true
   own_hint h = absurd (elim (once_parts (λ m. m.step ≡ Hint page) rest search h) [
@@ -414,7 +380,7 @@ module _ (f : Profile) (k name heap size align : ℕ) (p p' : Progress) (w : Wor
         | inl left ↦
             let r = hint_read page given.left (hints_of given.left (leave_due page d given.left given.leaves)) left in
             let end = within in let one = some in
-            never_read given.left legal_left left_kinds (r.free (first / 64) (omega (arith, end, one)))
+            never_read f k base returning page first (omega (arith, end, one)) taken given.left legal_left left_kinds (r.free (first / 64) (omega (arith, end, one)))
         | inr gives ↦ none_marked (Giving ∷ LookLife ∷ []) refl page gave gave_kinds (hint_marks page gave gives)
       ]
 

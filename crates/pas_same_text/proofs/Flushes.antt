@@ -18,6 +18,7 @@ use Rattle.pas_steps.proofs.Frames.{with_append}
 use Rattle.pas_steps.proofs.Parts.{part_of_own}
 use Rattle.pas_steps.proofs.Apart.{no_events}
 use Rattle.pas_core.proofs.MachineRuns.{runs}
+use Rattle.pas_core.proofs.OneActor.{legal_earlier}
 use Rattle.pas_free_log.specs.Flushes.{Settled, shown_for}
 use Rattle.pas_free_log.specs.declared.ending.Outcome.{Outcome}
 use Rattle.pas_free_log.specs.declared.log.Entry.{Entry}
@@ -65,6 +66,10 @@ visible_steps k (m ∷ steps) l =
     ap (λ (v : View). with_event (event_of k (epoch_of v) m.step m.answer) (visible (triples k steps ++ l))) (part_of_own k steps l)
     ∙ (ap (with_event (event_of k (epoch_of (steps ++ part k l)) m.step m.answer)) (visible_steps k steps l)
     ∙ with_append (event_of k (epoch_of (steps ++ part k l)) m.step m.answer) (events_by k (part k l) steps) (visible l))
+
+-- steps between others are legal where they were made
+pub legal_between : (f : Profile) (k : ℕ) (after steps before : List Made) (l : Whole) → Legal f (triples k (after ++ (steps ++ before)) ++ l) → Legal f (triples k steps ++ (triples k before ++ l))
+legal_between f k after steps before l legal = subst (Legal f) (sym (triples_append k steps before l)) (legal_earlier f k after (steps ++ before) l legal)
 
 pub unshown : (ks : Kinds) → apart ks showing ≡ true → (k : ℕ) (steps : List Made) (l : Whole) → Only ks steps → visible (triples k steps ++ l) ≡ visible l
 unshown ks w k steps l only = visible_steps k steps l ∙ ap (λ (es : List Event). es ++ visible l) (no_events ks w k (part k l) steps only)

@@ -14,7 +14,7 @@ use Rattle.pas_profile.specs.declared.name.Block.{Block}
 use Rattle.pas_profile.specs.declared.profile.Profile.{Profile}
 use Rattle.pas_machine.specs.State.{Live, live_in}
 use Rattle.pas_machine.proofs.LiveBlocks.{lives_where}
-use Rattle.pas_steps.specs.Lists.{part, visible, word_after, Whole}
+use Rattle.pas_steps.specs.Lists.{part, visible, word_after, Whole, Legal}
 use Rattle.pas_steps.specs.Views.{View, holds, has_right}
 use Rattle.pas_steps.specs.Effects.{free_word_at}
 use Rattle.pas_core.specs.Good.{IsPartOf, IsInOnePlace}
@@ -53,6 +53,23 @@ bit_read l page b =
     let bit : (256 * page + b) % 64 ≡ b % 64 = omega arith in
     ap (λ (g : ℕ). has_bit (word_after l (free_word_at g)) ((256 * page + b) % 64)) turned
     ∙ ap (λ (x : ℕ). has_bit (word_after l (free_word_at (page * 256 + b))) x) bit
+
+-- a free grain is held by nobody, and no live block has it
+pub free_unheld : (f : Profile) (l : Whole) → IsValid f → Legal f l → (g : ℕ) → free_bit l g ≡ true → (k : ℕ) → holds (part k l) g ≡ false
+free_unheld f l valid legal g free k = by_place (in_one_place f l valid legal g)
+  where
+    by_place : IsInOnePlace l g → holds (part k l) g ≡ false
+    by_place (inl o) = o.nobody k
+    by_place (inr (inl o)) = absurd (true≢false (sym free ∙ o.not_free))
+    by_place (inr (inr o)) = absurd (true≢false (sym free ∙ o.not_free))
+
+pub free_uncovered : (f : Profile) (l : Whole) → IsValid f → Legal f l → (g : ℕ) → free_bit l g ≡ true → (address : ℕ) (b : Live) → live_in (visible l) address ≡ Some b → IsPartOf g address b → ⊥
+free_uncovered f l valid legal g free address b lives of = by_place (in_one_place f l valid legal g)
+  where
+    by_place : IsInOnePlace l g → ⊥
+    by_place (inl o) = o.no_block address b lives of
+    by_place (inr (inl o)) = true≢false (sym free ∙ o.not_free)
+    by_place (inr (inr o)) = true≢false (sym free ∙ o.not_free)
 
 module _ (f : Profile) (p : Progress) (between : IsBetween f p) where
   -- whose outer page a page is, is an actor of the region
@@ -200,9 +217,5 @@ module _ (f : Profile) (p : Progress) (w : World) (valid : IsValid f) (between :
   bit_free page b small bit = free_same page b small ∙ or_left (free_bit p.list (256 * page + b)) (is_guarded w page) bit
 
   pub bit_unguarded : (page b : ℕ) → b < 256 → free_bit p.list (256 * page + b) ≡ true → is_guarded w page ≡ false
-  bit_unguarded page b small bit = false_from_ne_true (is_guarded w page) (λ h. let o = guarded_held page b small h in by_place o.0 o.2 (in_one_place f p.list valid between.legal (256 * page + b)))
-    where
-      by_place : (k : ℕ) → holds (part k p.list) (256 * page + b) ≡ true → IsInOnePlace p.list (256 * page + b) → ⊥
-      by_place k held (inl free) = false≢true (sym (free.nobody k) ∙ held)
-      by_place k held (inr (inl one)) = true≢false (sym bit ∙ one.not_free)
-      by_place k held (inr (inr covered)) = true≢false (sym bit ∙ covered.not_free)
+  bit_unguarded page b small bit =
+      false_from_ne_true (is_guarded w page) (λ h. let o = guarded_held page b small h in false≢true (sym (free_unheld f p.list valid between.legal (256 * page + b) bit o.0) ∙ o.2))

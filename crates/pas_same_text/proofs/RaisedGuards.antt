@@ -24,18 +24,17 @@ use Rattle.pas_steps.specs.InTurn.{InTurn}
 use Rattle.pas_steps.specs.Kinds.{Only, Giving, LookLife, Backing, returning}
 use Rattle.pas_steps.specs.Lists.{Whole, part, word_after, visible, Legal}
 use Rattle.pas_steps.specs.Past.{Once, Always}
-use Rattle.pas_steps.specs.Views.{View, holds, has_right}
+use Rattle.pas_steps.specs.Views.{View, has_right}
 use Rattle.pas_steps.specs.declared.step.Made.{Made}
 use Rattle.pas_steps.specs.declared.step.Step.TheVariants.{Hint}
 use Rattle.pas_steps.proofs.Adding.{triples_append}
 use Rattle.pas_steps.proofs.Apart.{events_same, only_both, only_within}
 use Rattle.pas_steps.proofs.Frames.{events_append}
 use Rattle.pas_steps.proofs.Parts.{part_of_own}
-use Rattle.pas_core.specs.Good.{IsPartOf, IsInOnePlace}
+use Rattle.pas_core.specs.Good.{IsPartOf}
 use Rattle.pas_core.specs.Rights.{eligible_bit}
-use Rattle.pas_core.proofs.MachineRuns.{runs, in_one_place}
+use Rattle.pas_core.proofs.MachineRuns.{runs}
 use Rattle.pas_core.proofs.Nexts.{agreed_steps}
-use Rattle.pas_core.proofs.OneActor.{legal_earlier}
 use Rattle.pas_core.proofs.Rights.{right_not_offered}
 use Rattle.pas_rights.specs.Gives.{give_steps}
 use Rattle.pas_rights.specs.Looks.{ReadsAllFree}
@@ -70,8 +69,8 @@ use Rattle.pas_same_text.specs.Words.{free_bit}
 use Rattle.pas_same_text.proofs.BitfitGiven.{one_more}
 use Rattle.pas_same_text.proofs.CachedSlots.{block_of, block_same}
 use Rattle.pas_same_text.proofs.FlushActs.{events_recorded}
-use Rattle.pas_same_text.proofs.Flushes.{visible_steps}
-use Rattle.pas_same_text.proofs.FreeGrains.{outer_held}
+use Rattle.pas_same_text.proofs.Flushes.{visible_steps, legal_between}
+use Rattle.pas_same_text.proofs.FreeGrains.{outer_held, free_unheld, free_uncovered}
 use Rattle.pas_same_text.proofs.GivingBack.{HintsPage, OffersPage, IsMarked, once_parts, none_marked, hint_marks, offer_marks, offered_by, hints_of, hint_read, epoch_stays_by, marked_left}
 use Rattle.pas_same_text.proofs.KeepersRest.{outer_last}
 use Rattle.pas_same_text.proofs.LeftRuns.{all_marked, all_in_run, left_due, left_room}
@@ -178,11 +177,9 @@ module _ (f : Profile) (k name heap n : ℕ) (p q : Progress) (w : World) (valid
   steps_are : rest ++ xs ≡ run.left ++ (gave ++ (run.backs ++ xs))
   steps_are = ap (λ (ms : List Made). ms ++ xs) run.after_is ∙ append_assoc run.left (gave ++ run.backs) xs
 
-  steps_end : rest ++ xs ≡ (run.left ++ gave) ++ (run.backs ++ xs)
-  steps_end = steps_are ∙ sym (append_assoc run.left gave (run.backs ++ xs))
-
   legal_backs : Legal f (triples k run.backs ++ mid)
-  legal_backs = subst (Legal f) (sym (triples_append k run.backs xs l)) (legal_earlier f k (run.left ++ gave) (run.backs ++ xs) l (subst (λ (ms : List Made). Legal f (triples k ms ++ l)) steps_end whole))
+  legal_backs = legal_between f k (run.left ++ gave) run.backs xs l
+      (subst (λ (ms : List Made). Legal f (triples k ms ++ l)) (steps_are ∙ sym (append_assoc run.left gave (run.backs ++ xs))) whole)
 
   span : HasSpan d first (first + (n + 2)) own (xs ++ own)
   span = run.found.got.from own met (agreed_steps f k l xs valid legal)
@@ -358,20 +355,10 @@ module _ (f : Profile) (k name heap n : ℕ) (p q : Progress) (w : World) (valid
   run_used : (x b : ℕ) → IsInRun first (n + 2) x → b < 256 → free_bit q.list (256 * x + b) ≡ true → ⊥
   run_used x b here small free = by_page (inner_or first n x here)
     where
-      covered : IsInRun (first + 1) n x → IsInOnePlace q.list (256 * x + b) → ⊥
-      covered inner (inl o) = o.no_block (address_of block.name) live
-          (ap (λ (evs : List Event). live_in evs (address_of block.name)) visible_are ∙ ap (λ (t : Bool). if t then Some live else live_in (es ++ visible l) (address_of block.name)) (eq-eqb (address_of block.name) (address_of block.name) refl)) (covers x b inner small)
-      covered inner (inr (inl o)) = true≢false (sym free ∙ o.not_free)
-      covered inner (inr (inr o)) = true≢false (sym free ∙ o.not_free)
-
-      held : holds (part k q.list) (256 * x + b) ≡ true → IsInOnePlace q.list (256 * x + b) → ⊥
-      held has (inl o) = false≢true (sym (o.nobody k) ∙ has)
-      held has (inr (inl o)) = true≢false (sym free ∙ o.not_free)
-      held has (inr (inr o)) = true≢false (sym free ∙ o.not_free)
-
       by_page : IsInRun (first + 1) n x ⊎ ((first ≡ x) ⊎ (first + n + 1 ≡ x)) → ⊥
-      by_page (inl inner) = covered inner (in_one_place f q.list valid there.legal (256 * x + b))
-      by_page (inr outer) = held (outer_held f q there k (256 * x + b) (ap (is_outer (q.books k)) (on_page x b small) ∙ own_outer x outer)) (in_one_place f q.list valid there.legal (256 * x + b))
+      by_page (inl inner) = free_uncovered f q.list valid there.legal (256 * x + b) free (address_of block.name) live
+          (ap (λ (evs : List Event). live_in evs (address_of block.name)) visible_are ∙ ap (λ (t : Bool). if t then Some live else live_in (es ++ visible l) (address_of block.name)) (eq-eqb (address_of block.name) (address_of block.name) refl)) (covers x b inner small)
+      by_page (inr outer) = false≢true (sym (free_unheld f q.list valid there.legal (256 * x + b) free k) ∙ outer_held f q there k (256 * x + b) (ap (is_outer (q.books k)) (on_page x b small) ∙ own_outer x outer))
 
   -- ---- the leave
   abbrev base : Whole

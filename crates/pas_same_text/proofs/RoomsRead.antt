@@ -1,5 +1,5 @@
 -- A page of which a look read room, and which no step took since, is open in the text: it is offered there where its bit is set.
-use Rattle.std.proofs.Common.{◌≡◌, ℕ, ◌/◌, ◌%◌, true, List, [], ◌∷◌, ◌++◌, ap, sym, ◌∙◌, subst}
+use Rattle.std.proofs.Common.{◌≡◌, ℕ, ◌/◌, ◌%◌, true, List, [], ◌∷◌, ◌++◌, ap, sym, ◌∙◌, subst, ◌+◌, ◌*◌, ◌<◌, inl, inr, arith}
 use Rattle.pas_bits.specs.Bits.{has_bit}
 use Rattle.pas_profile.specs.declared.word.Word.TheVariants as Word
 use Rattle.pas_profile.specs.Directories.{number_of, deed_word_of, IsKind}
@@ -12,6 +12,9 @@ use Rattle.pas_steps.specs.Kinds.{Kinds, Only, apart, Taking}
 use Rattle.pas_steps.specs.Lists.{Whole, part, word_after, Legal}
 use Rattle.pas_steps.specs.Views.{known_deed, usable_by_kind}
 use Rattle.pas_steps.specs.declared.step.Made.{Made}
+use Rattle.pas_steps.specs.declared.step.Step.{Step}
+use Rattle.pas_steps.specs.Effects.{target, free_word_at}
+use Rattle.pas_steps.specs.Past.{Once}
 use Rattle.pas_core.specs.Rights.{eligible_bit}
 use Rattle.pas_core.proofs.Rights.{right_in_one_place}
 use Rattle.pas_answers.specs.Answers.{Progress}
@@ -19,9 +22,27 @@ use Rattle.pas_one_text.specs.State.{World}
 use Rattle.pas_one_text.specs.Pages.{is_of, is_offered}
 use Rattle.pas_same_text.specs.Same.{HasSame}
 use Rattle.pas_same_text.specs.Acts.{IsBetween}
+use Rattle.pas_same_text.specs.Words.{free_bit}
 use Rattle.pas_same_text.proofs.GivenPages.{open_from}
 use Rattle.pas_same_text.proofs.RestingPages.{bit_at, bit_offered, bit_tells, deed_now, is_open, word_known, word_now}
 use Rattle.pas_same_text.proofs.StopSteps.{ReadsRoom, grain_read}
+use Rattle.pas_rights.specs.Looks.{ReadsAllFree}
+
+-- no look reads all grains of a word as free if one of them never is
+pub never_read : (f : Profile) (k : ℕ) (l : Whole) (ks : Kinds) (x b : ℕ) → b < 256 → ((xs : List Made) → Legal f (triples k xs ++ l) → Only ks xs → free_bit (triples k xs ++ l) (256 * x + b) ≡ true → ⊥)
+    → (xs : List Made) → Legal f (triples k xs ++ l) → Only ks xs → Once (ReadsAllFree x (b / 64)) xs → ⊥
+never_read f k l ks x b small taken [] legal only h = h
+never_read f k l ks x b small taken (m ∷ xs) legal only (inr h) = never_read f k l ks x b small taken xs legal.1 only.1 h
+never_read f k l ks x b small taken (m ∷ xs) legal only (inl h) = taken xs legal.1 only.1 (ap (λ (y : ℕ). has_bit y ((256 * x + b) % 64)) (sym answer) ∙ h.1 ((256 * x + b) % 64) (omega arith))
+  where
+    word : free_word_at (256 * x + b) ≡ Word.Free x (b / 64)
+    word =
+        let at_page : (256 * x + b) / 256 ≡ x = omega (arith, small) in
+        let at_word : (256 * x + b) / 64 % 4 ≡ b / 64 = omega (arith, small) in
+        ap (λ (y : ℕ). Word.Free y ((256 * x + b) / 64 % 4)) at_page ∙ ap (λ (u : ℕ). Word.Free x u) at_word
+
+    answer : m.answer ≡ word_after (triples k xs ++ l) (free_word_at (256 * x + b))
+    answer = legal.0.answer_is ∙ (ap (λ (s : Step). word_after (triples k xs ++ l) (target s)) h.0 ∙ ap (word_after (triples k xs ++ l)) (sym word))
 
 module _ (f : Profile) (p : Progress) (w : World) (valid : IsValid f) (between : IsBetween f p) (same : HasSame f p w) where
   -- the directory of a page in the text is the one whose deed an actor knows

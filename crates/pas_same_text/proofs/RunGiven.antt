@@ -1,8 +1,7 @@
 -- A REQUEST FOR WHOLE PAGES THAT IS SERVED by a run: its pages get deeds and memory where they have none, the lowest first, and their block is given.
-use Rattle.std.proofs.Common.{◌≡◌, ◌≢◌, ℕ, ◌+◌, ◌*◌, ◌/◌, ◌%◌, ◌<◌, ◌≤◌, ◌==◌, Bool, true, false, not, ◌&&◌, if◌then◌else◌, List, [], ◌∷◌, ◌++◌, Option, None, Some, ◌⊎◌, inl, inr, refl, ap, sym, ◌∙◌, subst, arith, append_assoc, append-nil}
-use Rattle.std.proofs.lemmas.Bool.{true≢false, false≢true, eq-eqb, false_from_ne_true}
+use Rattle.std.proofs.Common.{◌≡◌, ◌≢◌, ℕ, ◌+◌, ◌*◌, ◌/◌, ◌<◌, ◌≤◌, ◌==◌, Bool, true, false, not, ◌&&◌, if◌then◌else◌, List, [], ◌∷◌, ◌++◌, Option, None, Some, ◌⊎◌, inl, inr, refl, ap, sym, ◌∙◌, subst, arith, append_assoc, append-nil}
+use Rattle.std.proofs.lemmas.Bool.{false≢true, eq-eqb, false_from_ne_true}
 use Rattle.std.specs.List.{flat_map, filter}
-use Rattle.pas_bits.specs.Bits.{has_bit}
 use Rattle.pas_bits.specs.Runs.{in_run, meets_page}
 use Rattle.pas_profile.specs.Blocks.{address_of, grain_of, length_of}
 use Rattle.pas_profile.specs.Directories.{number_of, deed_word_of}
@@ -19,30 +18,27 @@ use Rattle.pas_steps.specs.Agreement.{Agreed}
 use Rattle.pas_steps.specs.Calls.{Leads, Kept, Gained}
 use Rattle.pas_steps.specs.Calls.{now as has_now}
 use Rattle.pas_steps.specs.Desks.{triples}
-use Rattle.pas_steps.specs.Effects.{target, free_word_at}
 use Rattle.pas_steps.specs.Events.{events_by}
 use Rattle.pas_steps.specs.InTurn.{InTurn}
 use Rattle.pas_steps.specs.Kinds.{Only, Giving, LookLife, Backing, returning}
 use Rattle.pas_steps.specs.Lists.{Whole, part, word_after, visible, Legal}
-use Rattle.pas_steps.specs.Past.{Once, Always}
+use Rattle.pas_steps.specs.Past.{Always}
 use Rattle.pas_steps.specs.Views.{View, has_right, known_deed}
 use Rattle.pas_steps.specs.declared.step.Made.{Made}
-use Rattle.pas_steps.specs.declared.step.Step.{Step}
 use Rattle.pas_steps.specs.declared.step.Step.TheVariants.{Deed, Hint}
 use Rattle.pas_steps.proofs.Adding.{triples_append}
 use Rattle.pas_steps.proofs.Apart.{events_same, only_both, only_within}
 use Rattle.pas_steps.proofs.Frames.{events_append}
 use Rattle.pas_steps.proofs.Past.{always_map}
 use Rattle.pas_steps.proofs.Parts.{part_of_own}
-use Rattle.pas_core.specs.Good.{IsInOnePlace, word_of_deed}
+use Rattle.pas_core.specs.Good.{word_of_deed}
 use Rattle.pas_core.specs.Rights.{eligible_bit}
 use Rattle.pas_core.proofs.Deeds.{deed_of}
-use Rattle.pas_core.proofs.MachineRuns.{runs, in_one_place}
+use Rattle.pas_core.proofs.MachineRuns.{runs}
 use Rattle.pas_core.proofs.Nexts.{agreed_steps}
 use Rattle.pas_core.proofs.OneActor.{legal_earlier}
 use Rattle.pas_core.proofs.Rights.{right_not_offered}
 use Rattle.pas_rights.specs.Gives.{give_steps}
-use Rattle.pas_rights.specs.Looks.{ReadsAllFree}
 use Rattle.pas_scan.specs.Runs.{IsInRun}
 use Rattle.pas_search.specs.Kinds.{ReturnsDuly}
 use Rattle.pas_large.specs.Allocates.{GaveLarge}
@@ -76,7 +72,7 @@ use Rattle.pas_same_text.proofs.BitfitGiven.{one_more}
 use Rattle.pas_same_text.proofs.CachedSlots.{block_of, block_same}
 use Rattle.pas_same_text.proofs.CacheLists.{same_kept}
 use Rattle.pas_same_text.proofs.FlushActs.{events_recorded}
-use Rattle.pas_same_text.proofs.Flushes.{visible_steps, unshown}
+use Rattle.pas_same_text.proofs.Flushes.{visible_steps, unshown, legal_between}
 use Rattle.pas_same_text.proofs.GivingBack.{HintsPage, OffersPage, IsMarked, once_parts, none_marked, hint_marks, offer_marks, offered_by, hints_of, hint_read, epoch_stays_by, marked_left}
 use Rattle.pas_same_text.proofs.LeftRuns.{LeftInTurn, left_marked, left_due, left_room}
 use Rattle.pas_same_text.proofs.LoggedFrees.{after_with}
@@ -88,7 +84,8 @@ use Rattle.pas_same_text.proofs.RunMarks.{DeedsOn, IsRunTo, run_hints, run_offer
 use Rattle.pas_same_text.proofs.RunsFound.{DeedsInRun}
 use Rattle.pas_same_text.proofs.StopSteps.{ReadsRoom}
 use Rattle.pas_same_text.proofs.Tests.{on_page}
-use Rattle.pas_same_text.proofs.RoomsRead.{read_offered}
+use Rattle.pas_same_text.proofs.RoomsRead.{read_offered, never_read}
+use Rattle.pas_same_text.proofs.FreeGrains.{free_uncovered}
 
 -- The n pages from the first one on were got by the first of these steps, which made deeds of pages of this run alone, the lowest first. By the others they were backed, the lowest
 -- first, their block was given, and they were left.
@@ -154,12 +151,9 @@ module _ (f : Profile) (k name heap first n : ℕ) (p : Progress) (u : World) (g
   steps_are : rest ++ got ≡ run.left ++ (gave ++ (run.backs ++ got))
   steps_are = ap (λ (ms : List Made). ms ++ got) run.after_is ∙ append_assoc run.left (gave ++ run.backs) got
 
-  steps_end : rest ++ got ≡ (run.left ++ gave) ++ (run.backs ++ got)
-  steps_end = steps_are ∙ sym (append_assoc run.left gave (run.backs ++ got))
-
   legal_backs : Legal f (triples k run.backs ++ mid)
-  legal_backs =
-      subst (Legal f) (sym (triples_append k run.backs got l)) (legal_earlier f k (run.left ++ gave) (run.backs ++ got) l (subst (λ (ms : List Made). Legal f (triples k ms ++ l)) steps_end legal))
+  legal_backs = legal_between f k (run.left ++ gave) run.backs got l
+      (subst (λ (ms : List Made). Legal f (triples k ms ++ l)) (steps_are ∙ sym (append_assoc run.left gave (run.backs ++ got))) legal)
 
   agreed : Agreed f own (rest ++ got)
   agreed = agreed_steps f k l (rest ++ got) valid legal
@@ -311,27 +305,8 @@ module _ (f : Profile) (k name heap first n : ℕ) (p : Progress) (u : World) (g
       ∙ ap (λ (t : Bool). if t then Some live else live_in (events_by k own (run.backs ++ got) ++ visible l) (address_of block.name)) (eq-eqb (address_of block.name) (address_of block.name) refl)
 
   -- no look of the leave reads the first grain of a page of the run as free
-  never_read : (x : ℕ) → IsInRun first n x → (xs : List Made) → Legal f (triples k xs ++ base) → Only returning xs → Once (ReadsAllFree x 0) xs → ⊥
-  never_read x here [] all only h = h
-  never_read x here (m ∷ xs) all only (inr h) = never_read x here xs all.1 only.1 h
-  never_read x here (m ∷ xs) all only (inl h) = by_place (in_one_place f (triples k xs ++ base) valid all.1 (256 * x + 0))
-    where
-      word : free_word_at (256 * x + 0) ≡ Word.Free x 0
-      word =
-          let at_page : (256 * x + 0) / 256 ≡ x = omega arith in
-          let at_word : (256 * x + 0) / 64 % 4 ≡ 0 = omega arith in
-          ap (λ (y : ℕ). Word.Free y ((256 * x + 0) / 64 % 4)) at_page ∙ ap (λ (y : ℕ). Word.Free x y) at_word
-
-      free : free_bit (triples k xs ++ base) (256 * x + 0) ≡ true
-      free =
-          let answer : m.answer ≡ word_after (triples k xs ++ base) (free_word_at (256 * x + 0)) =
-          all.0.answer_is ∙ (ap (λ (s : Step). word_after (triples k xs ++ base) (target s)) h.0 ∙ ap (word_after (triples k xs ++ base)) (sym word)) in
-          ap (λ (y : ℕ). has_bit y ((256 * x + 0) % 64)) (sym answer) ∙ h.1 ((256 * x + 0) % 64) (omega arith)
-
-      by_place : IsInOnePlace (triples k xs ++ base) (256 * x + 0) → ⊥
-      by_place (inl o) = o.no_block (address_of block.name) live (lives xs only.1) (covers x 0 here (omega arith))
-      by_place (inr (inl o)) = true≢false (sym free ∙ o.not_free)
-      by_place (inr (inr o)) = true≢false (sym free ∙ o.not_free)
+  taken : (x : ℕ) → IsInRun first n x → (xs : List Made) → Legal f (triples k xs ++ base) → Only returning xs → free_bit (triples k xs ++ base) (256 * x + 0) ≡ true → ⊥
+  taken x here xs legal only free = free_uncovered f (triples k xs ++ base) valid legal (256 * x + 0) free (address_of block.name) live (lives xs only) (covers x 0 here (omega arith))
 
   -- ---- marks
   after_kinds : Only (Giving ∷ LookLife ∷ Backing ∷ []) (gave ++ run.backs)
@@ -344,7 +319,7 @@ module _ (f : Profile) (k name heap first n : ℕ) (p : Progress) (u : World) (g
   no_hint x h = elim (once_parts (λ m. m.step ≡ Hint x) run.left (gave ++ run.backs) (subst (HintsPage x) run.after_is h)) [
     | inl left ↦
         let r = hint_read x run.left (hints_of run.left (left_due d (pages_from first n) run.left run.left_order)) left in
-        never_read x (left_marked d first n x run.left run.left_order (hint_marks x run.left left)) run.left legal_left left_kinds (r.free 0 (omega arith))
+        never_read f k base returning x 0 (omega arith) (taken x (left_marked d first n x run.left run.left_order (hint_marks x run.left left))) run.left legal_left left_kinds (r.free 0 (omega arith))
     | inr later ↦ none_marked (Giving ∷ LookLife ∷ Backing ∷ []) refl x (gave ++ run.backs) after_kinds (hint_marks x (gave ++ run.backs) later)
   ]
 

@@ -128,10 +128,6 @@ no_give es (Event.Give k block) is = absurd is
 no_give es (Event.End k name e) is = tt
 no_give es (Event.Reject k name why) is = tt
 
-run_later : (f : Profile) (evs es : List Event) → Run f (evs ++ es) → Run f es
-run_later f [] es run = run
-run_later f (e ∷ evs) es run = run_later f evs es run.1
-
 all_usable : (f : Profile) (evs es : List Event) → Run f (evs ++ es) → AreNoGives evs → AreBlocksUsable es → AreBlocksUsable (evs ++ es)
 all_usable f [] es run none usable = usable
 all_usable f (e ∷ evs) es run none usable = next_usable f e (evs ++ es) run (no_give (evs ++ es) e none.0) (all_usable f evs es run.1 none.1 usable)
