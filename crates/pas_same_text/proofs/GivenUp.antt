@@ -21,7 +21,7 @@ use Rattle.pas_same_text.proofs.CacheLists.{all_locals, own_with, many_with, wit
 use Rattle.pas_same_text.proofs.GivenBack.{Returns, OnlyHints, minded_last, all_only_hints, returns_nothing, returns_then}
 use Rattle.pas_same_text.proofs.SameLocals.{for_same}
 use Rattle.pas_same_text.proofs.Slots.{has_grain, cached_any, any_cached}
-use Rattle.pas_same_text.proofs.Tests.{or_none, and_more}
+use Rattle.pas_same_text.proofs.Tests.{or_none, and_more, weaker_at}
 
 -- ---- one local allocator of a heap and class
 abbrev pub AreUnique : List Local → Type 0
@@ -44,7 +44,7 @@ none_for heap class (s ∷ slots) (l ∷ ls) same none =
     ap (λ (t : Bool). if not t then l ∷ others heap class ls else others heap class ls) (for_same heap class s l same.0 ∙ at.0)
     ∙ ap (λ (xs : List Local). l ∷ xs) (none_for heap class slots ls same.1 at.1)
 
-own_counted : (c : ℕ) (t : Bool) → t ≡ true → cond t 1 0 + c ≤ 1 → c ≤ 0
+pub own_counted : (c : ℕ) (t : Bool) → t ≡ true → cond t 1 0 + c ≤ 1 → c ≤ 0
 own_counted c true e h = omega (arith, h)
 own_counted c false e h = absurd (false≢true e)
 
@@ -69,13 +69,7 @@ others_rest l ls unique = ap (λ (t : Bool). if not t then l ∷ others l.heap l
 
 -- ---- a cache that has other local allocators
 swap_at : (x : Bool) (c new : List Local) (p : Local → Bool) (rest more : List Local) → (list_any p new ≡ true → list_any p c ≡ true) → (list_any p rest ≡ true → list_any p more ≡ true) → list_any p (new ++ rest) ≡ true → list_any p (c ++ more) ≡ true
-swap_at x c new p rest more one all h = list_any-append p c more ∙ from (list_any p new) (list_any p rest) (list_any p c) (list_any p more) one all (sym (list_any-append p new rest) ∙ h)
-  where
-    from : (a b c d : Bool) → (a ≡ true → c ≡ true) → (b ≡ true → d ≡ true) → (a || b) ≡ true → (c || d) ≡ true
-    from true b true d one all h = refl
-    from true b false d one all h = absurd (false≢true (one refl))
-    from false b true d one all h = refl
-    from false b false d one all h = all h
+swap_at x c new p rest more one all h = list_any-append p c more ∙ weaker_at (list_any p new) (list_any p c) (list_any p rest) (list_any p more) one all (sym (list_any-append p new rest) ∙ h)
 
 given_at : (c : Cache) (cs : List Cache) (k : ℕ) (new : Cache) (p : Local → Bool) (t : Bool) → (list_any p new.locals ≡ true → list_any p (if t then c else cache_in cs (k - 1)).locals ≡ true)
     → ((list_any p new.locals ≡ true → list_any p (cache_in cs (k - 1)).locals ≡ true) → list_any p (all_locals (with_cache cs (k - 1) new)) ≡ true → list_any p (all_locals cs) ≡ true)

@@ -1,6 +1,6 @@
 -- The live blocks in a list, and those that the machine has by their addresses.
 use Rattle.std.proofs.Common.{◌≡◌, ℕ, ◌/◌, ◌<◌, ◌≢◌, ◌==◌, Bool, true, false, not, ◌&&◌, ◌||◌, if◌then◌else◌, List, [], ◌∷◌, Option, Some, None, ◌⊎◌, inl, inr, refl, ap, sym, ◌∙◌}
-use Rattle.std.proofs.lemmas.Bool.{eq-eqb, ne_eqb, eqb-false, false≢true, true≢false, or_cases, or_left, or_right, not-true}
+use Rattle.std.proofs.lemmas.Bool.{eq-eqb, ne_eqb, eqb-false, false≢true, true≢false, or_cases, or_left, or_right, not-true, and_from}
 use Rattle.std.proofs.lemmas.Option.{same_Some, none-some}
 use Rattle.std.specs.List.{list_any}
 use Rattle.pas_bits.specs.Runs.{in_run}
@@ -117,9 +117,5 @@ lives_listed (Event.End k name e ∷ es) address b p is at so =
     let was = ended_live (address_of name == address) (live_in es address) b is in
     let ne : address_of name ≢ address = eqb-false (address_of name) address was.0 in
     let away : is_at (address_of name) b.block ≡ false = ne_eqb (address_of b.block.name) (address_of name) (λ same. ne (sym (sym at ∙ same))) in
-    filtered_any p (λ x. not (is_at (address_of name) x)) (lives_in es) (lives_listed es address b (λ x. not (is_at (address_of name) x) && p x) was.1 at (both (is_at (address_of name) b.block) (p b.block) away so))
-  where
-    both : (x y : Bool) → x ≡ false → y ≡ true → (not x && y) ≡ true
-    both true y h so = absurd (true≢false h)
-    both false y h so = so
+    filtered_any p (λ x. not (is_at (address_of name) x)) (lives_in es) (lives_listed es address b (λ x. not (is_at (address_of name) x) && p x) was.1 at (and_from (not (is_at (address_of name) b.block)) (p b.block) (ap not away) so))
 lives_listed (Event.Reject k name why ∷ es) address b p is at so = lives_listed es address b p is at so

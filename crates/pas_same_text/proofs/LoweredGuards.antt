@@ -1,6 +1,6 @@
 -- GUARDS ARE LOWERED in the text: their outer pages are anybody's again, and nothing else changes but hints.
 use Rattle.std.proofs.Common.{◌≡◌, ℕ, ◌==◌, Bool, true, false, not, ◌||◌, if◌then◌else◌, List, [], ◌∷◌, ◌++◌, map, reverse, inl, inr, refl, ap, sym, ◌∙◌, subst, append_assoc, append-nil}
-use Rattle.std.proofs.lemmas.Bool.{false≢true, true≢false, eq-eqb, eqb-true, or_cases, or_left, or_right, false_from_ne_true}
+use Rattle.std.proofs.lemmas.Bool.{false≢true, true≢false, eq-eqb, eqb-true, or_cases, or_left, or_right, false_from_ne_true, or_parts}
 use Rattle.std.specs.List.{list_any, filter}
 use Rattle.pas_profile.specs.Profiles.{IsPage}
 use Rattle.pas_profile.specs.declared.profile.Profile.{Profile}
@@ -186,12 +186,9 @@ apart_split t (g ∷ gs) page apart h = split_at t g gs page (t g) apart (apart_
 
 -- a guard whose low page is none of theirs stays before them
 none_first : (g : BookGuard) (page : ℕ) (rest : Bool) → (is_outer_of g page || rest) ≡ false → ((g.low == page) ≡ false) × (rest ≡ false)
-none_first g page rest none = by_test (g.low == page) (g.high == page) rest none
-  where
-    by_test : (x y r : Bool) → ((x || y) || r) ≡ false → (x ≡ false) × (r ≡ false)
-    by_test true y r h = absurd (true≢false h)
-    by_test false true r h = absurd (true≢false h)
-    by_test false false r h = (refl, h)
+none_first g page rest none =
+    let parts = or_parts (is_outer_of g page) rest none in
+    ((or_parts (g.low == page) (g.high == page) parts.0).0, parts.1)
 
 first_stays : (k keeper : ℕ) (g : BookGuard) (fallen : List BookGuard) (gs : List Guard) → is_outer fallen g.low ≡ false → without_all (map (told_guard keeper) fallen) (told_guard k g ∷ gs) ≡ told_guard k g ∷ without_all (map (told_guard keeper) fallen) gs
 first_stays k keeper g [] gs none = refl

@@ -1,6 +1,6 @@
 -- THE MARKS of pages after a search for a run and what came of it, from one state where all actors are at rest to another: of pages whose deeds it didn't make, and which pages are hinted at all.
 use Rattle.std.proofs.Common.{◌≡◌, ℕ, ◌/◌, ◌%◌, ◌<◌, ◌==◌, Bool, true, List, [], ◌∷◌, ◌++◌, ◌⊎◌, inl, inr, refl, ap, sym, ◌∙◌, subst, arith, false}
-use Rattle.std.proofs.lemmas.Bool.{false≢true}
+use Rattle.std.proofs.lemmas.Bool.{false≢true, cases_Bool}
 use Rattle.std.specs.List.{list_any}
 use Rattle.pas_profile.specs.Directories.{number_of}
 use Rattle.pas_profile.specs.Profiles.{IsValid, IsDirectoryOf}
@@ -41,10 +41,6 @@ use Rattle.pas_same_text.proofs.SearchMarks.{read_free}
 -- each deed that was made is of the directory, and of a page that is one of these
 abbrev pub DeedsOn : Directory → (ℕ → Bool) → List Made → Type 0
 DeedsOn d mine = Always (λ m before. (page : ℕ) (e : Directory) → m.step ≡ Deed page e → m.answer ≡ 0 → (e ≡ d) × (mine page ≡ true))
-
-true_or_false : (t : Bool) → (t ≡ true) ⊎ (t ≡ false)
-true_or_false true = inl refl
-true_or_false false = inr refl
 
 -- ---- hints: a page that such a search hints was backed and empty before it
 module _ (f : Profile) (k : ℕ) (l : Whole) (q : ℕ) where
@@ -140,7 +136,7 @@ module _ (f : Profile) (k : ℕ) (p p' : Progress) (w v : World) (d : Directory)
 
   -- .. and offered
   pub run_offers : (q : ℕ) (e : Directory) → IsDirectoryOf f e → is_offered v e q ≡ eligible_bit p'.list (number_of e) q
-  run_offers q e of = same_truth (is_offered v e q) (eligible_bit p'.list (number_of e) q) (offered_bit f p' v s.valid s.between s.now q e of) (λ bit. elim (true_or_false (mine q)) [
+  run_offers q e of = same_truth (is_offered v e q) (eligible_bit p'.list (number_of e) q) (offered_bit f p' v s.valid s.between s.now q e of) (λ bit. elim (cases_Bool (mine q)) [
     | inl here ↦ s.own q e here of bit
     | inr out ↦ from_offer q e out of bit
   ])

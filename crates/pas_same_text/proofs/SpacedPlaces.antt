@@ -20,14 +20,14 @@ some_filtered test [] = refl
 some_filtered test (x ∷ xs) = some_next x (filter test xs) (test x) (list_any test xs) (some_filtered test xs)
 
 -- the i-th of them
+pub next_place : (from step i : ℕ) → from + step + i * step ≡ from + suc i * step
+next_place from step i = let m = suc-mul i step in omega (arith, m)
+
 pub in_spaced : (test : ℕ → Bool) (n from step i : ℕ) → i < n → test (from + i * step) ≡ true → list_any test (spaced from step n) ≡ true
 in_spaced test zero from step i lt h = absurd (omega (arith, lt))
 in_spaced test (suc n) from step zero lt h = or_left (test from) (list_any test (spaced (from + step) step n)) (ap test (omega arith) ∙ h)
 in_spaced test (suc n) from step (suc i) lt h =
-    or_right (test from) (list_any test (spaced (from + step) step n)) (in_spaced test n (from + step) step i (omega (arith, lt)) (ap test (next from step i) ∙ h))
-  where
-    next : (from step i : ℕ) → from + step + i * step ≡ from + suc i * step
-    next from step i = let m = suc-mul i step in omega (arith, m)
+    or_right (test from) (list_any test (spaced (from + step) step n)) (in_spaced test n (from + step) step i (omega (arith, lt)) (ap test (next_place from step i) ∙ h))
 
 pub from_spaced : (test : ℕ → Bool) (n from step : ℕ) → list_any test (spaced from step n) ≡ true → (i : ℕ) × (i < n) × (test (from + i * step) ≡ true)
 from_spaced test zero from step h = absurd (false≢true h)
@@ -48,8 +48,5 @@ first_spaced test (suc n) from step zero lt h before =
     ∙ ap (λ (x : ℕ). x ∷ []) (omega arith)
 first_spaced test (suc n) from step (suc i) lt h before =
     ap (λ (t : Bool). take 1 (if t then from ∷ filter test (spaced (from + step) step n) else filter test (spaced (from + step) step n))) (ap test (omega arith) ∙ before 0 (omega arith))
-    ∙ (first_spaced test n (from + step) step i (omega (arith, lt)) (ap test (later i) ∙ h) (λ j small. ap test (later j) ∙ before (suc j) (omega (arith, small)))
-    ∙ ap (λ (x : ℕ). x ∷ []) (later i))
-  where
-    later : (j : ℕ) → from + step + j * step ≡ from + suc j * step
-    later j = let m = suc-mul j step in omega (arith, m)
+    ∙ (first_spaced test n (from + step) step i (omega (arith, lt)) (ap test (next_place from step i) ∙ h) (λ j small. ap test (next_place from step j) ∙ before (suc j) (omega (arith, small)))
+    ∙ ap (λ (x : ℕ). x ∷ []) (next_place from step i))

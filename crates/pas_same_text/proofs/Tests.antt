@@ -83,7 +83,7 @@ passed p (n ∷ more) m h so = elim (or_cases (n == m) (has_number more m) h) [
 ]
 
 -- ---- tests that follow from others
-weaker_at : (x y r s : Bool) → (x ≡ true → y ≡ true) → (r ≡ true → s ≡ true) → (x || r) ≡ true → (y || s) ≡ true
+pub weaker_at : (x y r s : Bool) → (x ≡ true → y ≡ true) → (r ≡ true → s ≡ true) → (x || r) ≡ true → (y || s) ≡ true
 weaker_at true true r s here rest h = refl
 weaker_at true false r s here rest h = absurd (false≢true (here refl))
 weaker_at false true r s here rest h = refl
