@@ -92,7 +92,6 @@ module _ {X : Type 0} (test : X → Bool) where
   taken_out (y ∷ ys) x found one = out_by y ys x (test y) refl found one (taken_out ys x)
 
 -- ---- the slots of a refill come
-
 module _ (f : Profile) (heap class : ℕ) (fewer : List Slots) (v : View) (of : IsDirectoryOf f (class_home f heap class)) (known : IsClass class) (none : local_for heap class fewer ≡ None) (rests : RestsWith f fewer v) where
   abbrev d : Directory
   d = class_home f heap class

@@ -70,7 +70,7 @@ use Rattle.pas_same_text.proofs.BitfitFits.{bitfit_fits, lowest_is}
 use Rattle.pas_same_text.proofs.CachedSlots.{block_of, block_same}
 use Rattle.pas_same_text.proofs.CacheLists.{same_kept}
 use Rattle.pas_same_text.proofs.FlushActs.{events_recorded}
-use Rattle.pas_same_text.proofs.Flushes.{visible_steps, unshown}
+use Rattle.pas_same_text.proofs.Flushes.{visible_steps, given_lives}
 use Rattle.pas_same_text.proofs.OuterPages.{guards_as, still_unguarded}
 use Rattle.pas_same_text.proofs.GivingBack.{HintsPage, OffersPage, IsMarked, once_parts, none_marked, returns_marked, hint_marks, offer_marks, offered_by, hints_of, hint_read, epoch_stays_by, marked_left}
 use Rattle.pas_same_text.proofs.LoggedFrees.{after_with}
@@ -361,9 +361,7 @@ module _ (f : Profile) (k name heap size align : ℕ) (p p' : Progress) (w : Wor
   live = record { actor = k; block = block }
 
   lives : (xs : List Made) → Only returning xs → live_in (visible (triples k xs ++ base)) (address_of block.name) ≡ Some live
-  lives xs only =
-      ap (λ (evs : List Event). live_in evs (address_of block.name)) (unshown returning refl k xs base only ∙ visible_steps k (gave ++ search) l)
-      ∙ ap (λ (t : Bool). if t then Some live else live_in (es ++ visible l) (address_of block.name)) (eq-eqb (address_of block.name) (address_of block.name) refl)
+  lives xs only = given_lives returning refl k xs (gave ++ search) l block es only refl
 
   -- no look of the leave reads the first grain as free
   taken : (xs : List Made) → Legal f (triples k xs ++ base) → Only returning xs → free_bit (triples k xs ++ base) (256 * page + first) ≡ true → ⊥

@@ -167,7 +167,6 @@ module _ (f : Profile) (p : Progress) (w : World) (valid : IsValid f) (between :
       (o.0, o.1, outer_held f p between o.0 (256 * page + b) (ap (is_outer (p.books o.0)) (on_page page b small) ∙ o.1))
 
   -- ---- A GRAIN
-
   free_here : (page b : ℕ) → b < 256 → IsInOnePlace p.list (256 * page + b) → is_free w page b ≡ (free_bit p.list (256 * page + b) || is_guarded w page)
   free_here page b small (inl free) =
       ap (λ (t : Bool). not t && not (is_cached (locals_on w page) b)) (covered_none page (256 * page + b) free.no_block)

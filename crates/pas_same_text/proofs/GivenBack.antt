@@ -121,7 +121,6 @@ idle_kept w v page only =
     ∙ ap (λ (t : Bool). backed_in w.events page && t) (empty_kept w v page (λ b small. free_kept w v page b only.live (ap all_locals only.caches)))
 
 -- ---- which pages are hinted after pages were minded
-
 hinted_at : (page q : ℕ) (old : List ℕ) (t h same : Bool) → list_any (λ p. p == page) old ≡ h → (page == q) ≡ same
     → list_any (λ p. p == q) (if t then (if h then old else page ∷ old) else old) ≡ (list_any (λ p. p == q) old || (same && t))
 hinted_at page q old true true true e is =

@@ -36,7 +36,6 @@ use Rattle.pas_same_text.proofs.RestingPages.{Fails, some_fails, is_open, is_ope
 use Rattle.pas_same_text.proofs.Tests.{and_first, and_second}
 
 -- ---- room
-
 -- a page with a free grain that its blocks may cover has room
 pub room_from : (w : World) (d : Directory) (page b : ℕ) → b < 256 → usable_by_kind d.kind b ≡ true → is_free w page b ≡ true → has_room w d page ≡ true
 room_from w d page b small usable free = ap not (false_from_ne_true (each_of 0 256 (λ x. not (usable_by_kind d.kind x && is_free w page x))) (λ all.

@@ -12,7 +12,6 @@ use Rattle.pas_same_text.proofs.GivenUp.{AreUnique, one_returns}
 use Rattle.pas_same_text.proofs.Tests.{and_first, and_second, or_more}
 
 -- ---- the others of a cache
-
 less_next : (p : Local → Bool) (x : Local) (ys : List Local) (t rest : Bool) → (list_any p ys ≡ true → rest ≡ true) → list_any p (if t then x ∷ ys else ys) ≡ true → (p x || rest) ≡ true
 less_next p x ys true rest more h = or_more (p x) (list_any p ys) rest more h
 less_next p x ys false rest more h = or_right (p x) rest (more h)

@@ -1,6 +1,6 @@
 -- A REQUEST FOR WHOLE PAGES THAT IS SERVED by a run: its pages get deeds and memory where they have none, the lowest first, and their block is given.
 use Rattle.std.proofs.Common.{◌≡◌, ◌≢◌, ℕ, ◌+◌, ◌*◌, ◌/◌, ◌<◌, ◌≤◌, ◌==◌, Bool, true, false, not, ◌&&◌, if◌then◌else◌, List, [], ◌∷◌, ◌++◌, Option, None, Some, ◌⊎◌, inl, inr, refl, ap, sym, ◌∙◌, subst, arith, append_assoc, append-nil}
-use Rattle.std.proofs.lemmas.Bool.{false≢true, eq-eqb, false_from_ne_true}
+use Rattle.std.proofs.lemmas.Bool.{false≢true, false_from_ne_true}
 use Rattle.std.specs.List.{flat_map, filter}
 use Rattle.pas_bits.specs.Runs.{in_run, meets_page}
 use Rattle.pas_profile.specs.Blocks.{address_of, grain_of, length_of}
@@ -72,7 +72,7 @@ use Rattle.pas_same_text.proofs.BitfitGiven.{one_more}
 use Rattle.pas_same_text.proofs.CachedSlots.{block_of, block_same}
 use Rattle.pas_same_text.proofs.CacheLists.{same_kept}
 use Rattle.pas_same_text.proofs.FlushActs.{events_recorded}
-use Rattle.pas_same_text.proofs.Flushes.{visible_steps, unshown, legal_between}
+use Rattle.pas_same_text.proofs.Flushes.{visible_steps, legal_between, given_lives}
 use Rattle.pas_same_text.proofs.GivingBack.{HintsPage, OffersPage, IsMarked, once_parts, none_marked, hint_marks, offer_marks, offered_by, hints_of, hint_read, epoch_stays_by, marked_left}
 use Rattle.pas_same_text.proofs.LeftRuns.{LeftInTurn, left_marked, left_due, left_room}
 use Rattle.pas_same_text.proofs.LoggedFrees.{after_with}
@@ -299,10 +299,7 @@ module _ (f : Profile) (k name heap first n : ℕ) (p : Progress) (u : World) (g
   live = record { actor = k; block = block }
 
   lives : (xs : List Made) → Only returning xs → live_in (visible (triples k xs ++ base)) (address_of block.name) ≡ Some live
-  lives xs only =
-      ap (λ (evs : List Event). live_in evs (address_of block.name))
-      (unshown returning refl k xs base only ∙ visible_steps k (gave ++ (run.backs ++ got)) l)
-      ∙ ap (λ (t : Bool). if t then Some live else live_in (events_by k own (run.backs ++ got) ++ visible l) (address_of block.name)) (eq-eqb (address_of block.name) (address_of block.name) refl)
+  lives xs only = given_lives returning refl k xs (gave ++ (run.backs ++ got)) l block (events_by k own (run.backs ++ got)) only refl
 
   -- no look of the leave reads the first grain of a page of the run as free
   taken : (x : ℕ) → IsInRun first n x → (xs : List Made) → Legal f (triples k xs ++ base) → Only returning xs → free_bit (triples k xs ++ base) (256 * x + 0) ≡ true → ⊥

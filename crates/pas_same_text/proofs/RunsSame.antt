@@ -44,7 +44,6 @@ module _ (f : Profile) (p : Progress) (w : World) (valid : IsValid f) (between :
   d = large_of heap
 
   -- ---- ONE PAGE
-
   pub whole_page : (page : ℕ) → is_whole w heap page ≡ true → IsWholePage d l page
   whole_page page h =
       let empty : is_empty w page ≡ true = and_second (is_offered w d page) (is_empty w page) h in
