@@ -52,7 +52,7 @@ use Rattle.pas_one_text.specs.Runs.{large_of}
 use Rattle.pas_same_text.specs.Same.{IsSame}
 use Rattle.pas_same_text.specs.Acts.{IsBetween}
 use Rattle.pas_same_text.proofs.CacheLists.{same_own}
-use Rattle.pas_same_text.proofs.FetchedClasses.{HasPlace, IsFetched, none_kept, place_fetched}
+use Rattle.pas_same_text.proofs.FetchedClasses.{HasPlace, IsFetched, none_kept, place_fetched, keeps_unshared}
 use Rattle.pas_same_text.proofs.OneUp.{up_to}
 use Rattle.pas_same_text.proofs.Tests.{and_second}
 
@@ -92,12 +92,6 @@ module _ {X : Type 0} (test : X → Bool) where
   taken_out (y ∷ ys) x found one = out_by y ys x (test y) refl found one (taken_out ys x)
 
 -- ---- the slots of a refill come
-right_kept : (right shared : Bool) (a b : ℕ) → kind_of_class (not right) a ≡ kind_of_class shared b → right ≡ not shared
-right_kept true false a b is = refl
-right_kept false true a b is = refl
-right_kept true true a b is = absurd (let bad : Kind.Class a ≡ Kind.Shared = is in cc)
-right_kept false false a b is = absurd (let bad : Kind.Shared ≡ Kind.Class b = is in cc)
-
 module _ (f : Profile) (heap class : ℕ) (fewer : List Slots) (v : View) (of : IsDirectoryOf f (class_home f heap class)) (known : IsClass class) (none : local_for heap class fewer ≡ None) (rests : RestsWith f fewer v) where
   abbrev d : Directory
   d = class_home f heap class
@@ -116,7 +110,7 @@ module _ (f : Profile) (heap class : ℕ) (fewer : List Slots) (v : View) (of : 
         page = gives.page;
         class = subst IsClass (sym gives.class_is) known;
         directory = subst (IsDirectoryOf f) (sym gives.home) of;
-        kept = right_kept slots.right (is_shared f slots.heap) slots.class class (ap (λ (e : Directory). e.kind) gives.home ∙ ap (λ (h : ℕ). kind_of_class (is_shared f h) class) (sym of_heap));
+        kept = keeps_unshared slots.right (is_shared f slots.heap) slots.class class (ap (λ (e : Directory). e.kind) gives.home ∙ ap (λ (h : ℕ). kind_of_class (is_shared f h) class) (sym of_heap));
         starts = gives.starts;
         deed = gets.may_stop.deed ∙ ap deed_word_of (sym gives.home);
         backed = λ some. gets.backed;

@@ -1,5 +1,5 @@
 -- THE ACTS THAT GIVE BACK: flushes, stops, stops of idle threads, the close, and frees into any log.
-use Rattle.std.proofs.Common.{◌≡◌, ℕ, ◌+◌, ◌%◌, ◌≤◌, ◌==◌, nat_le, Bool, true, false, if◌then◌else◌, List, [], ◌∷◌, ◌++◌, length, Option, None, Some, inl, inr, refl, ap, sym, ◌∙◌, subst, append_assoc, arith}
+use Rattle.std.proofs.Common.{◌≡◌, ℕ, ◌+◌, ◌%◌, ◌≤◌, ◌==◌, nat_le, Bool, true, false, if◌then◌else◌, List, [], ◌∷◌, ◌++◌, length, Option, None, Some, inl, inr, refl, ap, sym, ◌∙◌, subst, append_assoc, arith, append-nil}
 use Rattle.std.proofs.lemmas.Bool.{false≢true, eq-eqb}
 use Rattle.std.proofs.lemmas.Bool.Decides.{nat_tests}
 use Rattle.std.proofs.lemmas.List.Elements.{All-nil}
@@ -38,7 +38,7 @@ use Rattle.pas_same_text.specs.Acts.{HasBoth, IsResting, IsBetween, AreBlocksUsa
 use Rattle.pas_same_text.proofs.CacheLists.{same_own, same_with, same_again}
 use Rattle.pas_same_text.proofs.FlushActs.{flush_same}
 use Rattle.pas_same_text.proofs.Frames.{unchanged, pages_next}
-use Rattle.pas_same_text.proofs.LoggedFrees.{after_with, said_same, nothing_more, page_inside, freed_is, refused_same, skipped_same, freed_same}
+use Rattle.pas_same_text.proofs.LoggedFrees.{after_with, said_same, page_inside, freed_is, refused_same, skipped_same, freed_same}
 use Rattle.pas_same_text.proofs.SmallActs.{says_same, cache_state}
 use Rattle.pas_same_text.proofs.StopActs.{stop_same}
 
@@ -55,7 +55,7 @@ module _ (f : Profile) (k : ℕ) (p p' : Progress) (w : World) (usable : HasUsab
       reached ∙ (ap (λ (s : Option TheSaid). after_with p k a.steps s a.names a.cache) said ∙ ap (λ (ns : List Named). after_with p k a.steps None ns a.cache) names) in
       let there : IsBetween f (with_steps p k a.steps a.cache) = same_between f p k a.steps a.cache p.names (rs ++ []) (subst (IsBetween f) to after) in
       subst (λ (q : Progress). IsSame f q (flushes f k w)) (sym to)
-      (subst (λ (xs : List Record). IsSame f (with_records (with_steps p k a.steps a.cache) xs) (flushes f k w)) (sym (nothing_more rs))
+      (subst (λ (xs : List Record). IsSame f (with_records (with_steps p k a.steps a.cache) xs) (flushes f k w)) (sym (append-nil rs))
       (flush_same f k p w a.steps a.cache valid thread before same usable is.empties is.cache there))
 
   -- ---- a stop, after which this is said
@@ -70,7 +70,7 @@ module _ (f : Profile) (k : ℕ) (p p' : Progress) (w : World) (usable : HasUsab
       let rs : List Record = records_of (events_by k (part k p.list) steps) in
       let there : IsBetween f (with_steps p k steps c') = same_between f p k steps c' p.names (rs ++ []) (subst (IsBetween f) reached after) in
       subst (λ (q : Progress). IsSame f q (stops f k w)) (sym reached)
-      (subst (λ (xs : List Record). IsSame f (with_records (with_steps p k steps c') xs) (stops f k w)) (sym (nothing_more rs)) (stopped_all steps c' is valid before there same))
+      (subst (λ (xs : List Record). IsSame f (with_records (with_steps p k steps c') xs) (stops f k w)) (sym (append-nil rs)) (stopped_all steps c' is valid before there same))
 
   stopped_said : (steps : List Made) (c' : Cached) (r : Record) → IsStopped k (p.caches k) c' steps → p' ≡ after_stop p k steps c' (r ∷ []) → IsValid f → IsBetween f p → IsBetween f p' → IsSame f p w → IsSame f p' (says r (stops f k w))
   stopped_said steps c' r is reached valid before after same =
@@ -180,7 +180,7 @@ module _ (f : Profile) (k : ℕ) (entry : Entry) (p : Progress) (w : World) (c' 
     caches = same_again f p.caches (adds k entry v).caches k emptied c' (same_with f (with_cached p.caches k emptied) v.caches k c' new thread flushed_first.caches new_same);
     guards = flushed_first.guards;
     names = flushed_first.names;
-    records = ap (λ (rs : List Record). p.records ++ rs) (nothing_more (records_of (events_by k (part k p.list) steps))) ∙ flushed_first.records;
+    records = ap (λ (rs : List Record). p.records ++ rs) (append-nil (records_of (events_by k (part k p.list) steps))) ∙ flushed_first.records;
     epoch = flushed_first.epoch;
     read = flushed_first.read;
   }

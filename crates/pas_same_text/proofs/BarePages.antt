@@ -1,6 +1,6 @@
 -- OUTER PAGES STAY BARE: whom nothing lets back a page, and what a keeper does that raises a guard.
 use Rattle.std.proofs.Common.{◌≡◌, ℕ, ◌/◌, ◌==◌, Bool, true, false, if◌then◌else◌, List, [], ◌∷◌, ◌++◌, inl, inr, ap, sym, ◌∙◌, subst, arith}
-use Rattle.std.proofs.lemmas.Bool.{true≢false, cases_Bool, eqb-true}
+use Rattle.std.proofs.lemmas.Bool.{true≢false, cases_Bool, eqb-true, eq-eqb}
 use Rattle.pas_profile.specs.Layouts.{same_word}
 use Rattle.pas_profile.specs.Profiles.{IsValid}
 use Rattle.pas_profile.specs.declared.profile.Profile.{Profile}
@@ -55,16 +55,10 @@ held_unbacked f k j page [] l valid legal other held = tt
 held_unbacked f k j page (m ∷ xs) l valid legal other held = (
   λ e. (let may = subst (Allowed f (part k (triples k xs ++ l))) e legal.0.allowed in
       let on = may.0 in
-      let its : holds (part j (triples k xs ++ l)) on.0 ≡ true = ap (λ (v : View). holds v on.0) (part_of_others j k xs l (λ same. true≢false (sym (is_same k j same) ∙ other))) ∙ held on.0 on.1 in
+      let its : holds (part j (triples k xs ++ l)) on.0 ≡ true = ap (λ (v : View). holds v on.0) (part_of_others j k xs l (λ same. true≢false (sym (eq-eqb k j same) ∙ other))) ∙ held on.0 on.1 in
       true≢false (sym (one_holder f (triples k xs ++ l) valid legal.1 k j on.0 on.2 its) ∙ other)),
   held_unbacked f k j page xs l valid legal.1 other held,
 )
-  where
-    is_same : (k j : ℕ) → k ≡ j → (k == j) ≡ true
-    is_same k j same = ap (λ (x : ℕ). k == x) (sym same) ∙ own k
-      where
-        own : (n : ℕ) → (n == n) ≡ true
-        own n = grind arith
 
 -- where the page was read as not backed, and left alone since
 pub bare_since : (f : Profile) (k page : ℕ) (v : View) (xs : List Made) (l : Whole) → Legal f (triples k xs ++ l) → Since (BackedReadHere v page 0) (LeftSince page) xs → word_after (triples k xs ++ l) (Word.Backed page) ≡ 0

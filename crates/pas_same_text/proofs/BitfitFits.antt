@@ -5,14 +5,11 @@ use Rattle.std.proofs.lemmas.Bool.Decides.{nat_tests}
 use Rattle.std.proofs.lemmas.Nat.{div_below, mul-le}
 use Rattle.std.proofs.Math.Nat.{mul-mod_left, mod-add-div', suc-mul}
 use Rattle.std.specs.List.{list_any, filter}
-use Rattle.pas_bits.specs.Bits.{has_bit}
 use Rattle.pas_profile.specs.Classes.{IsAlignment}
 use Rattle.pas_profile.specs.Profiles.{IsValid}
 use Rattle.pas_profile.specs.declared.profile.Profile.{Profile}
 use Rattle.pas_profile.proofs.Sizes.{passes_below, passes_at}
-use Rattle.pas_steps.specs.Effects.{free_word_at}
 use Rattle.pas_steps.specs.Evidence.{Readings}
-use Rattle.pas_steps.specs.Lists.{word_after}
 use Rattle.pas_core.specs.Rights.{free_of_page}
 use Rattle.pas_bitfit.specs.Allocates.{run_for}
 use Rattle.pas_bitfit.specs.Runs.{Fits, NoneFits, IsLowestFit}
@@ -25,8 +22,7 @@ use Rattle.pas_one_text.specs.Runs.{lowest_place}
 use Rattle.pas_same_text.specs.Same.{HasSame}
 use Rattle.pas_same_text.specs.Acts.{IsBetween}
 use Rattle.pas_same_text.specs.Searched.{FitsSame}
-use Rattle.pas_same_text.specs.Words.{free_bit}
-use Rattle.pas_same_text.proofs.FreeGrains.{free_unless, bit_unguarded}
+use Rattle.pas_same_text.proofs.FreeGrains.{bit_unguarded, bit_read, read_unless}
 use Rattle.pas_same_text.proofs.GivenBack.{each_at, each_all}
 use Rattle.pas_same_text.proofs.SpacedPlaces.{some_first, some_filtered, in_spaced, from_spaced, first_spaced}
 use Rattle.pas_same_text.proofs.Tests.{and_first, and_second}
@@ -57,22 +53,11 @@ module _ (f : Profile) (p : Progress) (w : World) (valid : IsValid f) (between :
   abbrev test : ℕ → ℕ → Bool
   test page s = nat_le (s + n) 256 && are_free w page s n
 
-  -- grains by both
-  bit_read : (page b : ℕ) → free_bit p.list (256 * page + b) ≡ free_of_page p.list page b
-  bit_read page b =
-      let turned : 256 * page + b ≡ page * 256 + b = omega arith in
-      let bit : (256 * page + b) % 64 ≡ b % 64 = omega arith in
-      ap (λ (g : ℕ). has_bit (word_after p.list (free_word_at g)) ((256 * page + b) % 64)) turned
-      ∙ ap (λ (x : ℕ). has_bit (word_after p.list (free_word_at (page * 256 + b))) x) bit
-
-  reading : (page b : ℕ) → b < 256 → is_guarded w page ≡ false → is_free w page b ≡ free_of_page p.list page b
-  reading page b small none = free_unless f p w valid between same page b small none ∙ bit_read page b
-
   -- a page on which it fits is no keeper's
   fits_unguarded : (page s : ℕ) → Fits (run_for room align) (free_of_page p.list page) s → is_guarded w page ≡ false
   fits_unguarded page s fits =
       let within = fits.within in
-      bit_unguarded f p w valid between same page s (omega (arith, within, some)) (bit_read page s ∙ fits.free s (omega (arith, within, some)) (omega arith) (omega (arith, some)))
+      bit_unguarded f p w valid between same page s (omega (arith, within, some)) (bit_read p.list page s ∙ fits.free s (omega (arith, within, some)) (omega arith) (omega (arith, some)))
 
   test_fits : (page s : ℕ) → is_guarded w page ≡ false → s % step ≡ 0 → test page s ≡ true → Fits (run_for room align) (free_of_page p.list page) s
   test_fits page s none aligned h =
@@ -80,14 +65,14 @@ module _ (f : Profile) (p : Progress) (w : World) (valid : IsValid f) (between :
       record {
         aligned = aligned;
         within = within;
-        free = λ g lt low high. sym (reading page g lt none) ∙ each_at n s g (is_free w page) (and_second (nat_le (s + n) 256) (are_free w page s n) h) low high;
+        free = λ g lt low high. sym (read_unless f p w valid between same page g lt none) ∙ each_at n s g (is_free w page) (and_second (nat_le (s + n) 256) (are_free w page s n) h) low high;
       }
 
   fits_test : (page s : ℕ) → Fits (run_for room align) (free_of_page p.list page) s → test page s ≡ true
   fits_test page s fits =
       let within = fits.within in
       and_from (nat_le (s + n) 256) (are_free w page s n) (grind (arith, nat_tests, within))
-      (each_all n s (is_free w page) (λ b low high. reading page b (omega (arith, high, within)) (fits_unguarded page s fits) ∙ fits.free b (omega (arith, high, within)) low high))
+      (each_all n s (is_free w page) (λ b low high. read_unless f p w valid between same page b (omega (arith, high, within)) (fits_unguarded page s fits) ∙ fits.free b (omega (arith, high, within)) low high))
 
   some_is : (page : ℕ) → some_of (lowest_place w n step page) ≡ list_any (test page) (spaced 0 step (256 / step))
   some_is page = some_first (filter (test page) (spaced 0 step (256 / step))) ∙ some_filtered (test page) (spaced 0 step (256 / step))

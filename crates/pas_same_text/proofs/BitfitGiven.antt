@@ -1,5 +1,5 @@
 -- A BIT-FIT REQUEST THAT IS SERVED: the page that was searched for gets a deed and memory where it has none, and the lowest place on it is given.
-use Rattle.std.proofs.Common.{◌≡◌, ◌≢◌, ℕ, ◌+◌, ◌*◌, ◌/◌, ◌%◌, ◌<◌, ◌≤◌, ◌==◌, Bool, true, false, not, ◌&&◌, ◌||◌, if◌then◌else◌, List, [], ◌∷◌, ◌++◌, Option, None, Some, Result, Ok, ◌⊎◌, inl, inr, refl, ap, sym, ◌∙◌, subst, arith, append_assoc}
+use Rattle.std.proofs.Common.{◌≡◌, ◌≢◌, ℕ, ◌+◌, ◌*◌, ◌/◌, ◌%◌, ◌<◌, ◌≤◌, ◌==◌, Bool, true, false, not, ◌&&◌, ◌||◌, if◌then◌else◌, List, [], ◌∷◌, ◌++◌, Option, None, Some, Result, Ok, ◌⊎◌, inl, inr, refl, ap, sym, ◌∙◌, subst, arith, append_assoc, append-nil}
 use Rattle.std.proofs.lemmas.Bool.{true≢false, false≢true, eq-eqb, false_from_ne_true}
 use Rattle.std.specs.List.{flat_map, filter}
 use Rattle.pas_bits.specs.Bits.{has_bit}
@@ -15,36 +15,29 @@ use Rattle.pas_profile.specs.declared.event.Event.{Event}
 use Rattle.pas_profile.specs.declared.event.NoRoom.{NoRoom}
 use Rattle.pas_profile.specs.declared.name.Block.{Block}
 use Rattle.pas_profile.specs.declared.profile.Profile.{Profile}
-use Rattle.pas_profile.specs.declared.word.Word.TheVariants as Word
-use Rattle.pas_profile.proofs.Codecs.{deed_word_of-positive, same_from_deed_word}
-use Rattle.pas_machine.specs.Machine.{Run, Bears}
+use Rattle.pas_machine.specs.Machine.{Run}
 use Rattle.pas_machine.specs.State.{Live, live_in, deed_in, gives_in}
 use Rattle.pas_steps.specs.Agreement.{Agreed}
 use Rattle.pas_steps.specs.Calls.{Kept, Gained}
 use Rattle.pas_steps.specs.Calls.{now as has_now}
 use Rattle.pas_steps.specs.Desks.{triples}
-use Rattle.pas_steps.specs.Effects.{target, free_word_at}
+use Rattle.pas_steps.specs.Effects.{free_word_at}
 use Rattle.pas_steps.specs.Events.{events_by}
 use Rattle.pas_steps.specs.Evidence.{Readings}
 use Rattle.pas_steps.specs.Kinds.{Only, Giving, LookLife, returning}
 use Rattle.pas_steps.specs.Lists.{Whole, part, word_after, visible, Legal}
-use Rattle.pas_steps.specs.Past.{Once, Always}
-use Rattle.pas_steps.specs.Views.{View, has_right, known_deed, usable_by_kind}
+use Rattle.pas_steps.specs.Past.{Always}
+use Rattle.pas_steps.specs.Views.{View, has_right, known_deed}
 use Rattle.pas_steps.specs.declared.step.Made.{Made}
-use Rattle.pas_steps.specs.declared.step.Step.{Step}
 use Rattle.pas_steps.specs.declared.step.Step.TheVariants.{Offer, Unpark, Hint}
 use Rattle.pas_steps.proofs.Adding.{triples_append}
-use Rattle.pas_steps.proofs.Apart.{events_same}
 use Rattle.pas_steps.proofs.Parts.{part_of_own}
-use Rattle.pas_core.specs.Good.{IsInOnePlace, word_of_deed}
 use Rattle.pas_core.specs.Rights.{empty_bit, eligible_bit, free_of_page}
-use Rattle.pas_core.proofs.Deeds.{deed_of, known_is}
-use Rattle.pas_core.proofs.MachineRuns.{runs, in_one_place}
+use Rattle.pas_core.proofs.MachineRuns.{runs}
 use Rattle.pas_core.proofs.Nexts.{agreed_steps}
 use Rattle.pas_core.proofs.OneActor.{LendsNone, lends_none, legal_earlier, fit_entry}
-use Rattle.pas_core.proofs.Rights.{right_in_one_place, right_not_offered, deeds_known}
+use Rattle.pas_core.proofs.Rights.{right_not_offered}
 use Rattle.pas_rights.specs.Gives.{give_steps}
-use Rattle.pas_rights.specs.Looks.{ReadsAllFree}
 use Rattle.pas_rights.proofs.Hints.{leave_due}
 use Rattle.pas_rights.proofs.Orders.{leave_returns}
 use Rattle.pas_steps.proofs.Calls.{returns_are}
@@ -77,17 +70,17 @@ use Rattle.pas_same_text.proofs.BitfitFits.{bitfit_fits, lowest_is}
 use Rattle.pas_same_text.proofs.CachedSlots.{block_of, block_same}
 use Rattle.pas_same_text.proofs.CacheLists.{same_kept}
 use Rattle.pas_same_text.proofs.FlushActs.{events_recorded}
-use Rattle.pas_same_text.proofs.Flushes.{visible_steps}
-use Rattle.pas_same_text.proofs.GivenPages.{open_from}
+use Rattle.pas_same_text.proofs.Flushes.{visible_steps, given_lives}
 use Rattle.pas_same_text.proofs.OuterPages.{guards_as, still_unguarded}
-use Rattle.pas_same_text.proofs.GivingBack.{HintsPage, OffersPage, IsMarked, once_parts, marked_parts, none_marked, returns_marked, hint_marks, offer_marks, offered_by, hints_of, hint_read, epoch_stays_by}
-use Rattle.pas_same_text.proofs.LoggedFrees.{after_with, nothing_more}
-use Rattle.pas_same_text.proofs.ReadyPages.{AllAtPage, shown, shown_events, shown_records, shown_lives, shown_rest, search_at, same_live, deed_beside, readied}
-use Rattle.pas_same_text.proofs.RestingPages.{bit_at, deed_now, bit_tells, bit_offered}
+use Rattle.pas_same_text.proofs.GivingBack.{HintsPage, OffersPage, IsMarked, once_parts, none_marked, returns_marked, hint_marks, offer_marks, offered_by, hints_of, hint_read, epoch_stays_by, marked_left}
+use Rattle.pas_same_text.proofs.LoggedFrees.{after_with}
+use Rattle.pas_same_text.proofs.ReadyPages.{AllAtPage, shown, shown_events, shown_records, shown_lives, shown_rest, search_at, same_live, deed_beside, given_ready}
 use Rattle.pas_same_text.proofs.SearchedMarks.{IsSearchedTo, hints_kept, offers_kept}
 use Rattle.pas_same_text.proofs.SearchedPages.{offered_chosen, deed_chosen}
 use Rattle.pas_same_text.proofs.SearchMarks.{free_shown}
-use Rattle.pas_same_text.proofs.StopSteps.{ReadsRoom, grain_read, leave_room}
+use Rattle.pas_same_text.proofs.StopSteps.{ReadsRoom, leave_room}
+use Rattle.pas_same_text.proofs.RoomsRead.{read_offered, never_read}
+use Rattle.pas_same_text.proofs.FreeGrains.{free_uncovered}
 
 -- the page that serves isn't hinted by the search
 pub not_hinted : (page : ℕ) (xs : List Made) → Always (KeepsMarks page) xs → HintsPage page xs → ⊥
@@ -99,10 +92,6 @@ not_hinted page (m ∷ xs) all (inr h) = not_hinted page xs all.1 h
 pub one_more : (b : Block) (bs : List Block) (g : ℕ) (t : Bool) → in_run (grain_of b.name) (length_of b) g ≡ false → is_covered (if t then b ∷ bs else bs) g ≡ is_covered bs g
 one_more b bs g true none = ap (λ (u : Bool). u || is_covered bs g) none
 one_more b bs g false none = refl
-
-no_steps : (xs : List Made) → xs ++ [] ≡ xs
-no_steps [] = refl
-no_steps (x ∷ xs) = ap (λ (ys : List Made). x ∷ ys) (no_steps xs)
 
 module _ (f : Profile) (k name heap size align : ℕ) (p p' : Progress) (w : World) (block : Block) (thread : IsThread f k) (admitted : IsAdmitted f size align heap) (route : route_in f size align ≡ Route.Bitfit) (valid : IsValid f) (before : IsBetween f p) (after : IsBetween f p') (same : IsSame f p w)
     (a : Answer) (served : IsServed f k (record { name = name; heap = heap; size = size; align = align }) (having p.names (part k p.list) (p.caches k)) a) (reached : p' ≡ after_answer p k a) (is : served.answer ≡ Ok block) where
@@ -235,17 +224,8 @@ module _ (f : Profile) (k name heap size align : ℕ) (p p' : Progress) (w : Wor
   covers : (b : ℕ) → first ≤ b → b < first + n → in_run (grain_of block.name) (length_of block) (256 * page + b) ≡ true
   covers b low high = let g = grain in let m = long in to_run (grain_of block.name) (length_of block) (256 * page + b) (omega (arith, low, g)) (omega (arith, high, g, m))
 
-  bears : Bears f (es ++ w.events) block.heap page
-  bears = let end = within in let one = some in let on : (256 * page + first) / 256 ≡ page = omega (arith, end, one) in
-      subst (Bears f (es ++ w.events) block.heap) on (run.0.bears (256 * page + first) (covers first (omega arith) (omega (arith, one))))
-
-  is_there : Option Directory → Bool
-  is_there None = false
-  is_there (Some e) = true
-
   ready : readies k d page w ≡ shown es w
-  unfolding is_there
-  ready = readied k d page f es w at run.1 (λ none. false≢true (ap is_there (sym none ∙ bears.deed))) bears.backed
+  ready = let end = within in let one = some in let m = long in given_ready k d page f es w k block first at run (omega (arith, end, one)) grain (omega (arith, m, one))
 
   -- ---- what was free
   old : HasSame f p w
@@ -340,10 +320,9 @@ module _ (f : Profile) (k name heap size align : ℕ) (p p' : Progress) (w : Wor
   gave_kinds = (refl, (refl, tt))
 
   mark_left : (x : ℕ) → IsMarked x rest → IsMarked x given.left × (page ≡ x)
-  mark_left x h = elim (marked_parts x given.left gave (subst (IsMarked x) given.after_is h)) [
-    | inl marked ↦ (marked, returns_marked page x given.left (leave_returns page d given.left given.leaves) marked)
-    | inr later ↦ absurd (none_marked (Giving ∷ LookLife ∷ []) refl x gave gave_kinds later)
-  ]
+  mark_left x h =
+      let marked = marked_left (Giving ∷ LookLife ∷ []) refl x given.left gave gave_kinds (subst (IsMarked x) given.after_is h) in
+      (marked, returns_marked page x given.left (leave_returns page d given.left given.leaves) marked)
 
   searched_to : IsSearchedTo f k p q w v d page search rest
   searched_to = record {
@@ -382,42 +361,11 @@ module _ (f : Profile) (k name heap size align : ℕ) (p p' : Progress) (w : Wor
   live = record { actor = k; block = block }
 
   lives : (xs : List Made) → Only returning xs → live_in (visible (triples k xs ++ base)) (address_of block.name) ≡ Some live
-  lives xs only =
-      ap (λ (evs : List Event). live_in evs (address_of block.name)) (visible_steps k xs base ∙ (ap (λ (evs : List Event). evs ++ visible base) (silent xs only) ∙ visible_steps k (gave ++ search) l))
-      ∙ ap (λ (t : Bool). if t then Some live else live_in (es ++ visible l) (address_of block.name)) (eq-eqb (address_of block.name) (address_of block.name) refl)
-    where
-      silent : (xs : List Made) → Only returning xs → events_by k (part k base) xs ≡ []
-      silent xs only = ap (events_by k (part k base)) (sym (no_steps xs)) ∙ events_same returning refl k (part k base) xs [] only
+  lives xs only = given_lives returning refl k xs (gave ++ search) l block es only refl
 
   -- no look of the leave reads the first grain as free
-  never_read : (xs : List Made) → Legal f (triples k xs ++ base) → Only returning xs → Once (ReadsAllFree page (first / 64)) xs → ⊥
-  never_read [] all only h = h
-  never_read (m ∷ xs) all only (inr h) = never_read xs all.1 only.1 h
-  never_read (m ∷ xs) all only (inl h) = by_place (in_one_place f (triples k xs ++ base) valid all.1 (256 * page + first))
-    where
-      small : first < 256
-      small = let end = within in let one = some in omega (arith, end, one)
-
-      word : free_word_at (256 * page + first) ≡ Word.Free page (first / 64)
-      word =
-          let s = small in
-          let at_page : (256 * page + first) / 256 ≡ page = omega (arith, s) in
-          let at_word : (256 * page + first) / 64 % 4 ≡ first / 64 = omega (arith, s) in
-          ap (λ (x : ℕ). Word.Free x ((256 * page + first) / 64 % 4)) at_page ∙ ap (λ (u : ℕ). Word.Free page u) at_word
-
-      free : free_bit (triples k xs ++ base) (256 * page + first) ≡ true
-      free =
-          let answer : m.answer ≡ word_after (triples k xs ++ base) (free_word_at (256 * page + first)) =
-          all.0.answer_is ∙ (ap (λ (s : Step). word_after (triples k xs ++ base) (target s)) h.0 ∙ ap (word_after (triples k xs ++ base)) (sym word)) in
-          ap (λ (x : ℕ). has_bit x ((256 * page + first) % 64)) (sym answer) ∙ h.1 ((256 * page + first) % 64) (omega arith)
-
-      part_of : in_run (address_of block.name / 16) (length_of block) (256 * page + first) ≡ true
-      part_of = let one = some in covers first (omega arith) (omega (arith, one))
-
-      by_place : IsInOnePlace (triples k xs ++ base) (256 * page + first) → ⊥
-      by_place (inl o) = o.no_block (address_of block.name) live (lives xs only.1) part_of
-      by_place (inr (inl o)) = true≢false (sym free ∙ o.not_free)
-      by_place (inr (inr o)) = true≢false (sym free ∙ o.not_free)
+  taken : (xs : List Made) → Legal f (triples k xs ++ base) → Only returning xs → free_bit (triples k xs ++ base) (256 * page + first) ≡ true → ⊥
+  taken xs legal only free = let one = some in free_uncovered f (triples k xs ++ base) valid legal (256 * page + first) free (address_of block.name) live (lives xs only) (covers first (omega arith) (omega (arith, one)))
 
   own_hint : HintsPage page (rest ++ search) → empty_bit l page ≡ true
   own_hint h = absurd (elim (once_parts (λ m. m.step ≡ Hint page) rest search h) [
@@ -430,7 +378,7 @@ module _ (f : Profile) (k name heap size align : ℕ) (p p' : Progress) (w : Wor
         | inl left ↦
             let r = hint_read page given.left (hints_of given.left (leave_due page d given.left given.leaves)) left in
             let end = within in let one = some in
-            never_read given.left legal_left left_kinds (r.free (first / 64) (omega (arith, end, one)))
+            never_read f k base returning page first (omega (arith, end, one)) taken given.left legal_left left_kinds (r.free (first / 64) (omega (arith, end, one)))
         | inr gives ↦ none_marked (Giving ∷ LookLife ∷ []) refl page gave gave_kinds (hint_marks page gave gives)
       ]
 
@@ -447,17 +395,9 @@ module _ (f : Profile) (k name heap size align : ℕ) (p p' : Progress) (w : Wor
 
   own_offer : (e : Directory) → IsDirectoryOf f e → eligible_bit q.list (number_of e) page ≡ true → is_offered v e page ≡ true
   own_offer e of_e bit =
-      let r = offer_left e bit in
-      let tells = bit_tells f q v valid there same_now page e of_e (right_in_one_place f q.list there.legal page) bit in
-      let word : word_after q.list (Word.Deed page) ≡ deed_word_of e = deed_of f q.list there.legal page ∙ ap word_of_deed (deed_now f q v valid there same_now page e of_e tells.0) in
       let knows : known_deed (part k q.list) page ≡ deed_word_of d =
       ap (λ (x : View). known_deed x page) (part_of_own k (rest ++ search) l) ∙ (given.gave.from own may (agreed_steps f k l (rest ++ search) valid legal)).deed in
-      let known : known_deed (part k q.list) page ≡ word_after q.list (Word.Deed page) = known_is (known_deed (part k q.list) page) (word_after q.list (Word.Deed page)) (deeds_known f q.list there.legal k page) (λ none. deed_word_of-positive d (sym knows ∙ none)) in
-      let e_is : e ≡ d = same_from_deed_word e d of_e.kind tt (sym word ∙ (sym known ∙ knows)) in
-      let free : has_bit (word_after q.list (Word.Free page (r.grain / 64))) (r.grain % 64) ≡ true =
-      ap (λ (m : Whole). has_bit (word_after m (Word.Free page (r.grain / 64))) (r.grain % 64)) list_is ∙ grain_read returning refl f k base page r.grain given.left legal_left left_kinds r.read in
-      bit_offered f q v valid there same_now page e of_e bit
-      (open_from f q v valid there same_now e page r.grain r.small (ap (λ (x : Directory). usable_by_kind x.kind r.grain) e_is ∙ r.usable) (bit_at q.list page r.grain r.small ∙ free))
+      read_offered f q v valid there same_now returning refl k base given.left list_is left_kinds page e d of_e bit tt knows (offer_left e bit)
 
   -- ---- ALL
   given_same : IsSame f q v
@@ -471,7 +411,7 @@ module _ (f : Profile) (k name heap size align : ℕ) (p p' : Progress) (w : Wor
     caches = same_now.caches;
     guards = same_now.guards;
     names = ap (λ (b : Block). named name (Some b) ∷ (shown es w).names) (sym block_is) ∙ ap (λ (ns : List Named). named name (Some block) ∷ ns) ((shown_rest es w).names ∙ same.names);
-    records = ap (λ (rs : List Record). p.records ++ rs) (nothing_more (records_of (events_by k own (rest ++ search))))
+    records = ap (λ (rs : List Record). p.records ++ rs) (append-nil (records_of (events_by k own (rest ++ search))))
         ∙ (ap (λ (xs : List Event). p.records ++ records_of xs) (given.events k own)
         ∙ events_recorded p.records w.records v.records (Event.Give k block ∷ es) same.records
         (ap (λ (b : Block). Record.Event (Event.Give k b) ∷ (shown es w).records) (sym block_is) ∙ ap (λ (rs : List Record). Record.Event (Event.Give k block) ∷ rs) (shown_records es w)));

@@ -1,12 +1,11 @@
 -- A BIT-FIT REQUEST. One that is refused changes no page, and nothing fits in the text either.
-use Rattle.std.proofs.Common.{◌≡◌, ℕ, ◌+◌, ◌/◌, ◌<◌, ◌≤◌, true, false, ◌&&◌, List, ◌∷◌, ◌++◌, Option, None, Some, Result, Ok, Err, refl, ap, sym, ◌∙◌, subst, arith}
+use Rattle.std.proofs.Common.{◌≡◌, ℕ, ◌+◌, ◌/◌, ◌<◌, ◌≤◌, false, ◌&&◌, List, ◌∷◌, ◌++◌, Option, None, Some, Result, Ok, Err, refl, ap, sym, ◌∙◌, subst, arith}
 use Rattle.std.proofs.lemmas.Bool.{false≢true, false_from_ne_true}
 use Rattle.std.specs.List.{find}
 use Rattle.pas_profile.specs.Profiles.{IsValid, IsAdmitted, IsDirectoryOf}
 use Rattle.pas_profile.specs.Requests.{route_in, room_in, is_shared, kind_of_route, directory_for}
 use Rattle.pas_profile.specs.declared.directory.Directory.{Directory}
 use Rattle.pas_profile.specs.declared.directory.Route.{Route}
-use Rattle.pas_profile.specs.declared.event.Event.{Event}
 use Rattle.pas_profile.specs.declared.event.NoRoom.{NoRoom}
 use Rattle.pas_profile.specs.declared.name.Block.{Block}
 use Rattle.pas_profile.specs.declared.profile.Profile.{Profile}
@@ -16,8 +15,6 @@ use Rattle.pas_steps.specs.Evidence.{Readings}
 use Rattle.pas_steps.specs.Lists.{part, Legal}
 use Rattle.pas_steps.specs.declared.step.Made.{Made}
 use Rattle.pas_core.specs.Fits.{HasNoFit}
-use Rattle.pas_core.specs.Good.{word_of_deed}
-use Rattle.pas_core.proofs.Deeds.{deed_of}
 use Rattle.pas_bitfit.specs.Allocates.{run_for}
 use Rattle.pas_bitfit.specs.Runs.{NoneFits}
 use Rattle.pas_search.specs.Kinds.{AreSearch, AreQuiet}
@@ -34,7 +31,7 @@ use Rattle.pas_trace.specs.declared.plan.What.TheVariants.{Alloc}
 use Rattle.pas_answers.specs.Answers.{Progress, Named, named, Answer, having, IsServed, after_answer, said_of_room, said_of_request}
 use Rattle.pas_answers.specs.Answers.{block_of as block_answered}
 use Rattle.pas_one_text.specs.State.{World}
-use Rattle.pas_one_text.specs.Pages.{page_numbers, is_none, is_unowned, is_offered}
+use Rattle.pas_one_text.specs.Pages.{page_numbers, is_unowned, is_offered}
 use Rattle.pas_one_text.specs.Searches.{some_of, page_or, refusal, refuses, searched}
 use Rattle.pas_one_text.specs.Runs.{bitfit_of, lowest_place, places}
 use Rattle.pas_one_text.specs.Order.{serves}
@@ -45,7 +42,7 @@ use Rattle.pas_same_text.proofs.BitfitFits.{bitfit_fits}
 use Rattle.pas_same_text.proofs.BitfitGiven.{bitfit_served}
 use Rattle.pas_same_text.proofs.LoggedFrees.{after_with}
 use Rattle.pas_same_text.proofs.RefusedRequests.{refused_to, refused_same}
-use Rattle.pas_same_text.proofs.RestingPages.{open_unguarded, had_open}
+use Rattle.pas_same_text.proofs.RestingPages.{open_unguarded, had_open, owned_is, no_word}
 use Rattle.pas_same_text.proofs.SearchedPages.{find_none}
 use Rattle.pas_same_text.proofs.Tests.{and_first, and_second}
 
@@ -58,14 +55,10 @@ module _ (no_fit : Readings → Type 0) (f : Profile) (d : Directory) (p : Progr
     fits = λ unfit. false≢true (sym (same.none q (low, omega (arith, high)) (open_unguarded w d q (had_open w d q (and_first (is_offered w d q) (some_of (fits q)) h))) unfit) ∙ and_second (is_offered w d q) (some_of (fits q)) h);
   })
 
-  no_word : (o : Option Directory) → is_none o ≡ true → word_of_deed o ≡ 0
-  no_word None h = refl
-  no_word (Some e) h = absurd (false≢true h)
-
   owned : (q : ℕ) → 1 ≤ q → q < 1 + f.pages → is_unowned w q ≡ false
   owned q low high = false_from_ne_true (is_unowned w q) (λ h. none.bare q record {
     of_region = (low, omega (arith, high));
-    no_deed = deed_of f p.list legal q ∙ (ap (λ (es : List Event). word_of_deed (deed_in es q)) (sym pages.events) ∙ no_word (deed_in w.events q) h);
+    no_deed = owned_is f p.list w legal pages.events q ∙ no_word (deed_in w.events q) h;
   })
 
   pub none_searched : searched f w d fits ≡ Err (refusal f w d)

@@ -1,6 +1,7 @@
 -- A request of a class for which the thread's cache has a slot.
-use Rattle.std.proofs.Common.{◌≡◌, ℕ, ◌+◌, ◌*◌, ◌<◌, ◌==◌, Bool, true, false, not, ◌&&◌, if◌then◌else◌, List, [], ◌∷◌, ◌++◌, Option, None, Some, Result, Ok, Err, inl, inr, refl, ap, sym, ◌∙◌, subst, arith}
+use Rattle.std.proofs.Common.{◌≡◌, ℕ, ◌+◌, ◌*◌, ◌<◌, ◌==◌, Bool, true, false, not, ◌&&◌, if◌then◌else◌, List, [], ◌∷◌, ◌++◌, Option, None, Some, Result, Ok, Err, inl, inr, refl, ap, sym, ◌∙◌, subst, arith, append-nil}
 use Rattle.std.proofs.lemmas.Bool.{eqb-true, false≢true}
+use Rattle.std.proofs.lemmas.Option.{same_Some, none-some}
 use Rattle.std.specs.List.{find}
 use Rattle.pas_bits.specs.Masks.{HasMember, IsLowestSet}
 use Rattle.pas_profile.specs.Blocks.{address_of}
@@ -187,24 +188,12 @@ head_of [] x h = absurd (false≢true h)
 head_of (n ∷ more) x h = record { head = n; more = more; is = refl }
 
 -- what is found passes the test
-some_slots : Slots → Option Slots → Slots
-some_slots x None = x
-some_slots x (Some y) = y
-
 found_at : (heap class : ℕ) (x s : Slots) (rest : Option Slots) (t : Bool) → is_for_slots heap class x ≡ t → (rest ≡ Some s → is_for_slots heap class s ≡ true) → (if t then Some x else rest) ≡ Some s → is_for_slots heap class s ≡ true
-unfolding some_slots
-found_at heap class x s rest true e later same = subst (λ (y : Slots). is_for_slots heap class y ≡ true) (ap (some_slots x) same) e
+found_at heap class x s rest true e later same = subst (λ (y : Slots). is_for_slots heap class y ≡ true) (same_Some x s same) e
 found_at heap class x s rest false e later same = later same
 
 pub found_passes : (heap class : ℕ) (slots : List Slots) (s : Slots) → local_for heap class slots ≡ Some s → is_for_slots heap class s ≡ true
-found_passes heap class [] s is = absurd (none is)
-  where
-    is_some : Option Slots → Bool
-    is_some None = false
-    is_some (Some x) = true
-
-    none : None ≡ Some s → ⊥
-    none e = false≢true (ap is_some e)
+found_passes heap class [] s is = absurd (none-some s is)
 found_passes heap class (x ∷ slots) s is = found_at heap class x s (local_for heap class slots) (is_for_slots heap class x) refl (found_passes heap class slots s) is
 
 -- what the text does where it finds a local allocator with a slot
@@ -282,10 +271,6 @@ ends_of fewer locals' given found (Ok block) slots is e =
     record { block = block; rest = x.0; gives = x.1; locals = x.2; is = refl }
 ends_of fewer locals' given found (Err room) slots is e = absurd (subst (λ (r : Result Slots NoRoom). IsAnswered fewer locals' given r (Err room)) is e)
 
-no_more : (xs : List Made) → xs ++ [] ≡ xs
-no_more [] = refl
-no_more (x ∷ xs) = ap (λ (ys : List Made). x ∷ ys) (no_more xs)
-
 module _ (f : Profile) (k name heap size align class : ℕ) (p p' : Progress) (w : World) (s : Slots) (there : local_for heap class (p.caches k).locals ≡ Some s) (member : HasMember s.starts)
     (a : Answer) (served : IsServed f k (record { name = name; heap = heap; size = size; align = align }) (having p.names (part k p.list) (p.caches k)) a) (reached : p' ≡ after_answer p k a) where
   same_slots : (slots : Slots) → local_for heap class (p.caches k).locals ≡ Some slots → slots ≡ s
@@ -300,7 +285,7 @@ module _ (f : Profile) (k name heap size align class : ℕ) (p p' : Progress) (w
   served_by sv (inr fetches) = absurd (not_fetched f k name heap class p s there member (directory_for f heap size align) fetches.place.kept fetches.place.spent refl fetches.place.taken)
   served_by sv (inl t) =
       let e : Ends sv.locals.fewer a.cache.locals sv.locals.given t.0 served.answer = ends_of sv.locals.fewer a.cache.locals sv.locals.given sv.locals.found served.answer t.0 t.1 sv.locals.ends in
-      let steps : a.steps ≡ sv.locals.given = sv.locals.steps_are ∙ (ap (λ (ms : List Made). sv.locals.given ++ ms) t.2.no_steps ∙ no_more sv.locals.given) in
+      let steps : a.steps ≡ sv.locals.given = sv.locals.steps_are ∙ (ap (λ (ms : List Made). sv.locals.given ++ ms) t.2.no_steps ∙ append-nil sv.locals.given) in
       let said : a.said ≡ None = served.said_is ∙ ap (said_of_request name) e.is in
       let names : a.names ≡ named name (Some e.block) ∷ p.names = served.names_are ∙ ap (λ (r : Result Block NoRoom). named name (block_answered r) ∷ p.names) e.is in
       record {

@@ -1,16 +1,13 @@
 -- WHETHER A SLOT OF A CLASS FITS on a page: in the text exactly where it does by the free grains of the replay.
-use Rattle.std.proofs.Common.{◌≡◌, ℕ, ◌+◌, ◌*◌, ◌/◌, ◌%◌, ◌<◌, ◌≤◌, Bool, true, false, if◌then◌else◌, List, [], ◌∷◌, refl, ap, sym, ◌∙◌, arith}
+use Rattle.std.proofs.Common.{◌≡◌, ℕ, ◌+◌, ◌*◌, ◌/◌, ◌<◌, ◌≤◌, Bool, true, false, if◌then◌else◌, List, [], ◌∷◌, refl, ap, sym, ◌∙◌, arith}
 use Rattle.std.proofs.lemmas.Bool.{true≢false, eq-eqb, false_from_ne_true}
 use Rattle.std.proofs.lemmas.Nat.{div_below, mul-le}
 use Rattle.std.proofs.Math.Nat.{mul-mod_left, mod-add-div', suc-mul}
 use Rattle.std.specs.List.{list_any}
-use Rattle.pas_bits.specs.Bits.{has_bit}
 use Rattle.pas_profile.specs.Classes.{IsClass, class_grains, slots_of, IsSlotStart}
 use Rattle.pas_profile.specs.Profiles.{IsValid}
 use Rattle.pas_profile.specs.declared.profile.Profile.{Profile}
 use Rattle.pas_profile.proofs.ClassFacts.{class_grains_positive, usable_grains_le}
-use Rattle.pas_steps.specs.Effects.{free_word_at}
-use Rattle.pas_steps.specs.Lists.{word_after}
 use Rattle.pas_core.specs.Rights.{free_of_page}
 use Rattle.pas_rights.specs.Looks.{AllFree}
 use Rattle.pas_segregated.specs.Takes.{NoSlot}
@@ -22,8 +19,7 @@ use Rattle.pas_one_text.specs.Classes.{spaced, free_slots, first_row, row_from, 
 use Rattle.pas_same_text.specs.Same.{HasSame}
 use Rattle.pas_same_text.specs.Acts.{IsBetween}
 use Rattle.pas_same_text.specs.Searched.{FitsSame}
-use Rattle.pas_same_text.specs.Words.{free_bit}
-use Rattle.pas_same_text.proofs.FreeGrains.{free_unless, bit_unguarded}
+use Rattle.pas_same_text.proofs.FreeGrains.{bit_unguarded, bit_read, read_unless}
 use Rattle.pas_same_text.proofs.GivenBack.{each_at, each_all}
 use Rattle.pas_same_text.proofs.SpacedPlaces.{some_filtered, in_spaced, from_spaced}
 
@@ -46,19 +42,9 @@ module _ (f : Profile) (p : Progress) (w : World) (valid : IsValid f) (between :
   some_grains : 1 ≤ step
   some_grains = class_grains_positive class is
 
-  bit_read : (page b : ℕ) → free_bit p.list (256 * page + b) ≡ free_of_page p.list page b
-  bit_read page b =
-      let turned : 256 * page + b ≡ page * 256 + b = omega arith in
-      let bit : (256 * page + b) % 64 ≡ b % 64 = omega arith in
-      ap (λ (g : ℕ). has_bit (word_after p.list (free_word_at g)) ((256 * page + b) % 64)) turned
-      ∙ ap (λ (x : ℕ). has_bit (word_after p.list (free_word_at (page * 256 + b))) x) bit
-
-  pub reading : (page b : ℕ) → b < 256 → is_guarded w page ≡ false → is_free w page b ≡ free_of_page p.list page b
-  reading page b small none = free_unless f p w valid between same page b small none ∙ bit_read page b
-
   -- a page with a free grain is no keeper's
   pub read_unguarded : (page b : ℕ) → b < 256 → free_of_page p.list page b ≡ true → is_guarded w page ≡ false
-  read_unguarded page b small free = bit_unguarded f p w valid between same page b small (bit_read page b ∙ free)
+  read_unguarded page b small free = bit_unguarded f p w valid between same page b small (bit_read p.list page b ∙ free)
 
   some_is : (shared : Bool) (page : ℕ) → some_of (slots_for shared w class page) ≡ list_any (test page) (spaced 0 step (slots_of class))
   some_is shared page = some_slots shared w class page ∙ some_filtered (test page) (spaced 0 step (slots_of class))
@@ -86,10 +72,10 @@ module _ (f : Profile) (p : Progress) (w : World) (valid : IsValid f) (between :
       let most = usable_grains_le class is in
       let some = some_grains in
       let none : is_guarded w page ≡ false = read_unguarded page s (omega (arith, within, most, some)) (free s (omega (arith, within, most, some)) (omega arith) (omega (arith, some))) in
-      each_all step s (is_free w page) (λ b low high. reading page b (omega (arith, high, within, most)) none ∙ free b (omega (arith, high, within, most)) low high)
+      each_all step s (is_free w page) (λ b low high. read_unless f p w valid between same page b (omega (arith, high, within, most)) none ∙ free b (omega (arith, high, within, most)) low high)
 
   pub slot_free : (page s : ℕ) → is_guarded w page ≡ false → test page s ≡ true → AllFree (free_of_page p.list page) s step
-  slot_free page s none tested b small low high = sym (reading page b small none) ∙ each_at step s b (is_free w page) tested low high
+  slot_free page s none tested b small low high = sym (read_unless f p w valid between same page b small none) ∙ each_at step s b (is_free w page) tested low high
 
   there : (page s : ℕ) → IsSlotStart class s → AllFree (free_of_page p.list page) s step → list_any (test page) (spaced 0 step (slots_of class)) ≡ true
   there page s slot free =

@@ -1,10 +1,8 @@
 -- A REQUEST OF A CLASS THAT A PAGE SERVES, where the cache has place for a local allocator: the page that was searched for gets a deed and memory where it has none, its
 -- slots are taken, the lowest of them is given, and the others are cached.
-use Rattle.std.proofs.Common.{◌≡◌, ◌≢◌, ℕ, ◌+◌, ◌*◌, ◌/◌, ◌%◌, ◌<◌, ◌≤◌, ◌==◌, Bool, true, false, not, ◌&&◌, if◌then◌else◌, List, [], ◌∷◌, ◌++◌, Option, None, Some, Result, Ok, ◌⊎◌, inl, inr, refl, ap, sym, ◌∙◌, subst, append_assoc, arith}
+use Rattle.std.proofs.Common.{◌≡◌, ◌≢◌, ℕ, ◌+◌, ◌*◌, ◌/◌, ◌%◌, ◌<◌, ◌≤◌, ◌==◌, Bool, true, false, not, ◌&&◌, if◌then◌else◌, List, [], ◌∷◌, ◌++◌, None, Some, Result, Ok, ◌⊎◌, inl, inr, refl, ap, sym, ◌∙◌, subst, append_assoc, arith, append-nil}
 use Rattle.std.proofs.lemmas.Bool.{true≢false, false≢true, eq-eqb, eqb-true, or_cases, or_left, or_right, false_from_ne_true}
-use Rattle.pas_bits.specs.Bits.{has_bit}
 use Rattle.pas_bits.specs.Masks.{is_set}
-use Rattle.pas_bits.proofs.Runs.{to_run}
 use Rattle.pas_profile.specs.Blocks.{address_of, grain_of, length_of}
 use Rattle.pas_profile.specs.Classes.{class_size, class_grains, IsSlotStart}
 use Rattle.pas_profile.specs.Directories.{number_of, deed_word_of}
@@ -17,37 +15,31 @@ use Rattle.pas_profile.specs.declared.name.Block.{Block}
 use Rattle.pas_profile.specs.declared.profile.Profile.{Profile}
 use Rattle.pas_profile.specs.declared.word.Word.TheVariants as Word
 use Rattle.pas_profile.proofs.ClassFacts.{class_grains_positive, usable_grains_le}
-use Rattle.pas_profile.proofs.Codecs.{deed_word_of-positive, same_from_deed_word}
-use Rattle.pas_machine.specs.Machine.{Run, Bears}
+use Rattle.pas_machine.specs.Machine.{Run}
 use Rattle.pas_machine.specs.State.{deed_in, gives_in}
 use Rattle.pas_steps.specs.Agreement.{Agreed}
 use Rattle.pas_steps.specs.Calls.{Kept, Gained, Lost}
 use Rattle.pas_steps.specs.Calls.{now as has_now}
 use Rattle.pas_steps.specs.Desks.{triples}
-use Rattle.pas_steps.specs.Effects.{target, free_word_at}
 use Rattle.pas_steps.specs.Events.{events_by}
 use Rattle.pas_steps.specs.Evidence.{ShowsHere}
 use Rattle.pas_steps.specs.Kinds.{Kinds, Only, Giving, LookLife, returning}
 use Rattle.pas_steps.specs.Lists.{Whole, part, word_after, visible, Legal}
 use Rattle.pas_steps.specs.Past.{Once, Always}
-use Rattle.pas_steps.specs.Views.{View, held_after, grain_move, holds, has_right, known_deed, usable_by_kind}
+use Rattle.pas_steps.specs.Views.{View, held_after, grain_move, holds, has_right, known_deed}
 use Rattle.pas_steps.specs.declared.step.Made.{Made}
-use Rattle.pas_steps.specs.declared.step.Step.{Step}
 use Rattle.pas_steps.specs.declared.step.Step.TheVariants.{Offer, Hint}
 use Rattle.pas_steps.specs.Frames.{OnlyReturns}
 use Rattle.pas_steps.proofs.Adding.{triples_append}
 use Rattle.pas_steps.proofs.Apart.{only_both, only_within, holds_same, rights_same, deeds_same, events_same}
 use Rattle.pas_steps.proofs.Frames.{right_of_own}
 use Rattle.pas_steps.proofs.Parts.{part_of_own}
-use Rattle.pas_core.specs.Good.{IsInOnePlace, word_of_deed}
 use Rattle.pas_core.specs.Rights.{empty_bit, eligible_bit, free_of_page}
-use Rattle.pas_core.proofs.Deeds.{deed_of, known_is}
-use Rattle.pas_core.proofs.MachineRuns.{runs, in_one_place}
+use Rattle.pas_core.proofs.MachineRuns.{runs}
 use Rattle.pas_core.proofs.Nexts.{agreed_steps}
 use Rattle.pas_core.proofs.OneActor.{LendsNone, lends_none, legal_earlier, free_stays}
-use Rattle.pas_core.proofs.Rights.{right_in_one_place, right_not_offered, deeds_known}
+use Rattle.pas_core.proofs.Rights.{right_not_offered}
 use Rattle.pas_rights.specs.Leaves.{LeaveSteps}
-use Rattle.pas_rights.specs.Looks.{ReadsAllFree}
 use Rattle.pas_rights.proofs.Hints.{leave_due}
 use Rattle.pas_rights.proofs.Orders.{leave_returns}
 use Rattle.pas_search.specs.Kinds.{KeepsMarks, searching}
@@ -77,36 +69,28 @@ use Rattle.pas_same_text.proofs.BitfitGiven.{not_hinted}
 use Rattle.pas_same_text.proofs.CacheLists.{same_with}
 use Rattle.pas_same_text.proofs.CachedSlots.{block_same, text_block, text_locals, HasHead, head_of}
 use Rattle.pas_same_text.proofs.ClassFits.{class_fits, read_unguarded}
-use Rattle.pas_same_text.proofs.FetchedClasses.{HasPlace, may_fetch}
+use Rattle.pas_same_text.proofs.FetchedClasses.{HasPlace, may_fetch, keeps_unshared}
 use Rattle.pas_same_text.proofs.FlushActs.{events_recorded}
 use Rattle.pas_same_text.proofs.Flushes.{visible_steps}
-use Rattle.pas_same_text.proofs.FreeGrains.{free_same}
-use Rattle.pas_same_text.proofs.GivenPages.{open_from}
+use Rattle.pas_same_text.proofs.FreeGrains.{free_same, free_unheld}
 use Rattle.pas_same_text.proofs.GivingBack.{HintsPage, OffersPage, IsMarked, once_parts, marked_parts, none_marked, returns_marked, hint_marks, offer_marks, offered_by, hints_of, hint_read, epoch_stays_by}
-use Rattle.pas_same_text.proofs.LoggedFrees.{after_with, nothing_more}
+use Rattle.pas_same_text.proofs.LoggedFrees.{after_with}
 use Rattle.pas_same_text.proofs.MadePlace.{all_left}
 use Rattle.pas_same_text.proofs.ReadSlots.{shared_row}
-use Rattle.pas_same_text.proofs.ReadyPages.{AllAtPage, shown, shown_events, shown_records, shown_lives, shown_rest, search_at, deed_beside, readied}
-use Rattle.pas_same_text.proofs.RestingPages.{bit_at, deed_now, bit_tells, bit_offered}
+use Rattle.pas_same_text.proofs.ReadyPages.{AllAtPage, shown, shown_events, shown_records, shown_lives, shown_rest, search_at, deed_beside, given_ready}
 use Rattle.pas_same_text.proofs.OuterPages.{guards_as, guarded_as, still_unguarded}
 use Rattle.pas_same_text.proofs.SameLocals.{others_same, last_same, slot_given}
 use Rattle.pas_same_text.proofs.SearchedMarks.{IsSearchedTo, hints_kept, offers_kept}
 use Rattle.pas_same_text.proofs.SearchedPages.{offered_chosen, deed_chosen}
 use Rattle.pas_same_text.proofs.SearchMarks.{stays_free}
-use Rattle.pas_same_text.proofs.StopSteps.{ReadsRoom, grain_read, leave_room, room_later}
+use Rattle.pas_same_text.proofs.StopSteps.{ReadsRoom, leave_room, room_later}
 use Rattle.pas_same_text.proofs.TakenSince.{right_kept, exclusive_free}
 use Rattle.pas_same_text.proofs.TakenSlots.{all_taken, row_taken, slots_rise}
+use Rattle.pas_same_text.proofs.RoomsRead.{read_offered, never_read}
 
 -- the replay after the block was given of slots that were fetched, of which these are left
 abbrev pub fetched_to : Progress → ℕ → ℕ → List Made → Slots → Block → Progress
 fetched_to p k name steps rest block = after_with p k steps None (named name (Some block) ∷ p.names) (record (p.caches k) { locals = (p.caches k).locals ++ rest ∷ [] })
-
--- slots keep the right of their page where the heap isn't shared
-keeps_unshared : (right shared : Bool) (a b : ℕ) → kind_of_class (not right) a ≡ kind_of_class shared b → right ≡ not shared
-keeps_unshared true false a b same = refl
-keeps_unshared false true a b same = refl
-keeps_unshared true true a b same = absurd (let bad = same in cc)
-keeps_unshared false false a b same = absurd (let bad = same in cc)
 
 -- of a grain that wasn't held before some steps these tell whether it is held
 held_by_steps : (g : ℕ) (xs : List Made) (v : View) → holds v g ≡ false → holds (xs ++ v) g ≡ holds xs g
@@ -326,19 +310,8 @@ module _ (f : Profile) (k name heap class : ℕ) (p : Progress) (w : World) (has
   long : length_of block ≡ class_grains class
   long = ap (λ (x : ℕ). x / 16) room
 
-  bears : Bears f (es ++ w.events) block.heap page
-  bears =
-      let lt = small in let one = some in let g = grain in let m = long in
-      let on : (256 * page + start) / 256 ≡ page = omega (arith, lt) in
-      subst (Bears f (es ++ w.events) block.heap) on (run.0.bears (256 * page + start) (to_run (grain_of block.name) (length_of block) (256 * page + start) (omega (arith, g)) (omega (arith, g, m, one))))
-
-  is_there : Option Directory → Bool
-  is_there None = false
-  is_there (Some e) = true
-
   ready : readies k d page w ≡ shown es w
-  unfolding is_there
-  ready = readied k d page f es w at run.1 (λ none. false≢true (ap is_there (sym none ∙ bears.deed))) bears.backed
+  ready = let one = some in let m = long in given_ready k d page f es w k block start at run small grain (omega (arith, m, one))
 
   -- ---- the text
   abbrev v : World
@@ -392,17 +365,12 @@ module _ (f : Profile) (k name heap class : ℕ) (p : Progress) (w : World) (has
 
   free_later : (g : ℕ) → free_bit l g ≡ true → in_slots slots g ≡ false → free_bit q.list g ≡ true
   free_later g was outside =
-      let none : holds own g ≡ false = by_place (in_one_place f l has.valid has.between.legal g) in
+      let none : holds own g ≡ false = free_unheld f l has.valid has.between.legal g was k in
       let still : free_bit base g ≡ true = elim (or_cases (free_bit base g) (holds search g) (stays_free f k l g search legal_search lends was)) [
         | inl free ↦ free
         | inr held ↦ absurd (false≢true (sym (not_got g none outside) ∙ held))
       ] in
       ap (λ (m : Whole). free_bit m g) list_back ∙ free_stays later refl k (given ++ left) base (g / 256) (g / 64 % 4) (g % 64) later_kinds still
-    where
-      by_place : IsInOnePlace l g → holds own g ≡ false
-      by_place (inl o) = o.nobody k
-      by_place (inr (inl o)) = absurd (true≢false (sym was ∙ o.not_free))
-      by_place (inr (inr o)) = absurd (true≢false (sym was ∙ o.not_free))
 
   free_beside : (x b : ℕ) → page ≢ x → b < 256 → is_free w x b ≡ true → is_free v x b ≡ true
   free_beside x b ne lt h =
@@ -458,39 +426,19 @@ module _ (f : Profile) (k name heap class : ℕ) (p : Progress) (w : World) (has
       ∙ (ap (λ (x : ℕ). is_set slots.starts (start_of slots.class x)) at_grain ∙ (ap (is_set slots.starts) begins ∙ gives.lowest.set)) in
       sym (holds_search (256 * page + start)) ∙ (gains.does.held (256 * page + start) ∙ ap (λ (t : Bool). has_now (if t then Gained else Kept) (holds own (256 * page + start))) inside)
 
-  never_read : (xs : List Made) → Legal f (triples k xs ++ base) → Only returning xs → Once (ReadsAllFree page (start / 64)) xs → ⊥
-  never_read [] all only h = h
-  never_read (m ∷ xs) all only (inr h) = never_read xs all.1 only.1 h
-  never_read (m ∷ xs) all only (inl h) = by_place (in_one_place f (triples k xs ++ base) has.valid all.1 (256 * page + start))
+  taken : (xs : List Made) → Legal f (triples k xs ++ base) → Only returning xs → free_bit (triples k xs ++ base) (256 * page + start) ≡ true → ⊥
+  taken xs legal only free = false≢true (sym (free_unheld f (triples k xs ++ base) has.valid legal (256 * page + start) free k) ∙ held)
     where
-      word : free_word_at (256 * page + start) ≡ Word.Free page (start / 64)
-      word =
-          let lt = small in
-          let at_page : (256 * page + start) / 256 ≡ page = omega (arith, lt) in
-          let at_word : (256 * page + start) / 64 % 4 ≡ start / 64 = omega (arith, lt) in
-          ap (λ (x : ℕ). Word.Free x ((256 * page + start) / 64 % 4)) at_page ∙ ap (λ (u : ℕ). Word.Free page u) at_word
-
-      free : free_bit (triples k xs ++ base) (256 * page + start) ≡ true
-      free =
-          let answer : m.answer ≡ word_after (triples k xs ++ base) (free_word_at (256 * page + start)) =
-          all.0.answer_is ∙ (ap (λ (s : Step). word_after (triples k xs ++ base) (target s)) h.0 ∙ ap (word_after (triples k xs ++ base)) (sym word)) in
-          ap (λ (x : ℕ). has_bit x ((256 * page + start) % 64)) (sym answer) ∙ h.1 ((256 * page + start) % 64) (omega arith)
-
       held : holds (part k (triples k xs ++ base)) (256 * page + start) ≡ true
       held =
           ap (λ (u : View). holds u (256 * page + start)) (part_of_own k xs base ∙ ap (λ (u : View). xs ++ u) (part_of_own k search l))
-          ∙ (holds_same returning refl (256 * page + start) xs (search ++ own) only.1 ∙ first_held)
-
-      by_place : IsInOnePlace (triples k xs ++ base) (256 * page + start) → ⊥
-      by_place (inl o) = false≢true (sym (o.nobody k) ∙ held)
-      by_place (inr (inl o)) = true≢false (sym free ∙ o.not_free)
-      by_place (inr (inr o)) = true≢false (sym free ∙ o.not_free)
+          ∙ (holds_same returning refl (256 * page + start) xs (search ++ own) only ∙ first_held)
 
   legal_left : Legal f (triples k left ++ base)
   legal_left = subst (Legal f) (sym (triples_append k left search l)) legal_refill
 
   unhinted : (t : Bool) → LeavesWhere t page d left → HintsPage page left → ⊥
-  unhinted true leaves h = let lt = small in never_read left legal_left got.after_kinds ((hint_read page left (hints_of left (leave_due page d left leaves)) h).free (start / 64) (omega (arith, lt)))
+  unhinted true leaves h = let lt = small in never_read f k base returning page start small taken left legal_left got.after_kinds ((hint_read page left (hints_of left (leave_due page d left leaves)) h).free (start / 64) (omega (arith, lt)))
   unhinted false none h = subst (HintsPage page) none h
 
   own_hint : HintsPage page ((given ++ left) ++ search) → empty_bit l page ≡ true
@@ -551,15 +499,7 @@ module _ (f : Profile) (k name heap class : ℕ) (p : Progress) (w : World) (has
 
     offered_after : (e : Directory) → IsDirectoryOf f e → eligible_bit q.list (number_of e) page ≡ true → is_offered v e page ≡ true
     offered_after e of_e bit =
-        let r : ReadsRoom page d (given ++ left) = room_later page d given left (offer_left e bit) in
-        let tells = bit_tells f q v has.valid after same_now page e of_e (right_in_one_place f q.list after.legal page) bit in
-        let word : word_after q.list (Word.Deed page) ≡ deed_word_of e = deed_of f q.list after.legal page ∙ ap word_of_deed (deed_now f q v has.valid after same_now page e of_e tells.0) in
-        let known : known_deed (part k q.list) page ≡ word_after q.list (Word.Deed page) = known_is (known_deed (part k q.list) page) (word_after q.list (Word.Deed page)) (deeds_known f q.list after.legal k page) (λ none. deed_word_of-positive d (sym knows ∙ none)) in
-        let e_is : e ≡ d = same_from_deed_word e d of_e.kind has.directory.kind (sym word ∙ (sym known ∙ knows)) in
-        let free : has_bit (word_after q.list (Word.Free page (r.grain / 64))) (r.grain % 64) ≡ true =
-        ap (λ (m : Whole). has_bit (word_after m (Word.Free page (r.grain / 64))) (r.grain % 64)) list_back ∙ grain_read later refl f k base page r.grain (given ++ left) legal_back later_kinds r.read in
-        bit_offered f q v has.valid after same_now page e of_e bit
-        (open_from f q v has.valid after same_now e page r.grain r.small (ap (λ (x : Directory). usable_by_kind x.kind r.grain) e_is ∙ r.usable) (bit_at q.list page r.grain r.small ∙ free))
+        read_offered f q v has.valid after same_now later refl k base (given ++ left) list_back later_kinds page e d of_e bit has.directory.kind knows (room_later page d given left (offer_left e bit))
 
   own_offer : (e : Directory) → IsDirectoryOf f e → eligible_bit q.list (number_of e) page ≡ true → is_offered v e page ≡ true
   own_offer e of_e bit = by_right slots.right refl
@@ -580,7 +520,7 @@ module _ (f : Profile) (k name heap class : ℕ) (p : Progress) (w : World) (has
     caches = same_now.caches;
     guards = same_now.guards;
     names = ap (λ (b : Block). named name (Some b) ∷ (shown es w).names) (sym block_is) ∙ ap (λ (ns : List Named). named name (Some block) ∷ ns) ((shown_rest es w).names ∙ has.same.names);
-    records = ap (λ (rs : List Record). p.records ++ rs) (nothing_more (records_of (events_by k own (given ++ ys))))
+    records = ap (λ (rs : List Record). p.records ++ rs) (append-nil (records_of (events_by k own (given ++ ys))))
         ∙ (ap (λ (xs : List Event). p.records ++ records_of xs) events_are
         ∙ events_recorded p.records w.records v.records (Event.Give k block ∷ es) has.same.records
         (ap (λ (b : Block). Record.Event (Event.Give k b) ∷ (shown es w).records) (sym block_is) ∙ ap (λ (rs : List Record). Record.Event (Event.Give k block) ∷ rs) (shown_records es w)));

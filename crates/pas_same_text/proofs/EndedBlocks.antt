@@ -1,7 +1,9 @@
 -- What the text does where a block ends: its grains come back to its pages, and no other page changes.
-use Rattle.std.proofs.Common.{◌≡◌, ℕ, ◌+◌, ◌*◌, ◌==◌, nat_lt, Bool, true, false, not, ◌&&◌, ◌||◌, if◌then◌else◌, List, [], ◌∷◌, ◌++◌, length, Some, None, Option, inl, inr, refl, ap, sym, ◌∙◌}
+use Rattle.std.proofs.Common.{◌≡◌, ℕ, ◌+◌, ◌*◌, ◌==◌, nat_lt, Bool, true, false, not, ◌&&◌, if◌then◌else◌, List, [], ◌∷◌, ◌++◌, length, Some, None, inl, inr, refl, ap, sym, ◌∙◌}
 use Rattle.std.proofs.lemmas.Bool.{false≢true, eqb-true, eq-eqb}
+use Rattle.std.proofs.lemmas.Option.{same_Some}
 use Rattle.std.specs.List.{list_any, filter}
+use Rattle.std.proofs.Math.Bool.{or-false}
 use Rattle.pas_bits.specs.Runs.{in_run, meets_page}
 use Rattle.pas_profile.specs.Blocks.{address_of, grain_of, length_of}
 use Rattle.pas_profile.specs.Profiles.{IsPage}
@@ -31,12 +33,8 @@ rejected_returns f k name why w = record {
   backed = λ page. refl;
   grows = λ page b small h. h;
   others = λ page b of none small. refl;
-  hinted = λ page. no_more (is_hinted w page);
+  hinted = λ page. sym (or-false (is_hinted w page));
 }
-  where
-    no_more : (x : Bool) → x ≡ (x || false)
-    no_more true = refl
-    no_more false = refl
 
 -- ---- a block that ends
 module _ (f : Profile) (k : ℕ) (name : Name) (b : Live) (w : World) (run : Run f w.events) (live : w.live ≡ lives_in w.events) (lives : live_in w.events (address_of name) ≡ Some b) where
@@ -69,16 +67,12 @@ module _ (f : Profile) (k : ℕ) (name : Name) (b : Live) (w : World) (run : Run
       let o : LivesSo w.events (λ x. is_at (address_of name) x && has page g x) = lives_so f w.events (λ x. is_at (address_of name) x && has page g x) run (ap (list_any (λ x. is_at (address_of name) x && has page g x)) (sym live) ∙ h) in
       let at : address_of o.live.block.name ≡ address_of name = eqb-true (address_of o.live.block.name) (address_of name) (and_first (is_at (address_of name) o.live.block) (has page g o.live.block) o.so) in
       let there : live_in w.events (address_of name) ≡ Some o.live = ap (live_in w.events) (sym at ∙ o.at) ∙ o.lives in
-      let is : o.live ≡ b = ap (or_this b) (sym there ∙ lives) in
+      let is : o.live ≡ b = same_Some o.live b (sym there ∙ lives) in
       let meets : meets_page (grain_of b.block.name) (length_of b.block) page ≡ true =
       ap (λ (x : Live). meets_page (grain_of x.block.name) (length_of x.block) page) (sym is)
       ∙ and_first (meets_page (grain_of o.live.block.name) (length_of o.live.block) page) (in_run (grain_of o.live.block.name) (length_of o.live.block) (256 * page + g))
       (and_second (is_at (address_of name) o.live.block) (has page g o.live.block) o.so) in
       false≢true (sym none ∙ has_filtered (meets_page (grain_of b.block.name) (length_of b.block)) (page_numbers f) page meets (page_there f page of))
-    where
-      or_this : Live → Option Live → Live
-      or_this d None = d
-      or_this d (Some x) = x
 
   elsewhere : (page g : ℕ) → IsPage f page → has_number (pages_of f b.block) page ≡ false → is_covered (blocks_on w page) (256 * page + g) ≡ true → is_covered (blocks_on after page) (256 * page + g) ≡ true
   elsewhere page g of none h =

@@ -1,6 +1,7 @@
 -- One logged free by its steps: the event that they make, the block that ended, and what is noted, marked and hinted.
 use Rattle.std.proofs.Common.{◌≡◌, ℕ, zero, suc, ◌+◌, ◌*◌, ◌/◌, ◌%◌, ◌^◌, ◌<◌, ◌≤◌, ◌==◌, nat_lt, Bool, true, false, not, ◌&&◌, if◌then◌else◌, List, [], ◌∷◌, ◌++◌, Option, None, Some, inl, inr, refl, ap, sym, ◌∙◌, subst, arith}
 use Rattle.std.proofs.lemmas.Bool.{eq-eqb, true≢false}
+use Rattle.std.proofs.Math.Bool.{and-false}
 use Rattle.pas_bits.specs.Runs.{meets_page}
 use Rattle.pas_bits.proofs.Runs.{to_meet}
 use Rattle.pas_profile.specs.Blocks.{address_of, grain_of, length_of}
@@ -192,11 +193,7 @@ module _ (f : Profile) (k epoch : ℕ) (s : Settled) (piece : List Made) (l : Wh
       let n = guessed sized in
       let multiple = whole_room f (is_sized entry) entry e.guess sized ends_legal.0.of_region in
       let same : b.block.room ≡ entry.room = omega (arith, long, whole, n, multiple) in
-      ap (λ (t : Bool). is_sized entry && not t) (eq-eqb b.block.room entry.room same) ∙ no_more (is_sized entry)
-    where
-      no_more : (x : Bool) → (x && false) ≡ false
-      no_more true = refl
-      no_more false = refl
+      ap (λ (t : Bool). is_sized entry && not t) (eq-eqb b.block.room entry.room same) ∙ and-false (is_sized entry)
 
   pub found_block : e.answer ≡ live_word entry.name.turn e.guess → IsEndOfBlock f l entry e.guess
   found_block hit =

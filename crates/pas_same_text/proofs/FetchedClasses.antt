@@ -121,6 +121,13 @@ none_some : (xs : List ℕ) → ((g : ℕ) → has_number xs g ≡ false) → so
 none_some [] none = refl
 none_some (x ∷ xs) none = absurd (true≢false (sym (ap (λ (t : Bool). t || has_number xs x) (eq-eqb x x refl)) ∙ none x))
 
+-- slots keep the right of their page where the heap isn't shared
+pub keeps_unshared : (right shared : Bool) (a b : ℕ) → kind_of_class (not right) a ≡ kind_of_class shared b → right ≡ not shared
+keeps_unshared true false a b same = refl
+keeps_unshared false true a b same = refl
+keeps_unshared true true a b same = absurd (let bad : Kind.Class a ≡ Kind.Shared = same in cc)
+keeps_unshared false false a b same = absurd (let bad : Kind.Shared ≡ Kind.Class b = same in cc)
+
 -- ---- a thread without a local allocator of the heap and class may search for one
 same_class : (shared : Bool) (a b : ℕ) → kind_of_class false a ≡ kind_of_class shared b → a ≡ b
 same_class true a b is = absurd (let bad : Kind.Class a ≡ Kind.Shared = is in cc)

@@ -1,8 +1,9 @@
 -- FLUSHES as acts: all entries of a log take effect.
-use Rattle.std.proofs.Common.{◌≡◌, ℕ, ◌+◌, ◌*◌, ◌/◌, ◌%◌, ◌<◌, ◌==◌, Bool, true, false, if◌then◌else◌, List, [], ◌∷◌, ◌++◌, map, reverse, Option, None, Some, refl, ap, sym, ◌∙◌, subst, arith}
-use Rattle.std.proofs.lemmas.Bool.{true≢false, false≢true, eqb-true, eqb-false}
+use Rattle.std.proofs.Common.{◌≡◌, ℕ, ◌+◌, ◌*◌, ◌/◌, ◌%◌, ◌<◌, ◌==◌, Bool, true, false, if◌then◌else◌, List, [], ◌∷◌, ◌++◌, map, reverse, Some, refl, ap, sym, ◌∙◌, subst, arith}
+use Rattle.std.proofs.lemmas.Bool.{true≢false, eqb-true, eqb-false}
 use Rattle.std.proofs.lemmas.Grind.{reverse_onto}
 use Rattle.std.proofs.lemmas.List.{reverse-append}
+use Rattle.std.proofs.lemmas.Option.{none-some}
 use Rattle.pas_bits.proofs.Runs.{IsMet, met}
 use Rattle.pas_profile.specs.Blocks.{length_of}
 use Rattle.pas_profile.specs.Profiles.{IsValid, IsPage, IsDirectoryOf}
@@ -122,17 +123,13 @@ module _ (f : Profile) (p p' : Progress) (w v : World) (pages : List ℕ) (valid
       (λ a b lives of_it. other o g m.of_run a b lives of_it) in
       open_from f p' v valid after same d q (g % 256) small may (ap (free_bit p'.list) whole ∙ free)
     where
-      is_some : Option Live → Bool
-      is_some None = false
-      is_some (Some l) = true
-
       other : (o : IsEndedOn w.events v.events pages q) (g : ℕ) → IsPartOf g o.address o.block → (a : ℕ) (b : Live) → live_in (visible p'.list) a ≡ Some b → IsPartOf g a b → ⊥
       other o g of_own a b lives of_it = by_address (o.address == a) refl
         where
           by_address : (t : Bool) → (o.address == a) ≡ t → ⊥
           by_address true e =
               let same_address : o.address ≡ a = eqb-true o.address a e in
-              false≢true (ap is_some (sym o.gone ∙ (ap (live_in v.events) same_address ∙ (ap (λ (es : List Event). live_in es a) same.events ∙ lives))))
+              none-some b (sym o.gone ∙ (ap (live_in v.events) same_address ∙ (ap (λ (es : List Event). live_in es a) same.events ∙ lives)))
           by_address false e =
               let was : live_in w.events a ≡ Some b = fewer.lives a b (ap (λ (es : List Event). live_in es a) same.events ∙ lives) in
               true≢false (sym of_it ∙ live_apart f w.events run o.address a o.block b o.lived was (eqb-false o.address a e) g of_own)

@@ -1,6 +1,6 @@
 -- What a flush shows: one event for each logged free, in the order of the log.
 use Rattle.std.proofs.Common.{◌≡◌, ℕ, ◌==◌, nat_lt, Bool, true, false, not, ◌&&◌, if◌then◌else◌, List, [], ◌∷◌, refl, ap, sym, ◌∙◌, subst}
-use Rattle.std.proofs.lemmas.Bool.{false≢true, true≢false}
+use Rattle.std.proofs.lemmas.Bool.{true≢false, not-true}
 use Rattle.pas_profile.specs.Lives.{turn_of}
 use Rattle.pas_profile.specs.declared.event.Event.{Event}
 use Rattle.pas_profile.specs.declared.event.Why.{Why}
@@ -17,6 +17,7 @@ use Rattle.pas_one_text.specs.Frees.{ends}
 use Rattle.pas_same_text.specs.Entries.{IsShown, IsEntryReason, IsEntryEvent, HaveOutcomes, are_unsized, onto, events_of_flush, HasShown}
 use Rattle.pas_same_text.specs.Same.{lives_in}
 use Rattle.pas_same_text.proofs.EntryEvents.{entry_shown}
+use Rattle.pas_same_text.proofs.Tests.{and_first, and_second}
 
 -- ---- one
 reason_named : (entry : Entry) (sized : Bool) (read : ℕ) → is_sized entry ≡ sized → sized ≡ false → IsEntryReason entry (reason_by sized entry read)
@@ -41,8 +42,8 @@ flush_shown f k epoch (entry ∷ entries) [] w pairs unsized live now run = absu
 flush_shown f k epoch (entry ∷ entries) (o ∷ outcomes) w pairs unsized live now run =
     let e : Event = event_for k epoch entry o in
     let evs : List Event = events_of_flush k epoch entries outcomes in
-    let own : is_sized entry ≡ false = unsized_head (is_sized entry) (are_unsized entries) unsized in
-    let rest : are_unsized entries ≡ true = unsized_tail (is_sized entry) (are_unsized entries) unsized in
+    let own : is_sized entry ≡ false = not-true (is_sized entry) (and_first (not (is_sized entry)) (are_unsized entries) unsized) in
+    let rest : are_unsized entries ≡ true = and_second (not (is_sized entry)) (are_unsized entries) unsized in
     let v : World = ends f k entry w in
     let one : IsShown e w v = entry_shown f k entry w live e (run_before f evs (e ∷ w.events) run) (entry_event k epoch entry o w own now) in
     let alive : v.live ≡ lives_in v.events = one.live ∙ (ap (live_after e) live ∙ ap lives_in (sym one.events)) in
@@ -53,11 +54,3 @@ flush_shown f k epoch (entry ∷ entries) (o ∷ outcomes) w pairs unsized live 
       names = more.names ∙ one.names;
       epoch = more.epoch ∙ one.epoch;
     }
-  where
-    unsized_head : (x y : Bool) → (not x && y) ≡ true → x ≡ false
-    unsized_head true y h = sym h
-    unsized_head false y h = refl
-
-    unsized_tail : (x y : Bool) → (not x && y) ≡ true → y ≡ true
-    unsized_tail true y h = absurd (false≢true h)
-    unsized_tail false y h = h

@@ -1,9 +1,10 @@
 -- A FLUSH, entry by entry: its steps beside what the text does.
-use Rattle.std.proofs.Common.{◌≡◌, ℕ, zero, suc, ◌-◌, ◌/◌, ◌<◌, ◌≤◌, ◌==◌, nat_lt, Bool, true, false, ◌||◌, if◌then◌else◌, List, [], ◌∷◌, ◌++◌, length, map, reverse, take, Option, None, Some, inl, inr, refl, ap, sym, ◌∙◌, subst, append_assoc, length-append, arith}
+use Rattle.std.proofs.Common.{◌≡◌, ℕ, zero, suc, ◌-◌, ◌/◌, ◌<◌, ◌≤◌, ◌==◌, nat_lt, Bool, true, false, if◌then◌else◌, List, [], ◌∷◌, ◌++◌, length, map, reverse, take, Option, None, Some, inl, inr, refl, ap, sym, ◌∙◌, subst, append_assoc, length-append, arith, append-nil}
 use Rattle.std.specs.Prelude.{option_to_list}
-use Rattle.std.proofs.lemmas.Bool.{eq-eqb, false≢true}
+use Rattle.std.proofs.lemmas.Bool.{eq-eqb, or_left, or_right}
 use Rattle.std.proofs.lemmas.Bool.Decides.{nat_tests}
 use Rattle.std.proofs.lemmas.Grind.{reverse_onto}
+use Rattle.std.proofs.lemmas.Option.{same_Some, none-some}
 use Rattle.std.specs.List.{flat_map}
 use Rattle.pas_bits.specs.Runs.{meets_page}
 use Rattle.pas_profile.specs.Blocks.{address_of, grain_of, length_of}
@@ -62,11 +63,7 @@ take_both (suc k) [] ys = ap (λ n. take n ys) {y = suc k} (omega arith)
 take_both (suc k) (x ∷ xs) ys = ap (λ n. x ∷ take k xs ++ take n ys) (omega arith) ∙ ap (λ zs. x ∷ zs) (take_both k xs ys)
 
 flat_both : (h : Settled → List EndedRun) (xs : List Settled) (x : Settled) → flat_map h (xs ++ x ∷ []) ≡ flat_map h xs ++ h x
-flat_both h [] x = nothing_after (h x)
-  where
-    nothing_after : (ys : List EndedRun) → ys ++ [] ≡ ys
-    nothing_after [] = refl
-    nothing_after (y ∷ ys) = ap (λ (zs : List EndedRun). y ∷ zs) (nothing_after ys)
+flat_both h [] x = append-nil (h x)
 flat_both h (y ∷ xs) x = ap (λ (zs : List EndedRun). h y ++ zs) (flat_both h xs x) ∙ sym (append_assoc (h y) (flat_map h xs) (h x))
 
 noted_more : (es : List EndedRun) (s : Settled) (settled : List Settled) → noted_after es (s ∷ settled) ≡ noted_after es settled ++ take (64 - length (noted_after es settled)) (noted_for s)
@@ -79,16 +76,12 @@ noted_more es s settled =
     ∙ (sym (append_assoc es (take n xs) (take (n - length (take n xs)) (noted_for s)))
     ∙ ap (λ (m : ℕ). (es ++ take n xs) ++ take m (noted_for s)) (omega (arith, long))))
 
-nothing_more : {A : Type 0} (xs : List A) → xs ++ [] ≡ xs
-nothing_more [] = refl
-nothing_more {A} (x ∷ xs) = ap (λ (ys : List A). x ∷ ys) (nothing_more xs)
-
 take_none : {A : Type 0} (n : ℕ) → take {A = A} n [] ≡ []
 take_none zero = refl
 take_none (suc n) = refl
 
 noted_start : (es : List EndedRun) → noted_after es [] ≡ es
-noted_start es = ap (λ (xs : List EndedRun). es ++ xs) (take_none (64 - length es)) ∙ nothing_more es
+noted_start es = ap (λ (xs : List EndedRun). es ++ xs) (take_none (64 - length es)) ∙ append-nil es
 
 -- one run at most
 room_for : (noted : List EndedRun) (o : Option EndedRun) (t : Bool) → nat_lt (length noted) 64 ≡ t → (if t then noted ++ option_to_list o else noted) ≡ noted ++ take (64 - length noted) (option_to_list o)
@@ -101,7 +94,7 @@ room_for noted (Some run) true e = let lt : length noted < 64 = grind (arith, na
 room_for noted o false e =
     let le : 64 ≤ length noted = grind (arith, nat_tests, e) in
     let none : 64 - length noted ≡ 0 = omega (arith, le) in
-    sym (ap (λ (n : ℕ). noted ++ take n (option_to_list o)) none ∙ nothing_more noted)
+    sym (ap (λ (n : ℕ). noted ++ take n (option_to_list o)) none ∙ append-nil noted)
 
 -- ---- lists of entries
 each_last : {A : Type 0} (does : A → World → World) (xs : List A) (x : A) (w : World) → each does (xs ++ x ∷ []) w ≡ does x (each does xs w)
@@ -122,14 +115,6 @@ pub record OnlyFewer (es es' : List Event) : Type 0 where
   pub lives : (a : ℕ) (b : Live) → live_in es' a ≡ Some b → live_in es a ≡ Some b
   pub deeds : (page : ℕ) → deed_in es' page ≡ deed_in es page
 
-or_left : (x y : Bool) → x ≡ true → (x || y) ≡ true
-or_left true y h = refl
-or_left false y h = absurd (false≢true h)
-
-or_right : (x y : Bool) → y ≡ true → (x || y) ≡ true
-or_right true y h = refl
-or_right false y h = h
-
 -- what the event for an entry does to the live blocks
 still_gone : (k epoch : ℕ) (entry : Entry) (o : Outcome) (es : List Event) (a : ℕ) → live_in es a ≡ None → live_in (event_for k epoch entry o ∷ es) a ≡ None
 still_gone k epoch entry (Ended grains) es a h = by_test (address_of entry.name == a)
@@ -142,12 +127,8 @@ still_gone k epoch entry (Refused read) es a h = h
 fewer_one : (k epoch : ℕ) (entry : Entry) (o : Outcome) (es : List Event) → OnlyFewer es (event_for k epoch entry o ∷ es)
 fewer_one k epoch entry (Ended grains) es = record { lives = λ a b h. by_test a b (address_of entry.name == a) h; deeds = λ page. refl }
   where
-    is_some : Option Live → Bool
-    is_some None = false
-    is_some (Some l) = true
-
     by_test : (a : ℕ) (b : Live) (t : Bool) → (if t then None else live_in es a) ≡ Some b → live_in es a ≡ Some b
-    by_test a b true h = absurd (false≢true (ap is_some h))
+    by_test a b true h = absurd (none-some b h)
     by_test a b false h = h
 fewer_one k epoch entry (Refused read) es = record { lives = λ a b h. h; deeds = λ page. refl }
 
@@ -184,10 +165,6 @@ pub record IsTakenBy (f : Profile) (k : ℕ) (s : Settled) (piece : List Made) (
 
 abbrev own_then : Settled → World → ℕ → Cache
 own_then s v k = record (cache_of v k) { noted = noted_of v k ++ take (64 - length (noted_of v k)) (noted_for s) }
-
-abbrev or_this : Live → Option Live → Live
-or_this d None = d
-or_this d (Some x) = x
 
 module _ (f : Profile) (k epoch : ℕ) (s : Settled) (piece : List Made) (l : Whole) (valid : IsValid f) (legal : Legal f (triples k piece ++ l)) (is : EntrySteps s piece) (known : epoch_of (part k l) ≡ epoch)
     (v : World) (live : v.live ≡ lives_in v.events) (events : v.events ≡ visible l) (now : v.epoch ≡ epoch) where
@@ -231,7 +208,7 @@ module _ (f : Profile) (k epoch : ℕ) (s : Settled) (piece : List Made) (l : Wh
 
     ended_shown : IsShown (Event.End k s.entry.name epoch) v x
     ended_shown = subst (λ (e : ℕ). IsShown (Event.End k s.entry.name e) v x) now
-        (end_shown f k s.entry v live (b, lives, found.turn) (λ b' there. subst (λ (c : Live). is_other_room s.entry c.block ≡ false) (ap (or_this b) (sym lives ∙ there)) found.room))
+        (end_shown f k s.entry v live (b, lives, found.turn) (λ b' there. subst (λ (c : Live). is_other_room s.entry c.block ≡ false) (same_Some b b' (sym lives ∙ there)) found.room))
 
     run_same : large_run b.block.name (length_of b.block) (deed_in v.events (address_of b.block.name / 4096)) ≡ large_run s.entry.name grains s.directory
     run_same =
@@ -290,7 +267,7 @@ module _ (f : Profile) (k epoch : ℕ) (s : Settled) (piece : List Made) (l : Wh
     none_noted : own_then s v k ≡ cache_of v k
     none_noted = ap (λ (runs : List EndedRun). record (cache_of v k) { noted = runs })
         (ap (λ (runs : List EndedRun). noted_of v k ++ take (64 - length (noted_of v k)) runs) (ap (noted_by s.entry.name s.directory) outcome)
-        ∙ (ap (λ (runs : List EndedRun). noted_of v k ++ runs) (take_none (64 - length (noted_of v k))) ∙ nothing_more (noted_of v k)))
+        ∙ (ap (λ (runs : List EndedRun). noted_of v k ++ runs) (take_none (64 - length (noted_of v k))) ∙ append-nil (noted_of v k)))
 
     rejected_taken : IsTakenBy f k s piece v x (own_then s v k)
     rejected_taken = subst (λ (w : World). IsTakenBy f k s piece v w (own_then s v k)) (sym rejected_text) (record {

@@ -1,21 +1,27 @@
 -- The events of a flush, by its steps and in the text.
-use Rattle.std.proofs.Common.{◌≡◌, ℕ, true, List, [], ◌∷◌, ◌++◌, map, reverse, refl, ap, sym, ◌∙◌, subst, append_assoc}
+use Rattle.std.proofs.Common.{◌≡◌, ℕ, true, List, [], ◌∷◌, ◌++◌, map, reverse, refl, ap, sym, ◌∙◌, subst, append_assoc, Some, if◌then◌else◌, Bool}
 use Rattle.std.proofs.lemmas.Grind.{reverse_onto}
 use Rattle.std.proofs.lemmas.List.{reverse-reverse}
 use Rattle.pas_profile.specs.declared.event.Event.{Event}
 use Rattle.pas_profile.specs.declared.profile.Profile.{Profile}
 use Rattle.pas_profile.specs.declared.word.Word.TheVariants as Word
+use Rattle.pas_profile.specs.Blocks.{address_of}
+use Rattle.pas_profile.specs.declared.name.Block.{Block}
 use Rattle.pas_machine.specs.Machine.{Run}
+use Rattle.pas_machine.specs.State.{live_in}
 use Rattle.pas_steps.specs.Desks.{made, triple, triples}
 use Rattle.pas_steps.specs.Events.{event_of, events_by, with_event}
 use Rattle.pas_steps.specs.Lists.{Whole, part, visible, Legal}
 use Rattle.pas_steps.specs.Views.{View, epoch_of}
 use Rattle.pas_steps.specs.declared.step.Made.{Made}
 use Rattle.pas_steps.specs.declared.step.Step.TheVariants.{Look}
+use Rattle.pas_steps.specs.Kinds.{Kinds, Only, apart, showing}
 use Rattle.pas_steps.proofs.Adding.{triples_append}
 use Rattle.pas_steps.proofs.Frames.{with_append}
 use Rattle.pas_steps.proofs.Parts.{part_of_own}
+use Rattle.pas_steps.proofs.Apart.{no_events}
 use Rattle.pas_core.proofs.MachineRuns.{runs}
+use Rattle.pas_core.proofs.OneActor.{legal_earlier}
 use Rattle.pas_free_log.specs.Flushes.{Settled, shown_for}
 use Rattle.pas_free_log.specs.declared.ending.Outcome.{Outcome}
 use Rattle.pas_free_log.specs.declared.log.Entry.{Entry}
@@ -25,6 +31,7 @@ use Rattle.pas_one_text.specs.Frees.{ends, flushes}
 use Rattle.pas_same_text.specs.Entries.{HaveOutcomes, events_of_flush, are_unsized, onto, HasShown, IsFlushOf}
 use Rattle.pas_same_text.specs.Same.{lives_in}
 use Rattle.pas_same_text.proofs.FlushEvents.{flush_shown}
+use Rattle.pas_same_text.proofs.Tests.{eqb_itself}
 
 -- ---- lists
 onto_is : (xs es : List Event) → onto xs es ≡ reverse xs ++ es
@@ -63,6 +70,20 @@ visible_steps k (m ∷ steps) l =
     ap (λ (v : View). with_event (event_of k (epoch_of v) m.step m.answer) (visible (triples k steps ++ l))) (part_of_own k steps l)
     ∙ (ap (with_event (event_of k (epoch_of (steps ++ part k l)) m.step m.answer)) (visible_steps k steps l)
     ∙ with_append (event_of k (epoch_of (steps ++ part k l)) m.step m.answer) (events_by k (part k l) steps) (visible l))
+
+-- steps between others are legal where they were made
+pub legal_between : (f : Profile) (k : ℕ) (after steps before : List Made) (l : Whole) → Legal f (triples k (after ++ (steps ++ before)) ++ l) → Legal f (triples k steps ++ (triples k before ++ l))
+legal_between f k after steps before l legal = subst (Legal f) (sym (triples_append k steps before l)) (legal_earlier f k after (steps ++ before) l legal)
+
+pub unshown : (ks : Kinds) → apart ks showing ≡ true → (k : ℕ) (steps : List Made) (l : Whole) → Only ks steps → visible (triples k steps ++ l) ≡ visible l
+unshown ks w k steps l only = visible_steps k steps l ∙ ap (λ (es : List Event). es ++ visible l) (no_events ks w k (part k l) steps only)
+
+-- a block that steps gave lives after steps without events
+pub given_lives : (ks : Kinds) → apart ks showing ≡ true → (k : ℕ) (xs steps : List Made) (l : Whole) (block : Block) (es : List Event) → Only ks xs → events_by k (part k l) steps ≡ Event.Give k block ∷ es
+    → live_in (visible (triples k xs ++ (triples k steps ++ l))) (address_of block.name) ≡ Some (record { actor = k; block = block })
+given_lives ks w k xs steps l block es only given =
+    ap (λ (evs : List Event). live_in evs (address_of block.name)) (unshown ks w k xs (triples k steps ++ l) only ∙ (visible_steps k steps l ∙ ap (λ (evs : List Event). evs ++ visible l) given))
+    ∙ ap (λ (t : Bool). if t then Some (record { actor = k; block = block }) else live_in (es ++ visible l) (address_of block.name)) (eqb_itself (address_of block.name))
 
 legal_before : (f : Profile) (xs l : Whole) → Legal f (xs ++ l) → Legal f l
 legal_before f [] l legal = legal

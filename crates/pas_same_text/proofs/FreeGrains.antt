@@ -1,9 +1,11 @@
 -- A grain is free in the text exactly where its bit is set or a guard has its page, and a page is kept exactly where an actor has its right: whenever all
 -- actors are at rest.
-use Rattle.std.proofs.Common.{◌≡◌, ℕ, ◌+◌, ◌*◌, ◌/◌, ◌<◌, ◌≤◌, ◌≢◌, Bool, true, false, not, ◌&&◌, ◌||◌, List, length, Some, ◌⊎◌, inl, inr, refl, ap, sym, ◌∙◌, subst, arith}
+use Rattle.std.proofs.Common.{◌≡◌, ℕ, ◌+◌, ◌*◌, ◌/◌, ◌<◌, ◌≤◌, ◌≢◌, Bool, true, false, not, ◌&&◌, ◌||◌, List, length, Some, ◌⊎◌, inl, inr, refl, ap, sym, ◌∙◌, subst, arith, ◌%◌}
 use Rattle.std.proofs.lemmas.Bool.{eq-eqb, eqb-true, false≢true, true≢false, or_cases, or_left, or_right, false_from_ne_true, cases_lt}
 use Rattle.std.specs.List.{list_any}
+use Rattle.std.proofs.Math.Bool.{and-false, or-false}
 use Rattle.pas_bits.specs.Runs.{in_run, meets_page}
+use Rattle.pas_bits.specs.Bits.{has_bit}
 use Rattle.pas_bits.proofs.Runs.{run_meets}
 use Rattle.pas_profile.specs.Blocks.{address_of, length_of}
 use Rattle.pas_profile.specs.Blocks.{grain_of as first_grain}
@@ -12,9 +14,11 @@ use Rattle.pas_profile.specs.declared.name.Block.{Block}
 use Rattle.pas_profile.specs.declared.profile.Profile.{Profile}
 use Rattle.pas_machine.specs.State.{Live, live_in}
 use Rattle.pas_machine.proofs.LiveBlocks.{lives_where}
-use Rattle.pas_steps.specs.Lists.{part, visible}
+use Rattle.pas_steps.specs.Lists.{part, visible, word_after, Whole, Legal}
 use Rattle.pas_steps.specs.Views.{View, holds, has_right}
+use Rattle.pas_steps.specs.Effects.{free_word_at}
 use Rattle.pas_core.specs.Good.{IsPartOf, IsInOnePlace}
+use Rattle.pas_core.specs.Rights.{free_of_page}
 use Rattle.pas_core.proofs.MachineRuns.{runs, in_one_place}
 use Rattle.pas_core.proofs.Offers.{no_other_actor}
 use Rattle.pas_segregated.specs.declared.slots.Slots.{Slots}
@@ -31,7 +35,7 @@ use Rattle.pas_same_text.specs.Words.{free_bit}
 use Rattle.pas_same_text.proofs.LiveBlocks.{LivesSo, lives_so, lives_listed}
 use Rattle.pas_same_text.proofs.OuterPages.{guarded_by, outer_guarded}
 use Rattle.pas_same_text.proofs.Slots.{has_grain, grains_same, IsOfCache, of_cache, in_all, cached_any, any_cached}
-use Rattle.pas_same_text.proofs.Tests.{and_second, any_filtered, filtered_any}
+use Rattle.pas_same_text.proofs.Tests.{and_second, any_filtered, filtered_any, on_page}
 
 -- ---- actors
 -- an actor that is neither the scavenger nor past the last thread is a thread
@@ -42,9 +46,30 @@ thread_or f k some few = let last : k ≤ f.threads = le_or (cases_lt f.threads 
     le_or (inl past) = absurd (few past)
     le_or (inr le) = le
 
--- grain b of a page is on it
-pub on_page : (page b : ℕ) → b < 256 → (256 * page + b) / 256 ≡ page
-on_page page b small = omega (arith, small)
+-- the bit of grain b of a page, as one of the words that a search reads
+pub bit_read : (l : Whole) (page b : ℕ) → free_bit l (256 * page + b) ≡ free_of_page l page b
+bit_read l page b =
+    let turned : 256 * page + b ≡ page * 256 + b = omega arith in
+    let bit : (256 * page + b) % 64 ≡ b % 64 = omega arith in
+    ap (λ (g : ℕ). has_bit (word_after l (free_word_at g)) ((256 * page + b) % 64)) turned
+    ∙ ap (λ (x : ℕ). has_bit (word_after l (free_word_at (page * 256 + b))) x) bit
+
+-- a free grain is held by nobody, and no live block has it
+pub free_unheld : (f : Profile) (l : Whole) → IsValid f → Legal f l → (g : ℕ) → free_bit l g ≡ true → (k : ℕ) → holds (part k l) g ≡ false
+free_unheld f l valid legal g free k = by_place (in_one_place f l valid legal g)
+  where
+    by_place : IsInOnePlace l g → holds (part k l) g ≡ false
+    by_place (inl o) = o.nobody k
+    by_place (inr (inl o)) = absurd (true≢false (sym free ∙ o.not_free))
+    by_place (inr (inr o)) = absurd (true≢false (sym free ∙ o.not_free))
+
+pub free_uncovered : (f : Profile) (l : Whole) → IsValid f → Legal f l → (g : ℕ) → free_bit l g ≡ true → (address : ℕ) (b : Live) → live_in (visible l) address ≡ Some b → IsPartOf g address b → ⊥
+free_uncovered f l valid legal g free address b lives of = by_place (in_one_place f l valid legal g)
+  where
+    by_place : IsInOnePlace l g → ⊥
+    by_place (inl o) = o.no_block address b lives of
+    by_place (inr (inl o)) = true≢false (sym free ∙ o.not_free)
+    by_place (inr (inr o)) = true≢false (sym free ∙ o.not_free)
 
 module _ (f : Profile) (p : Progress) (between : IsBetween f p) where
   -- whose outer page a page is, is an actor of the region
@@ -142,10 +167,6 @@ module _ (f : Profile) (p : Progress) (w : World) (valid : IsValid f) (between :
       (o.0, o.1, outer_held f p between o.0 (256 * page + b) (ap (is_outer (p.books o.0)) (on_page page b small) ∙ o.1))
 
   -- ---- A GRAIN
-  no_more : (x : Bool) → (x && false) ≡ false
-  no_more true = refl
-  no_more false = refl
-
   free_here : (page b : ℕ) → b < 256 → IsInOnePlace p.list (256 * page + b) → is_free w page b ≡ (free_bit p.list (256 * page + b) || is_guarded w page)
   free_here page b small (inl free) =
       ap (λ (t : Bool). not t && not (is_cached (locals_on w page) b)) (covered_none page (256 * page + b) free.no_block)
@@ -167,7 +188,7 @@ module _ (f : Profile) (p : Progress) (w : World) (valid : IsValid f) (between :
           let unguarded : is_guarded w page ≡ false = false_from_ne_true (is_guarded w page) (λ h.
           let o = guarded_held page b small h in never_both f p between held.actor (256 * page + b) page cached (ap (λ (j : ℕ). is_outer (p.books j) page) (alone o.0 o.2) ∙ o.1)) in
           ap (λ (t : Bool). not (is_covered (blocks_on w page) (256 * page + b)) && not t) (cached_some held.actor page b small is cached)
-          ∙ (no_more (not (is_covered (blocks_on w page) (256 * page + b)))
+          ∙ (and-false (not (is_covered (blocks_on w page) (256 * page + b)))
           ∙ sym (ap (λ (t : Bool). t || is_guarded w page) held.not_free ∙ unguarded))
 
       in_book : is_outer (p.books held.actor) page ≡ true → is_free w page b ≡ (free_bit p.list (256 * page + b) || is_guarded w page)
@@ -186,19 +207,14 @@ module _ (f : Profile) (p : Progress) (w : World) (valid : IsValid f) (between :
 
   -- of a page that no guard has; and where the bit is set
   pub free_unless : (page b : ℕ) → b < 256 → is_guarded w page ≡ false → is_free w page b ≡ free_bit p.list (256 * page + b)
-  free_unless page b small none = free_same page b small ∙ (ap (λ (t : Bool). free_bit p.list (256 * page + b) || t) none ∙ no_other (free_bit p.list (256 * page + b)))
-    where
-      no_other : (x : Bool) → (x || false) ≡ x
-      no_other true = refl
-      no_other false = refl
+  free_unless page b small none = free_same page b small ∙ (ap (λ (t : Bool). free_bit p.list (256 * page + b) || t) none ∙ or-false (free_bit p.list (256 * page + b)))
+
+  pub read_unless : (page b : ℕ) → b < 256 → is_guarded w page ≡ false → is_free w page b ≡ free_of_page p.list page b
+  read_unless page b small none = free_unless page b small none ∙ bit_read p.list page b
 
   pub bit_free : (page b : ℕ) → b < 256 → free_bit p.list (256 * page + b) ≡ true → is_free w page b ≡ true
   bit_free page b small bit = free_same page b small ∙ or_left (free_bit p.list (256 * page + b)) (is_guarded w page) bit
 
   pub bit_unguarded : (page b : ℕ) → b < 256 → free_bit p.list (256 * page + b) ≡ true → is_guarded w page ≡ false
-  bit_unguarded page b small bit = false_from_ne_true (is_guarded w page) (λ h. let o = guarded_held page b small h in by_place o.0 o.2 (in_one_place f p.list valid between.legal (256 * page + b)))
-    where
-      by_place : (k : ℕ) → holds (part k p.list) (256 * page + b) ≡ true → IsInOnePlace p.list (256 * page + b) → ⊥
-      by_place k held (inl free) = false≢true (sym (free.nobody k) ∙ held)
-      by_place k held (inr (inl one)) = true≢false (sym bit ∙ one.not_free)
-      by_place k held (inr (inr covered)) = true≢false (sym bit ∙ covered.not_free)
+  bit_unguarded page b small bit =
+      false_from_ne_true (is_guarded w page) (λ h. let o = guarded_held page b small h in false≢true (sym (free_unheld f p.list valid between.legal (256 * page + b) bit o.0) ∙ o.2))

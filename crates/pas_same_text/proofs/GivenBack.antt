@@ -1,8 +1,9 @@
 -- What the text does where grains come back to pages: which grains are free then, and which pages are hinted.
 use Rattle.std.proofs.Common.{◌≡◌, ℕ, zero, suc, ◌+◌, ◌<◌, ◌≤◌, ◌≢◌, ◌==◌, Bool, true, false, ◌&&◌, ◌||◌, if◌then◌else◌, List, [], ◌∷◌, ◌++◌, inl, inr, refl, ap, sym, ◌∙◌, arith}
-use Rattle.std.proofs.lemmas.Bool.{false≢true, true≢false, eqb-true, eq-eqb, or_cases, cases_eq}
+use Rattle.std.proofs.lemmas.Bool.{false≢true, true≢false, eqb-true, eq-eqb, or_cases, cases_eq, and_from, or_parts}
 use Rattle.std.proofs.lemmas.List.Folds.{list_any-append}
 use Rattle.std.specs.List.{list_any, filter}
+use Rattle.std.proofs.Math.Bool.{or-true, or-false}
 use Rattle.pas_bits.specs.Runs.{meets_page}
 use Rattle.pas_profile.specs.Blocks.{grain_of, length_of}
 use Rattle.pas_profile.specs.Profiles.{IsPage}
@@ -15,6 +16,7 @@ use Rattle.pas_one_text.specs.State.{Local, World, each}
 use Rattle.pas_one_text.specs.Pages.{each_of, is_free, is_free_of, is_empty, is_hinted, hints, minds, page_numbers}
 use Rattle.pas_same_text.specs.Same.{has_number}
 use Rattle.pas_same_text.proofs.CacheLists.{all_locals}
+use Rattle.pas_same_text.proofs.Tests.{and_first, and_second}
 
 -- ---- tests of numbers that follow each other
 pub each_same : (n from : ℕ) (test other : ℕ → Bool) → ((b : ℕ) → from ≤ b → b < from + n → test b ≡ other b) → each_of from n test ≡ each_of from n other
@@ -43,26 +45,14 @@ pub each_at : (n from b : ℕ) (test : ℕ → Bool) → each_of from n test ≡
 unfolding each_of
 each_at zero from b test h low high = absurd (omega (arith, low, high))
 each_at (suc n) from b test h low high = elim (cases_eq from b) [
-  | inl same ↦ ap test (sym same) ∙ and_one (test from) (each_of (from + 1) n test) h
-  | inr ne ↦ each_at n (from + 1) b test (and_two (test from) (each_of (from + 1) n test) h) (omega (arith, low, ne)) (omega (arith, high))
+  | inl same ↦ ap test (sym same) ∙ and_first (test from) (each_of (from + 1) n test) h
+  | inr ne ↦ each_at n (from + 1) b test (and_second (test from) (each_of (from + 1) n test) h) (omega (arith, low, ne)) (omega (arith, high))
 ]
-  where
-    and_one : (x y : Bool) → (x && y) ≡ true → x ≡ true
-    and_one true y h = refl
-    and_one false y h = h
-
-    and_two : (x y : Bool) → (x && y) ≡ true → y ≡ true
-    and_two true y h = h
-    and_two false y h = absurd (false≢true h)
 
 pub each_all : (n from : ℕ) (test : ℕ → Bool) → ((b : ℕ) → from ≤ b → b < from + n → test b ≡ true) → each_of from n test ≡ true
 unfolding each_of
 each_all zero from test all = refl
-each_all (suc n) from test all = both (test from) (each_of (from + 1) n test) (all from (omega arith) (omega arith)) (each_all n (from + 1) test (λ b low high. all b (omega (arith, low)) (omega (arith, high))))
-  where
-    both : (x y : Bool) → x ≡ true → y ≡ true → (x && y) ≡ true
-    both true y e h = h
-    both false y e h = absurd (false≢true e)
+each_all (suc n) from test all = and_from (test from) (each_of (from + 1) n test) (all from (omega arith) (omega arith)) (each_all n (from + 1) test (λ b low high. all b (omega (arith, low)) (omega (arith, high))))
 
 -- ---- what is free follows from the live blocks and the local allocators
 abbrev pub free_with : List Block → List Local → ℕ → ℕ → Bool
@@ -131,24 +121,16 @@ idle_kept w v page only =
     ∙ ap (λ (t : Bool). backed_in w.events page && t) (empty_kept w v page (λ b small. free_kept w v page b only.live (ap all_locals only.caches)))
 
 -- ---- which pages are hinted after pages were minded
-no_more : (x : Bool) → x ≡ (x || false)
-no_more true = refl
-no_more false = refl
-
 hinted_at : (page q : ℕ) (old : List ℕ) (t h same : Bool) → list_any (λ p. p == page) old ≡ h → (page == q) ≡ same
     → list_any (λ p. p == q) (if t then (if h then old else page ∷ old) else old) ≡ (list_any (λ p. p == q) old || (same && t))
 hinted_at page q old true true true e is =
     let here : list_any (λ p. p == q) old ≡ true = ap (λ (x : ℕ). list_any (λ p. p == x) old) (sym (eqb-true page q is)) ∙ e in
     here ∙ ap (λ (t : Bool). t || true) (sym here)
-hinted_at page q old true true false e is = no_more (list_any (λ p. p == q) old)
-hinted_at page q old true false true e is = ap (λ (t : Bool). t || list_any (λ p. p == q) old) is ∙ sym (or_true (list_any (λ p. p == q) old))
-  where
-    or_true : (x : Bool) → (x || true) ≡ true
-    or_true true = refl
-    or_true false = refl
-hinted_at page q old true false false e is = ap (λ (t : Bool). t || list_any (λ p. p == q) old) is ∙ no_more (list_any (λ p. p == q) old)
-hinted_at page q old false h true e is = no_more (list_any (λ p. p == q) old)
-hinted_at page q old false h false e is = no_more (list_any (λ p. p == q) old)
+hinted_at page q old true true false e is = sym (or-false (list_any (λ p. p == q) old))
+hinted_at page q old true false true e is = ap (λ (t : Bool). t || list_any (λ p. p == q) old) is ∙ sym (or-true (list_any (λ p. p == q) old))
+hinted_at page q old true false false e is = ap (λ (t : Bool). t || list_any (λ p. p == q) old) is ∙ sym (or-false (list_any (λ p. p == q) old))
+hinted_at page q old false h true e is = sym (or-false (list_any (λ p. p == q) old))
+hinted_at page q old false h false e is = sym (or-false (list_any (λ p. p == q) old))
 
 hinted_minded : (w : World) (page q : ℕ) → is_hinted (minds page w) q ≡ (is_hinted w q || ((page == q) && is_idle w page))
 hinted_minded w page q = of_if (is_idle w page) (is_hinted w page) ∙ hinted_at page q w.hinted (is_idle w page) (is_hinted w page) (page == q) refl refl
@@ -171,7 +153,7 @@ joined false true false false = refl
 joined false false r i = refl
 
 pub hinted_all : (pages : List ℕ) (w : World) (q : ℕ) → is_hinted (each minds pages w) q ≡ (is_hinted w q || (has_number pages q && is_idle w q))
-hinted_all [] w q = no_more (is_hinted w q)
+hinted_all [] w q = sym (or-false (is_hinted w q))
 hinted_all (page ∷ pages) w q =
     hinted_all pages (minds page w) q
     ∙ (ap (λ (t : Bool). is_hinted (minds page w) q || (has_number pages q && t)) (idle_kept w (minds page w) q (only_minds w page))
@@ -205,7 +187,7 @@ returns_nothing f w = record {
   backed = λ page. refl;
   grows = λ page b small h. h;
   others = λ page b of none small. refl;
-  hinted = λ page. no_more (is_hinted w page);
+  hinted = λ page. sym (or-false (is_hinted w page));
 }
 
 -- as far as nothing but what these tests read is the same
@@ -235,10 +217,6 @@ settled_hint false true false b c grows same = ends b c (same refl refl)
     ends false c e = sym e
 settled_hint false false q b c grows same = refl
 
-neither : (x y : Bool) → (x || y) ≡ false → (x ≡ false) × (y ≡ false)
-neither true y h = absurd (true≢false h)
-neither false y h = (refl, h)
-
 pub has_both : (ps qs : List ℕ) (page : ℕ) → has_number (ps ++ qs) page ≡ (has_number ps page || has_number qs page)
 has_both ps qs page = list_any-append (λ m. m == page) ps qs
 
@@ -255,7 +233,7 @@ module _ (f : Profile) (ps qs : List ℕ) (w v x : World) (a : Returns f ps w v)
     backed = λ page. b.backed page ∙ a.backed page;
     grows = λ page g small h. b.grows page g small (a.grows page g small h);
     others = λ page g of none small.
-        let each = neither (has_number ps page) (has_number qs page) (sym (has_both ps qs page) ∙ none) in
+        let each = or_parts (has_number ps page) (has_number qs page) (sym (has_both ps qs page) ∙ none) in
         b.others page g of each.1 small ∙ a.others page g of each.0 small;
     hinted = λ page.
         b.hinted page

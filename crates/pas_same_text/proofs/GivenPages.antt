@@ -1,6 +1,6 @@
 -- Pages after an act that only gives back: which are hinted, and which are offered.
-use Rattle.std.proofs.Common.{◌≡◌, ℕ, ◌+◌, ◌*◌, ◌/◌, ◌%◌, ◌<◌, Bool, true, false, not, ◌&&◌, ◌||◌, List, ◌++◌, Some, ◌⊎◌, inl, inr, refl, ap, sym, ◌∙◌, subst, arith}
-use Rattle.std.proofs.lemmas.Bool.{true≢false, false≢true, or_cases, false_from_ne_true, eq-eqb}
+use Rattle.std.proofs.Common.{◌≡◌, ℕ, ◌+◌, ◌*◌, ◌/◌, ◌%◌, ◌<◌, true, false, not, ◌&&◌, ◌||◌, List, ◌++◌, Some, ◌⊎◌, inl, inr, refl, ap, sym, ◌∙◌, subst, arith}
+use Rattle.std.proofs.lemmas.Bool.{true≢false, false≢true, or_cases, false_from_ne_true, eq-eqb, or_left, or_right, and_from, not-true, not-false}
 use Rattle.pas_profile.specs.Directories.{number_of}
 use Rattle.pas_profile.specs.Profiles.{IsValid, IsPage, IsDirectoryOf}
 use Rattle.pas_profile.specs.declared.directory.Directory.{Directory}
@@ -36,28 +36,16 @@ use Rattle.pas_same_text.proofs.RestingPages.{Fails, some_fails, is_open, is_ope
 use Rattle.pas_same_text.proofs.Tests.{and_first, and_second}
 
 -- ---- room
-no-not : (x : Bool) → not x ≡ true → x ≡ false
-no-not true h = absurd (false≢true h)
-no-not false h = refl
-
-not-no : (x : Bool) → not x ≡ false → x ≡ true
-not-no true h = refl
-not-no false h = absurd (true≢false h)
-
 -- a page with a free grain that its blocks may cover has room
 pub room_from : (w : World) (d : Directory) (page b : ℕ) → b < 256 → usable_by_kind d.kind b ≡ true → is_free w page b ≡ true → has_room w d page ≡ true
 room_from w d page b small usable free = ap not (false_from_ne_true (each_of 0 256 (λ x. not (usable_by_kind d.kind x && is_free w page x))) (λ all.
-    false≢true (sym (ap not (both (usable_by_kind d.kind b) (is_free w page b) usable free)) ∙ each_at 256 0 b (λ x. not (usable_by_kind d.kind x && is_free w page x)) all (omega arith) small)))
-  where
-    both : (x y : Bool) → x ≡ true → y ≡ true → (x && y) ≡ true
-    both true y e h = h
-    both false y e h = absurd (false≢true e)
+    false≢true (sym (ap not (and_from (usable_by_kind d.kind b) (is_free w page b) usable free)) ∙ each_at 256 0 b (λ x. not (usable_by_kind d.kind x && is_free w page x)) all (omega arith) small)))
 
 -- where free grains stay free, room stays
 pub room_grows : (w v : World) (d : Directory) (page : ℕ) → ((b : ℕ) → b < 256 → is_free w page b ≡ true → is_free v page b ≡ true) → has_room w d page ≡ true → has_room v d page ≡ true
 room_grows w v d page grows room =
-    let o : Fails 0 256 (λ b. not (usable_by_kind d.kind b && is_free w page b)) = some_fails 256 0 (λ b. not (usable_by_kind d.kind b && is_free w page b)) (no-not (each_of 0 256 (λ b. not (usable_by_kind d.kind b && is_free w page b))) room) in
-    let both : (usable_by_kind d.kind o.number && is_free w page o.number) ≡ true = not-no (usable_by_kind d.kind o.number && is_free w page o.number) o.fails in
+    let o : Fails 0 256 (λ b. not (usable_by_kind d.kind b && is_free w page b)) = some_fails 256 0 (λ b. not (usable_by_kind d.kind b && is_free w page b)) (not-true (each_of 0 256 (λ b. not (usable_by_kind d.kind b && is_free w page b))) room) in
+    let both : (usable_by_kind d.kind o.number && is_free w page o.number) ≡ true = not-false (usable_by_kind d.kind o.number && is_free w page o.number) o.fails in
     room_from v d page o.number o.high (and_first (usable_by_kind d.kind o.number) (is_free w page o.number) both)
     (grows o.number o.high (and_second (usable_by_kind d.kind o.number) (is_free w page o.number) both))
 
@@ -115,11 +103,7 @@ module _ (f : Profile) (p : Progress) (w : World) (valid : IsValid f) (between :
       let empty : is_empty w page ≡ true = each_all 256 0 (is_free w page) (λ b low high.
       let of : (256 * page + b) / 256 ≡ page = omega (arith, high) in
       bit_free f p w valid between same page b high (e.free (256 * page + b) of)) in
-      both (backed_in w.events page) (is_empty w page) (backed_is page ∙ backed) empty
-    where
-      both : (x y : Bool) → x ≡ true → y ≡ true → (x && y) ≡ true
-      both true y e h = h
-      both false y e h = absurd (false≢true e)
+      and_from (backed_in w.events page) (is_empty w page) (backed_is page ∙ backed) empty
 
   -- at rest such a page is hinted
   pub idle_hinted : (page : ℕ) → is_idle w page ≡ true → empty_bit p.list page ≡ true
@@ -140,18 +124,6 @@ module _ (f : Profile) (k : ℕ) (l : Whole) (p' : Progress) (w v : World) (step
   legal : Legal f (triples k steps ++ l)
   legal = subst (Legal f) list between.legal
 
-  or_left : (x y : Bool) → x ≡ true → (x || y) ≡ true
-  or_left true y h = refl
-  or_left false y h = absurd (false≢true h)
-
-  or_right : (x y : Bool) → y ≡ true → (x || y) ≡ true
-  or_right true y h = refl
-  or_right false y h = h
-
-  both : (x y : Bool) → x ≡ true → y ≡ true → (x && y) ≡ true
-  both true y e h = h
-  both false y e h = absurd (false≢true e)
-
   to_bit : (page : ℕ) → is_hinted v page ≡ true → empty_bit p'.list page ≡ true
   to_bit page h = elim (or_cases (is_hinted w page) (has_number given.pages page && is_idle v page) (sym (given.returns.hinted page) ∙ h)) [
     | inl old ↦ ap (λ (m : Whole). empty_bit m page) list ∙ hinted_stays freeing refl k steps l page given.kinds (sym (was.hinted page) ∙ old)
@@ -166,7 +138,7 @@ module _ (f : Profile) (k : ℕ) (l : Whole) (p' : Progress) (w v : World) (step
       at (inr new) =
           let empty : IsEmptyBacked (triples k steps ++ l) page = hinted_empty freeing f k l page refl refl steps legal given.kinds given.hints new in
           or_right (is_hinted w page) (has_number given.pages page && is_idle v page)
-          (both (has_number given.pages page) (is_idle v page) (given.marks page (hinted_page f p'.list between.legal page bit) new)
+          (and_from (has_number given.pages page) (is_idle v page) (given.marks page (hinted_page f p'.list between.legal page bit) new)
           (page_idle f p' v valid between same page (subst (λ (m : Whole). IsEmptyBacked m page) (sym list) empty)))
 
   from_offer : (page : ℕ) (d : Directory) → IsDirectoryOf f d → eligible_bit p'.list (number_of d) page ≡ true → is_offered v d page ≡ true

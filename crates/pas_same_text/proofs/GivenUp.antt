@@ -1,6 +1,6 @@
 -- What the text does where the local allocators of a cache go: their slots come back to their pages.
 use Rattle.std.proofs.Common.{◌≡◌, ℕ, ◌+◌, ◌-◌, ◌*◌, ◌≤◌, ◌==◌, Bool, true, false, not, ◌&&◌, ◌||◌, if◌then◌else◌, cond, List, [], ◌∷◌, ◌++◌, length, map, refl, ap, sym, ◌∙◌, subst, arith}
-use Rattle.std.proofs.lemmas.Bool.{eq-eqb, eqb-true, false≢true}
+use Rattle.std.proofs.lemmas.Bool.{eq-eqb, eqb-true, false≢true, or_right}
 use Rattle.std.proofs.lemmas.List.Folds.{list_any-append}
 use Rattle.std.proofs.lemmas.List.Sums.{sum_by-cons}
 use Rattle.std.specs.List.{list_any, count_by}
@@ -21,6 +21,7 @@ use Rattle.pas_same_text.proofs.CacheLists.{all_locals, own_with, many_with, wit
 use Rattle.pas_same_text.proofs.GivenBack.{Returns, OnlyHints, minded_last, all_only_hints, returns_nothing, returns_then}
 use Rattle.pas_same_text.proofs.SameLocals.{for_same}
 use Rattle.pas_same_text.proofs.Slots.{has_grain, cached_any, any_cached}
+use Rattle.pas_same_text.proofs.Tests.{or_none, and_more, weaker_at}
 
 -- ---- one local allocator of a heap and class
 abbrev pub AreUnique : List Local → Type 0
@@ -43,7 +44,7 @@ none_for heap class (s ∷ slots) (l ∷ ls) same none =
     ap (λ (t : Bool). if not t then l ∷ others heap class ls else others heap class ls) (for_same heap class s l same.0 ∙ at.0)
     ∙ ap (λ (xs : List Local). l ∷ xs) (none_for heap class slots ls same.1 at.1)
 
-own_counted : (c : ℕ) (t : Bool) → t ≡ true → cond t 1 0 + c ≤ 1 → c ≤ 0
+pub own_counted : (c : ℕ) (t : Bool) → t ≡ true → cond t 1 0 + c ≤ 1 → c ≤ 0
 own_counted c true e h = omega (arith, h)
 own_counted c false e h = absurd (false≢true e)
 
@@ -68,13 +69,7 @@ others_rest l ls unique = ap (λ (t : Bool). if not t then l ∷ others l.heap l
 
 -- ---- a cache that has other local allocators
 swap_at : (x : Bool) (c new : List Local) (p : Local → Bool) (rest more : List Local) → (list_any p new ≡ true → list_any p c ≡ true) → (list_any p rest ≡ true → list_any p more ≡ true) → list_any p (new ++ rest) ≡ true → list_any p (c ++ more) ≡ true
-swap_at x c new p rest more one all h = list_any-append p c more ∙ from (list_any p new) (list_any p rest) (list_any p c) (list_any p more) one all (sym (list_any-append p new rest) ∙ h)
-  where
-    from : (a b c d : Bool) → (a ≡ true → c ≡ true) → (b ≡ true → d ≡ true) → (a || b) ≡ true → (c || d) ≡ true
-    from true b true d one all h = refl
-    from true b false d one all h = absurd (false≢true (one refl))
-    from false b true d one all h = refl
-    from false b false d one all h = all h
+swap_at x c new p rest more one all h = list_any-append p c more ∙ weaker_at (list_any p new) (list_any p c) (list_any p rest) (list_any p more) one all (sym (list_any-append p new rest) ∙ h)
 
 given_at : (c : Cache) (cs : List Cache) (k : ℕ) (new : Cache) (p : Local → Bool) (t : Bool) → (list_any p new.locals ≡ true → list_any p (if t then c else cache_in cs (k - 1)).locals ≡ true)
     → ((list_any p new.locals ≡ true → list_any p (cache_in cs (k - 1)).locals ≡ true) → list_any p (all_locals (with_cache cs (k - 1) new)) ≡ true → list_any p (all_locals cs) ≡ true)
@@ -105,6 +100,31 @@ pub with_twice : (cs : List Cache) (k : ℕ) (a b : Cache) → with_cache (with_
 with_twice [] k a b = refl
 with_twice (c ∷ cs) k a b = twice_at c cs k a b (k == 1) refl (λ e. with_twice cs (k - 1) a b)
 
+-- ---- one local allocator goes
+module _ (f : Profile) (k : ℕ) (l : Local) (w : World) (page_of : IsPage f l.page) (less : (p : Local → Bool) → list_any p (others l.heap l.class (locals_of w k)) ≡ true → list_any p (locals_of w k) ≡ true)
+    (rest : (p : Local → Bool) → p l ≡ false → list_any p (locals_of w k) ≡ true → list_any p (others l.heap l.class (locals_of w k)) ≡ true) where
+  abbrev fewer : Cache
+  fewer = record (cache_of w k) { locals = others l.heap l.class (locals_of w k) }
+
+  abbrev without_one : World
+  without_one = set_locals k (others l.heap l.class (locals_of w k)) w
+
+  cached_less : (page b : ℕ) → is_cached (locals_on without_one page) b ≡ true → is_cached (locals_on w page) b ≡ true
+  cached_less page b h = any_cached w.caches page b (any_with w.caches k fewer (has_grain page b) (less (has_grain page b)) (cached_any without_one.caches page b h))
+
+  cached_other : (page b : ℕ) → (l.page == page) ≡ false → is_cached (locals_on w page) b ≡ true → is_cached (locals_on without_one page) b ≡ true
+  cached_other page b none h = any_cached without_one.caches page b
+      (with_any w.caches k fewer (has_grain page b) (rest (has_grain page b) (ap (λ (t : Bool). t && list_any (λ s. in_run s (class_grains l.class) b) l.slots) none)) (cached_any w.caches page b h))
+
+  pub one_returns : Returns f (l.page ∷ []) w (gives_up k l w)
+  one_returns = minded_last f (l.page ∷ []) w without_one
+      (λ page h. subst (IsPage f) (eqb-true l.page page (or_none (l.page == page) h)) page_of)
+      (λ page. refl)
+      (λ page b small h. and_more (not (is_covered (blocks_on w page) (256 * page + b))) (is_cached (locals_on w page) b) (is_cached (locals_on without_one page) b) (cached_less page b) h)
+      (λ page b of none small. ap (λ (t : Bool). not (is_covered (blocks_on w page) (256 * page + b)) && not t)
+      (same_truth (is_cached (locals_on without_one page) b) (is_cached (locals_on w page) b) (cached_less page b) (cached_other page b (or_none (l.page == page) none))))
+      refl
+
 -- ==== A CACHE IS GIVEN UP: these local allocators of it, in order
 pub record IsGivenUp (f : Profile) (k : ℕ) (ls : List Local) (w v : World) : Type 0 where
   pub events : v.events ≡ w.events
@@ -128,43 +148,10 @@ module _ (f : Profile) (k : ℕ) (l : Local) (ls : List Local) (w : World) (is :
   left = ap (others l.heap l.class) is ∙ others_rest l ls unique
 
   any_left : (p : Local → Bool) → list_any p new.locals ≡ true → list_any p (locals_of w k) ≡ true
-  any_left p h = ap (list_any p) is ∙ or_second (p l) (list_any p ls) (ap (list_any p) (sym left) ∙ h)
-    where
-      or_second : (x y : Bool) → y ≡ true → (x || y) ≡ true
-      or_second true y h = refl
-      or_second false y h = h
+  any_left p h = ap (list_any p) is ∙ or_right (p l) (list_any p ls) (ap (list_any p) (sym left) ∙ h)
 
   any_other : (p : Local → Bool) → p l ≡ false → list_any p (locals_of w k) ≡ true → list_any p new.locals ≡ true
   any_other p none h = ap (list_any p) left ∙ (ap (λ (t : Bool). t || list_any p ls) (sym none) ∙ (ap (list_any p) (sym is) ∙ h))
-
-  cached_less : (page b : ℕ) → is_cached (locals_on bare page) b ≡ true → is_cached (locals_on w page) b ≡ true
-  cached_less page b h = any_cached w.caches page b (any_with w.caches k new (has_grain page b) (any_left (has_grain page b)) (cached_any bare.caches page b h))
-
-  cached_other : (page b : ℕ) → (l.page == page) ≡ false → is_cached (locals_on w page) b ≡ true → is_cached (locals_on bare page) b ≡ true
-  cached_other page b none h = any_cached bare.caches page b (with_any w.caches k new (has_grain page b) (any_other (has_grain page b) (ap (λ (t : Bool). t && list_any (λ s. in_run s (class_grains l.class) b) l.slots) none)) (cached_any w.caches page b h))
-
-  freed_more : (x c d : Bool) → (d ≡ true → c ≡ true) → (x && not c) ≡ true → (x && not d) ≡ true
-  freed_more true true d more h = absurd (false≢true h)
-  freed_more true false true more h = absurd (false≢true (more refl))
-  freed_more true false false more h = refl
-  freed_more false c d more h = absurd (false≢true h)
-
-  one_returns : Returns f (l.page ∷ []) w (gives_up k l w)
-  one_returns = minded_last f (l.page ∷ []) w bare
-      (λ page h. subst (IsPage f) (eqb-true l.page page (or_none (l.page == page) h)) page_of)
-      (λ page. refl)
-      (λ page b small h. freed_more (not (is_covered (blocks_on w page) (256 * page + b))) (is_cached (locals_on w page) b) (is_cached (locals_on bare page) b) (cached_less page b) h)
-      (λ page b of none small. ap (λ (t : Bool). not (is_covered (blocks_on w page) (256 * page + b)) && not t)
-      (same_truth (is_cached (locals_on bare page) b) (is_cached (locals_on w page) b) (cached_less page b) (cached_other page b (not_or (l.page == page) none))))
-      refl
-    where
-      or_none : (x : Bool) → (x || false) ≡ true → x ≡ true
-      or_none true h = refl
-      or_none false h = h
-
-      not_or : (x : Bool) → (x || false) ≡ false → x ≡ false
-      not_or true h = h
-      not_or false h = refl
 
   abbrev pub gone : World
   gone = gives_up k l w
@@ -188,7 +175,7 @@ module _ (f : Profile) (k : ℕ) (l : Local) (ls : List Local) (w : World) (is :
         ∙ (ap (λ (c : Cache). with_cache gone.caches k (record c { locals = [] })) (own_gone some few)
         ∙ (ap (λ (cs : List Cache). with_cache cs k (record (cache_of w k) { locals = [] })) only.caches
         ∙ with_twice w.caches k new (record (cache_of w k) { locals = [] })));
-    returns = returns_then f (l.page ∷ []) (map (λ x. x.page) ls) w gone v one_returns up.returns;
+    returns = returns_then f (l.page ∷ []) (map (λ x. x.page) ls) w gone v (one_returns f k l w page_of any_left any_other) up.returns;
   }
 
 abbrev pub AllOfRegion : Profile → List Local → Type 0

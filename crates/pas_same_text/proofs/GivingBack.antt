@@ -1,6 +1,6 @@
 -- What steps that only give back leave of the words: free grains, offers, hints and backed pages stay; and which step sets a bit.
 use Rattle.std.proofs.Common.{◌≡◌, ℕ, ◌/◌, ◌%◌, ◌<◌, ◌==◌, Bool, true, false, ◌&&◌, if◌then◌else◌, List, [], ◌∷◌, ◌++◌, ◌⊎◌, inl, inr, refl, ap, sym, ◌∙◌, subst, arith}
-use Rattle.std.proofs.lemmas.Bool.{true≢false, false≢true, eqb-true, eq-eqb}
+use Rattle.std.proofs.lemmas.Bool.{true≢false, false≢true, eqb-true}
 use Rattle.pas_bits.specs.Bits.{has_bit}
 use Rattle.pas_bits.proofs.PageVectors.{page_bit-set, page_bit-clear}
 use Rattle.pas_profile.specs.Directories.{number_of}
@@ -22,6 +22,7 @@ use Rattle.pas_steps.specs.declared.step.Step.{Step}
 use Rattle.pas_steps.specs.declared.step.Step.TheVariants.{Look, Back, Put, TakeRight, Offer, Hint, Tick, Unback, Unhint}
 use Rattle.pas_steps.proofs.Apart.{in_apart}
 use Rattle.pas_steps.proofs.Past.{since_once}
+use Rattle.pas_steps.proofs.Flags.{stays_set}
 use Rattle.pas_core.specs.Rights.{empty_bit, eligible_bit}
 use Rattle.pas_core.specs.Hints.{IsEmptyBacked}
 use Rattle.pas_core.proofs.Deeds.{looked}
@@ -29,6 +30,7 @@ use Rattle.pas_core.proofs.OneActor.{free_stays}
 use Rattle.pas_rights.specs.Looks.{ReadsBacked, ReadsAllFree, TakesNone, ReadsEmpty, HintsEmpty}
 use Rattle.pas_rights.specs.PutsBack.{GivesDuly}
 use Rattle.pas_rights.proofs.Hints.{due_later}
+use Rattle.pas_same_text.proofs.Tests.{eqb_itself}
 
 -- ---- a word that steps of some kinds leave as it is said
 over : (Q : ℕ → Type 0) (x : Word) (ks ls : Kinds) → ((e : ℕ) (s : Step) (old : ℕ) → is_in ls (kind_of s) ≡ false → Q old → Q (if same_word (target s) x then new_value e s old else old)) → apart ks ls ≡ true
@@ -49,11 +51,7 @@ backed_stays ks apart k xs l p only = over (λ n. n ≡ word_after l (Word.Backe
 
 hints_kept : (e : ℕ) (s : Step) (p old : ℕ) → is_in (Unhinting ∷ []) (kind_of s) ≡ false → has_bit old (p % 64) ≡ true → has_bit (if same_word (target s) (Word.Empty (p / 64)) then new_value e s old else old) (p % 64) ≡ true
 hints_kept e (Look x) p old is h = ap (λ n. has_bit n (p % 64)) (looked (same_word x (Word.Empty (p / 64))) old) ∙ h
-hints_kept e (Hint q) p old is h = page_bit-set q p old true ∙ stays (q == p) (has_bit old (p % 64)) h
-  where
-    stays : (t was : Bool) → was ≡ true → (if t then true else was) ≡ true
-    stays true was h = refl
-    stays false was h = h
+hints_kept e (Hint q) p old is h = page_bit-set q p old true ∙ stays_set (q == p) (has_bit old (p % 64)) h
 hints_kept e (Unhint q) p old is h = absurd (true≢false is)
 hints_kept e s p old is h = h
 
@@ -87,6 +85,9 @@ pub none_marked : (ks : Kinds) → apart ks (Hinting ∷ Offering ∷ []) ≡ tr
 none_marked ks w q [] only h = h
 none_marked ks w q (m ∷ xs) only (inl h) = mark_kind q m.step (in_apart ks (Hinting ∷ Offering ∷ []) (place_of (kind_of m.step)) w only.0) h
 none_marked ks w q (m ∷ xs) only (inr h) = none_marked ks w q xs only.1 h
+
+pub marked_left : (ks : Kinds) → apart ks (Hinting ∷ Offering ∷ []) ≡ true → (q : ℕ) (ys xs : List Made) → Only ks xs → IsMarked q (ys ++ xs) → IsMarked q ys
+marked_left ks w q ys xs only h = elim (marked_parts q ys xs h) [ inl marked ↦ marked | inr later ↦ absurd (none_marked ks w q xs only later) ]
 
 return_mark : (p q : ℕ) (s : Step) → IsReturn p s → is_mark q s ≡ true → p ≡ q
 return_mark p q s (IsReturn.LooksFree word) h = absurd (false≢true h)
@@ -154,17 +155,14 @@ offered_by k (m ∷ xs) l n p h = elim (offer_one (epoch_of (part k (triples k x
   | inr here ↦ inr (inl here)
 ]
 
-same_page : (q : ℕ) → (q == q) ≡ true
-same_page q = eq-eqb q q refl
-
 pub hint_marks : (q : ℕ) (xs : List Made) → HintsPage q xs → IsMarked q xs
 hint_marks q [] h = h
-hint_marks q (m ∷ xs) (inl h) = inl (ap (is_mark q) h ∙ same_page q)
+hint_marks q (m ∷ xs) (inl h) = inl (ap (is_mark q) h ∙ eqb_itself q)
 hint_marks q (m ∷ xs) (inr h) = inr (hint_marks q xs h)
 
 pub offer_marks : (q : ℕ) (xs : List Made) → OffersPage q xs → IsMarked q xs
 offer_marks q [] h = h
-offer_marks q (m ∷ xs) (inl h) = inl (ap (is_mark q) h.1 ∙ same_page q)
+offer_marks q (m ∷ xs) (inl h) = inl (ap (is_mark q) h.1 ∙ eqb_itself q)
 offer_marks q (m ∷ xs) (inr h) = inr (offer_marks q xs h)
 
 -- ---- a hint rests on looks that read the page as backed and empty

@@ -1,33 +1,20 @@
 -- ONE LOCAL ALLOCATOR GOES, in the text alone: wherever it stands in its cache.
-use Rattle.std.proofs.Common.{◌≡◌, ℕ, ◌+◌, ◌*◌, ◌==◌, Bool, true, false, not, ◌&&◌, ◌||◌, if◌then◌else◌, List, [], ◌∷◌, Some, refl, ap, sym, ◌∙◌, subst}
-use Rattle.std.proofs.lemmas.Bool.{false≢true, eqb-true}
+use Rattle.std.proofs.Common.{◌≡◌, ℕ, ◌==◌, Bool, true, false, not, ◌||◌, if◌then◌else◌, List, [], ◌∷◌, Some, refl, ap, sym, ◌∙◌}
+use Rattle.std.proofs.lemmas.Bool.{false≢true, eqb-true, or_right}
 use Rattle.std.proofs.lemmas.Option.{same_Some}
 use Rattle.std.specs.List.{list_any, find}
-use Rattle.pas_bits.specs.Runs.{in_run}
-use Rattle.pas_profile.specs.Classes.{class_grains}
 use Rattle.pas_profile.specs.Profiles.{IsPage}
 use Rattle.pas_profile.specs.declared.profile.Profile.{Profile}
-use Rattle.pas_steps.proofs.Sets.{same_truth}
 use Rattle.pas_one_text.specs.State.{Local, Cache, World, cache_of, locals_of, set_locals}
-use Rattle.pas_one_text.specs.Pages.{is_covered, is_cached, blocks_on, locals_on}
 use Rattle.pas_one_text.specs.Classes.{is_for, others, gives_up}
-use Rattle.pas_same_text.proofs.GivenBack.{Returns, OnlyHints, minded_last, all_only_hints}
-use Rattle.pas_same_text.proofs.GivenUp.{AreUnique, any_with, with_any}
-use Rattle.pas_same_text.proofs.Slots.{has_grain, cached_any, any_cached}
-use Rattle.pas_same_text.proofs.Tests.{and_first, and_second}
+use Rattle.pas_same_text.proofs.GivenBack.{Returns, OnlyHints, all_only_hints}
+use Rattle.pas_same_text.proofs.GivenUp.{AreUnique, one_returns}
+use Rattle.pas_same_text.proofs.Tests.{and_first, and_second, or_more}
 
 -- ---- the others of a cache
-or_second : (x y : Bool) → y ≡ true → (x || y) ≡ true
-or_second true y h = refl
-or_second false y h = h
-
 less_next : (p : Local → Bool) (x : Local) (ys : List Local) (t rest : Bool) → (list_any p ys ≡ true → rest ≡ true) → list_any p (if t then x ∷ ys else ys) ≡ true → (p x || rest) ≡ true
-less_next p x ys true rest more h = both (p x) (list_any p ys) rest more h
-  where
-    both : (a b c : Bool) → (b ≡ true → c ≡ true) → (a || b) ≡ true → (a || c) ≡ true
-    both true b c more h = refl
-    both false b c more h = more h
-less_next p x ys false rest more h = or_second (p x) rest (more h)
+less_next p x ys true rest more h = or_more (p x) (list_any p ys) rest more h
+less_next p x ys false rest more h = or_right (p x) rest (more h)
 
 pub any_less : (p : Local → Bool) (heap class : ℕ) (ls : List Local) → list_any p (others heap class ls) ≡ true → list_any p ls ≡ true
 any_less p heap class [] h = h
@@ -42,11 +29,7 @@ other_next p heap class x l xs true e rest found none more h =
     let of_class : x.class ≡ class = eqb-true x.class class (and_second (x.heap == heap) (x.class == class) e) in
     let left : others heap class xs ≡ xs = ap (λ (a : ℕ). others a class xs) (sym of_heap) ∙ (ap (λ (b : ℕ). others x.heap b xs) (sym of_class) ∙ rest) in
     ap (list_any p) left ∙ (ap (λ (t : Bool). t || list_any p xs) (sym (ap p is ∙ none)) ∙ h)
-other_next p heap class x l xs false e rest found none more h = both (p x) (list_any p xs) (list_any p (others heap class xs)) (more found) h
-  where
-    both : (a b c : Bool) → (b ≡ true → c ≡ true) → (a || b) ≡ true → (a || c) ≡ true
-    both true b c more h = refl
-    both false b c more h = more h
+other_next p heap class x l xs false e rest found none more h = or_more (p x) (list_any p xs) (list_any p (others heap class xs)) (more found) h
 
 pub any_other : (p : Local → Bool) (heap class : ℕ) (l : Local) (ls : List Local) → AreUnique ls → find (is_for heap class) ls ≡ Some l → p l ≡ false → list_any p ls ≡ true → list_any p (others heap class ls) ≡ true
 any_other p heap class l [] unique found none h = absurd (false≢true h)
@@ -61,35 +44,8 @@ module _ (f : Profile) (k : ℕ) (l : Local) (w : World) (unique : AreUnique (lo
   abbrev bare : World
   bare = set_locals k (others l.heap l.class (locals_of w k)) w
 
-  cached_less : (page b : ℕ) → is_cached (locals_on bare page) b ≡ true → is_cached (locals_on w page) b ≡ true
-  cached_less page b h = any_cached w.caches page b (any_with w.caches k left (has_grain page b) (any_less (has_grain page b) l.heap l.class (locals_of w k)) (cached_any bare.caches page b h))
-
-  cached_other : (page b : ℕ) → (l.page == page) ≡ false → is_cached (locals_on w page) b ≡ true → is_cached (locals_on bare page) b ≡ true
-  cached_other page b none h = any_cached bare.caches page b
-      (with_any w.caches k left (has_grain page b) (any_other (has_grain page b) l.heap l.class l (locals_of w k) unique found (ap (λ (t : Bool). t && list_any (λ s. in_run s (class_grains l.class) b) l.slots) none)) (cached_any w.caches page b h))
-
-  freed_more : (x c d : Bool) → (d ≡ true → c ≡ true) → (x && not c) ≡ true → (x && not d) ≡ true
-  freed_more true true d more h = absurd (false≢true h)
-  freed_more true false true more h = absurd (false≢true (more refl))
-  freed_more true false false more h = refl
-  freed_more false c d more h = absurd (false≢true h)
-
   pub gone_returns : Returns f (l.page ∷ []) w (gives_up k l w)
-  gone_returns = minded_last f (l.page ∷ []) w bare
-      (λ page h. subst (IsPage f) (eqb-true l.page page (or_none (l.page == page) h)) page_of)
-      (λ page. refl)
-      (λ page b small h. freed_more (not (is_covered (blocks_on w page) (256 * page + b))) (is_cached (locals_on w page) b) (is_cached (locals_on bare page) b) (cached_less page b) h)
-      (λ page b of none small. ap (λ (t : Bool). not (is_covered (blocks_on w page) (256 * page + b)) && not t)
-      (same_truth (is_cached (locals_on bare page) b) (is_cached (locals_on w page) b) (cached_less page b) (cached_other page b (not_or (l.page == page) none))))
-      refl
-    where
-      or_none : (x : Bool) → (x || false) ≡ true → x ≡ true
-      or_none true h = refl
-      or_none false h = h
-
-      not_or : (x : Bool) → (x || false) ≡ false → x ≡ false
-      not_or true h = h
-      not_or false h = refl
+  gone_returns = one_returns f k l w page_of (λ p h. any_less p l.heap l.class (locals_of w k) h) (λ p none h. any_other p l.heap l.class l (locals_of w k) unique found none h)
 
   pub gone_only : OnlyHints bare (gives_up k l w)
   gone_only = all_only_hints (l.page ∷ []) bare

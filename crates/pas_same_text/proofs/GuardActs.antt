@@ -1,5 +1,5 @@
 -- GUARDED REQUESTS: the keeper lowers the guards whose blocks have ended, and tries to raise one; where it raises none, the thread makes the request as any.
-use Rattle.std.proofs.Common.{◌≡◌, ℕ, ◌+◌, ◌-◌, ◌*◌, ◌/◌, false, List, [], ◌∷◌, ◌++◌, Option, None, Some, refl, ap, sym, ◌∙◌, subst, arith, append_assoc}
+use Rattle.std.proofs.Common.{◌≡◌, ℕ, ◌+◌, ◌-◌, ◌*◌, ◌/◌, false, List, [], ◌∷◌, ◌++◌, Option, None, Some, refl, ap, sym, ◌∙◌, subst, arith, append_assoc, append-nil}
 use Rattle.std.specs.List.{filter}
 use Rattle.pas_profile.specs.Blocks.{address_of}
 use Rattle.pas_profile.specs.Profiles.{IsValid, IsAdmitted, IsDirectoryOf}
@@ -41,7 +41,6 @@ use Rattle.pas_same_text.specs.Same.{IsSame}
 use Rattle.pas_same_text.specs.Acts.{IsBetween}
 use Rattle.pas_same_text.specs.Known.{IsKnown, IsKept, KeepsSame}
 use Rattle.pas_same_text.proofs.KeepersRest.{book_finds}
-use Rattle.pas_same_text.proofs.LoggedFrees.{nothing_more}
 use Rattle.pas_same_text.proofs.LowerActs.{sweep_same, ended_text}
 use Rattle.pas_same_text.proofs.MissedGuards.{missed_same}
 use Rattle.pas_same_text.proofs.PagesRequests.{pages_answered, named_large}
@@ -217,7 +216,7 @@ module _ (threads : ℕ) (f : Profile) (keeper line k other name heap size align
     same_left : IsSame f left tried
     same_left = missed_same f keeper heap n after_sweep left wm valid (between none h legal_left) (same_m none h legal_left) of h.raise.searched (legal_search none h legal_left) h.raise.kinds h.raise.rise h.raise.returns (met none h legal_left) missed.found left_between
         (lists_are none h legal_left ∙ ap (λ (ms : List Made). triples keeper ms ++ after_sweep.list) searched_all) refl (ap (with_book p.books keeper) missed.same) refl
-        (records_after none h legal_left ∙ ap (λ (rs : List Record). after_sweep.records ++ rs) (nothing_more (records_of (own_events none h legal_left)) ∙ ap (λ (ms : List Made). records_of (events_by keeper (part keeper after_sweep.list) ms)) searched_all)) refl
+        (records_after none h legal_left ∙ ap (λ (rs : List Record). after_sweep.records ++ rs) (append-nil (records_of (own_events none h legal_left)) ∙ ap (λ (ms : List Made). records_of (events_by keeper (part keeper after_sweep.list) ms)) searched_all)) refl
 
     down_text : guards f keeper k (Some r) w ≡ serves f k name heap (route_in f size align) (room_in f size align) align tried
     down_text =

@@ -44,6 +44,7 @@ use Rattle.pas_same_text.proofs.BarePages.{bare_on, none_backs, held_unbacked, b
 use Rattle.pas_same_text.proofs.FreeGrains.{outer_held}
 use Rattle.pas_same_text.proofs.LoweredGuards.{some_outer}
 use Rattle.pas_same_text.proofs.SweptGuards.{IsSwept, swept_told, goes_down}
+use Rattle.pas_same_text.proofs.Tests.{or_none, eqb_turned}
 
 -- ---- an actor without slots rests with its book
 fitted : (f : Profile) (c : Cached) (old left : List Guard) (v w : View) → c.locals ≡ [] → IsResting f c old v → FitsBook f left w → IsResting f c left w
@@ -82,13 +83,6 @@ module _ (f : Profile) (p : Progress) (keeper : ℕ) (books : Books) (steps : Li
   abbrev l : Whole
   l = triples keeper steps ++ p.list
 
-  turned : (j k : ℕ) → (j == k) ≡ false → (k == j) ≡ false
-  turned j k ne = by_test (k == j) refl
-    where
-      by_test : (t : Bool) → (k == j) ≡ t → t ≡ false
-      by_test true e = absurd (eqb-false j k ne (sym (eqb-true k j e)))
-      by_test false e = refl
-
   working : (j : ℕ) → IsThread f j → (t : Bool) → (j == keeper) ≡ t → IsResting f (p.caches j) (books j) (part j l)
   working j of true e =
       let same : keeper ≡ j = sym (eqb-true j keeper e) in
@@ -114,7 +108,7 @@ module _ (f : Profile) (p : Progress) (keeper : ℕ) (books : Books) (steps : Li
     none = λ j other. subst (λ (gs : List Guard). gs ≡ []) (sym (others j (by_test j other (j == keeper) refl))) (before.rest.none j other);
     beside = λ j. by_others (Each IsBeside) j (j == keeper) refl beside (λ ne. before.rest.beside j);
     bare = λ j page. by_others (λ (gs : List Guard). is_outer gs page ≡ true → backed_in (visible l) page ≡ false) j (j == keeper) refl (λ outer. bare_events f l page valid legal (bare page outer))
-        (λ ne outer. others_bare f p keeper j page steps valid before legal (turned j keeper ne) outer);
+        (λ ne outer. others_bare f p keeper j page steps valid before legal (eqb_turned keeper j ∙ ne) outer);
     scavenger = subst HasNothing (sym (part_of_others 0 keeper steps p.list (λ same. not_scavenger same))) before.rest.scavenger;
   }
     where
@@ -149,11 +143,7 @@ each_last P [] g all one = (one, tt)
 each_last P (x ∷ gs) g all one = (all.0, each_last P gs g all.1 one)
 
 pub outer_last : (gs : List Guard) (g : Guard) (page : ℕ) → is_outer (gs ++ g ∷ []) page ≡ true → (is_outer gs page ≡ true) ⊎ (is_outer_of g page ≡ true)
-outer_last [] g page h = inr (no_other (is_outer_of g page) h)
-  where
-    no_other : (x : Bool) → (x || false) ≡ true → x ≡ true
-    no_other true h = refl
-    no_other false h = h
+outer_last [] g page h = inr (or_none (is_outer_of g page) h)
 outer_last (x ∷ gs) g page h = elim (or_cases (is_outer_of x page) (is_outer (gs ++ g ∷ []) page) h) [
   | inl here ↦ inl (ap (λ (t : Bool). t || is_outer gs page) here)
   | inr later ↦ elim (outer_last gs g page later) [

@@ -2,6 +2,7 @@
 use Rattle.std.proofs.Common.{◌≡◌, ℕ, ◌==◌, Bool, true, false, ◌&&◌, ◌||◌, List, [], ◌∷◌, refl, ap, sym, ◌∙◌, arith}
 use Rattle.std.proofs.lemmas.Bool.{false≢true, false_from_ne_true}
 use Rattle.std.specs.List.{list_any}
+use Rattle.std.proofs.Math.Bool.{and_comm}
 use Rattle.pas_profile.specs.Profiles.{IsValid}
 use Rattle.pas_profile.specs.declared.profile.Profile.{Profile}
 use Rattle.pas_steps.specs.Lists.{part}
@@ -24,14 +25,8 @@ use Rattle.pas_same_text.proofs.Tests.{any_filtered, filtered_any}
 abbrev keeps_page : ℕ → Local → Bool
 keeps_page page l = (l.page == page) && l.keeps
 
-turned : (x y : Bool) → (x && y) ≡ (y && x)
-turned true true = refl
-turned true false = refl
-turned false true = refl
-turned false false = refl
-
 one_kept : (s : Slots) (l : Local) (page : ℕ) → IsSameLocal s l → keeps_page page l ≡ keeps_right s page
-one_kept s l page same = ap (λ (q : ℕ). (q == page) && l.keeps) same.page ∙ (ap (λ (t : Bool). (s.page == page) && t) same.keeps ∙ turned (s.page == page) s.right)
+one_kept s l page same = ap (λ (q : ℕ). (q == page) && l.keeps) same.page ∙ (ap (λ (t : Bool). (s.page == page) && t) same.keeps ∙ and_comm (s.page == page) s.right)
 
 all_kept : (slots : List Slots) (locals : List Local) (page : ℕ) → AreSameLocals slots locals → list_any (keeps_page page) locals ≡ any_keeps slots page
 all_kept [] [] page same = refl

@@ -24,6 +24,7 @@ mod FlushActs
 mod ReturnHints
 mod GivenUp
 mod StopSteps
+mod RoomsRead
 mod StopActs
 mod BackActs
 mod LoweredGuards

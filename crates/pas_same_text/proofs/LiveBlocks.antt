@@ -1,6 +1,7 @@
 -- The live blocks in a list, and those that the machine has by their addresses.
-use Rattle.std.proofs.Common.{◌≡◌, ℕ, ◌/◌, ◌%◌, ◌<◌, ◌≢◌, ◌==◌, Bool, true, false, not, ◌&&◌, ◌||◌, if◌then◌else◌, List, [], ◌∷◌, Option, Some, None, ◌⊎◌, inl, inr, refl, ap, sym, ◌∙◌, arith}
-use Rattle.std.proofs.lemmas.Bool.{eq-eqb, ne_eqb, eqb-false, false≢true, true≢false, or_cases, or_left}
+use Rattle.std.proofs.Common.{◌≡◌, ℕ, ◌/◌, ◌<◌, ◌≢◌, ◌==◌, Bool, true, false, not, ◌&&◌, ◌||◌, if◌then◌else◌, List, [], ◌∷◌, Option, Some, None, ◌⊎◌, inl, inr, refl, ap, sym, ◌∙◌}
+use Rattle.std.proofs.lemmas.Bool.{eq-eqb, ne_eqb, eqb-false, false≢true, true≢false, or_cases, or_left, or_right, not-true, and_from}
+use Rattle.std.proofs.lemmas.Option.{same_Some, none-some}
 use Rattle.std.specs.List.{list_any}
 use Rattle.pas_bits.specs.Runs.{in_run}
 use Rattle.pas_bits.proofs.Runs.{first_of_run}
@@ -14,6 +15,7 @@ use Rattle.pas_machine.specs.Machine.{Run, MayGive}
 use Rattle.pas_one_text.specs.State.{is_at}
 use Rattle.pas_same_text.specs.Same.{lives_in}
 use Rattle.pas_same_text.proofs.Tests.{and_first, and_second, any_filtered, filtered_any}
+use Rattle.pas_core.proofs.Grains.{some_grain}
 
 -- ---- a block that lives after the events, of which this is so
 pub record LivesSo (es : List Event) (p : Block → Bool) : Type 0 where
@@ -71,10 +73,6 @@ ended k name e es p o =
       some = o.some;
       so = and_second (not (is_at (address_of name) o.live.block)) (p o.live.block) o.so;
     }
-  where
-    not-true : (x : Bool) → not x ≡ true → x ≡ false
-    not-true true h = absurd (false≢true h)
-    not-true false h = refl
 
 -- .. after an event that gives and ends none
 still : (e : Event) (es : List Event) (p : Block → Bool) (o : LivesSo es p) → live_in (e ∷ es) o.address ≡ live_in es o.address → LivesSo (e ∷ es) p
@@ -84,9 +82,6 @@ given_one : (f : Profile) (k : ℕ) (block : Block) (es : List Event) (p : Block
     → (p block ≡ true) ⊎ (list_any p (lives_in es) ≡ true) → LivesSo (Event.Give k block ∷ es) p
 given_one f k block es p may some older (inl so) = here k block es p some so
 given_one f k block es p may some older (inr more) = let o = older more in there k block es p o (elsewhere f es block p o may some)
-
-some_grain : (room : ℕ) → room % 16 ≡ 0 → 0 < room → 0 < room / 16
-some_grain room whole some = omega arith
 
 -- a block in the list lives, at its address
 pub lives_so : (f : Profile) (es : List Event) (p : Block → Bool) → Run f es → list_any p (lives_in es) ≡ true → LivesSo es p
@@ -102,39 +97,17 @@ lives_so f (Event.Reject k name why ∷ es) p run h = still (Event.Reject k name
 given_listed : (t : Bool) (block : Block) (k : ℕ) (old : Option Live) (b : Live) (p : Block → Bool) (rest : Bool) → (if t then Some (record { actor = k; block = block }) else old) ≡ Some b
     → (old ≡ Some b → rest ≡ true) → p b.block ≡ true → (p block || rest) ≡ true
 given_listed true block k old b p rest is older so =
-    let same : block ≡ b.block = ap (λ (o : Option Live). block_in block o) is in
+    let same : block ≡ b.block = ap (λ (l : Live). l.block) (same_Some (record { actor = k; block = block }) b is) in
     or_left (p block) rest (ap p same ∙ so)
-  where
-    block_in : Block → Option Live → Block
-    block_in d None = d
-    block_in d (Some l) = l.block
-given_listed false block k old b p rest is older so = or_second (p block) rest (older is)
-  where
-    or_second : (x y : Bool) → y ≡ true → (x || y) ≡ true
-    or_second true y h = refl
-    or_second false y h = h
+given_listed false block k old b p rest is older so = or_right (p block) rest (older is)
 
 ended_live : (t : Bool) (old : Option Live) (b : Live) → (if t then None else old) ≡ Some b → (t ≡ false) × (old ≡ Some b)
-ended_live true old b is = absurd (none_some is)
-  where
-    is_some : Option Live → Bool
-    is_some None = false
-    is_some (Some l) = true
-
-    none_some : None ≡ Some b → ⊥
-    none_some e = false≢true (ap is_some e)
+ended_live true old b is = absurd (none-some b is)
 ended_live false old b is = (refl, is)
 
 -- a block that lives at its address is in the list
 pub lives_listed : (es : List Event) (address : ℕ) (b : Live) (p : Block → Bool) → live_in es address ≡ Some b → address_of b.block.name ≡ address → p b.block ≡ true → list_any p (lives_in es) ≡ true
-lives_listed [] address b p is at so = absurd (nothing is)
-  where
-    is_some : Option Live → Bool
-    is_some None = false
-    is_some (Some l) = true
-
-    nothing : None ≡ Some b → ⊥
-    nothing e = false≢true (ap is_some e)
+lives_listed [] address b p is at so = absurd (none-some b is)
 lives_listed (Event.Deed k q d ∷ es) address b p is at so = lives_listed es address b p is at so
 lives_listed (Event.Back k q ∷ es) address b p is at so = lives_listed es address b p is at so
 lives_listed (Event.Unback k q e ∷ es) address b p is at so = lives_listed es address b p is at so
@@ -144,9 +117,5 @@ lives_listed (Event.End k name e ∷ es) address b p is at so =
     let was = ended_live (address_of name == address) (live_in es address) b is in
     let ne : address_of name ≢ address = eqb-false (address_of name) address was.0 in
     let away : is_at (address_of name) b.block ≡ false = ne_eqb (address_of b.block.name) (address_of name) (λ same. ne (sym (sym at ∙ same))) in
-    filtered_any p (λ x. not (is_at (address_of name) x)) (lives_in es) (lives_listed es address b (λ x. not (is_at (address_of name) x) && p x) was.1 at (both (is_at (address_of name) b.block) (p b.block) away so))
-  where
-    both : (x y : Bool) → x ≡ false → y ≡ true → (not x && y) ≡ true
-    both true y h so = absurd (true≢false h)
-    both false y h so = so
+    filtered_any p (λ x. not (is_at (address_of name) x)) (lives_in es) (lives_listed es address b (λ x. not (is_at (address_of name) x) && p x) was.1 at (and_from (not (is_at (address_of name) b.block)) (p b.block) (ap not away) so))
 lives_listed (Event.Reject k name why ∷ es) address b p is at so = lives_listed es address b p is at so

@@ -1,5 +1,5 @@
 -- Frees that are answered at once, and frees into a log with room.
-use Rattle.std.proofs.Common.{◌≡◌, ℕ, ◌+◌, ◌*◌, ◌/◌, ◌%◌, ◌<◌, ◌≤◌, ◌==◌, nat_le, nat_lt, Bool, true, false, ◌&&◌, if◌then◌else◌, List, [], ◌∷◌, ◌++◌, length, Option, None, Some, inl, inr, refl, ap, sym, ◌∙◌, subst, arith}
+use Rattle.std.proofs.Common.{◌≡◌, ℕ, ◌+◌, ◌*◌, ◌/◌, ◌%◌, ◌<◌, ◌≤◌, ◌==◌, nat_le, nat_lt, Bool, true, false, ◌&&◌, if◌then◌else◌, List, [], ◌∷◌, ◌++◌, length, Option, None, Some, inl, inr, refl, ap, sym, ◌∙◌, subst, arith, append-nil}
 use Rattle.std.proofs.lemmas.Bool.{eq-eqb, ne_eqb, false_from_ne_true}
 use Rattle.std.proofs.lemmas.Bool.Decides.{nat_tests}
 use Rattle.pas_profile.specs.Blocks.{address_of}
@@ -52,10 +52,6 @@ said_same f k said p w same = record {
 abbrev with_entry : Cached → Entry → Cached
 with_entry c entry = record c { log = c.log ++ entry ∷ []; noted = c.noted }
 
-pub nothing_more : (xs : List Record) → xs ++ [] ≡ xs
-nothing_more [] = refl
-nothing_more (x ∷ xs) = ap (λ (ys : List Record). x ∷ ys) (nothing_more xs)
-
 added_same : (f : Profile) (k : ℕ) (entry : Entry) (p : Progress) (w : World) → IsThread f k → IsSame f p w → IsSame f (after_with p k [] None p.names (with_entry (p.caches k) entry)) (adds k entry w)
 added_same f k entry p w is same =
     let own : Cache = cache_of w k in
@@ -67,7 +63,7 @@ added_same f k entry p w is same =
           (record { locals = was.locals; log = ap (λ (es : List Entry). es ++ entry ∷ []) was.log; noted = was.noted; began = was.began });
       guards = same.guards;
       names = same.names;
-      records = nothing_more p.records ∙ same.records;
+      records = append-nil p.records ∙ same.records;
       epoch = same.epoch;
       read = same.read;
     }

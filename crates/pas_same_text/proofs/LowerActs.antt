@@ -9,17 +9,16 @@ use Rattle.pas_profile.specs.declared.directory.Directory.{Directory}
 use Rattle.pas_profile.specs.declared.event.Event.{Event}
 use Rattle.pas_profile.specs.declared.profile.Profile.{Profile}
 use Rattle.pas_profile.specs.declared.word.Word.TheVariants as Word
-use Rattle.pas_profile.proofs.Codecs.{deed_word_of-positive, same_from_deed_word}
+use Rattle.pas_profile.proofs.Codecs.{same_from_deed_word}
 use Rattle.pas_machine.specs.State.{live_in, deed_in, ends_in}
 use Rattle.pas_steps.specs.Desks.{triples}
 use Rattle.pas_steps.specs.Lists.{part, word_after, visible, Legal}
-use Rattle.pas_steps.specs.Views.{View, holds, known_deed, KnowsDeed, usable_by_kind}
+use Rattle.pas_steps.specs.Views.{View, holds, KnowsDeed, usable_by_kind}
 use Rattle.pas_steps.specs.declared.step.Made.{Made}
-use Rattle.pas_steps.proofs.Apart.{only_within, no_events}
+use Rattle.pas_steps.proofs.Apart.{only_within}
 use Rattle.pas_core.specs.Good.{word_of_deed}
-use Rattle.pas_core.proofs.Deeds.{deed_of, known_is}
+use Rattle.pas_core.proofs.Deeds.{deed_of}
 use Rattle.pas_core.proofs.Grains.{one_holder}
-use Rattle.pas_core.proofs.Rights.{deeds_known}
 use Rattle.pas_free_log.specs.Frames.{freeing}
 use Rattle.pas_report.specs.declared.record.Record.{Record}
 use Rattle.pas_guard.specs.Books.{is_outer_of, is_outer, Each, IsGuardOf, KnowsGuard}
@@ -36,12 +35,12 @@ use Rattle.pas_one_text.specs.Runs.{large_of}
 use Rattle.pas_same_text.specs.Same.{told_guard, IsSame, HasSame, AreSameCaches, lives_in}
 use Rattle.pas_same_text.specs.Acts.{IsBetween, StaysSame}
 use Rattle.pas_same_text.specs.Words.{free_bit}
-use Rattle.pas_same_text.proofs.Flushes.{visible_steps}
+use Rattle.pas_same_text.proofs.Flushes.{unshown}
 use Rattle.pas_same_text.proofs.FreeGrains.{cached_held, outer_held, held_by, never_both, holder_thread}
 use Rattle.pas_same_text.proofs.GivenPages.{IsGivenBack, open_from, covered_not_held, free_left, given_pages}
 use Rattle.pas_same_text.proofs.GivingBack.{hint_marks, offer_marks, epoch_stays_by}
 use Rattle.pas_same_text.proofs.LoweredGuards.{outer_pages, AreOfRegion, AreLowered, all_lowered, said_reversed, lowered_unguarded, others_stay, some_outer, apart_split, own_left, left_of, outer_number}
-use Rattle.pas_same_text.proofs.RestingPages.{is_open, deed_now}
+use Rattle.pas_same_text.proofs.RestingPages.{is_open, deed_now, word_known}
 use Rattle.pas_same_text.proofs.SweptGuards.{goes_down, IsSwept, swept_told}
 
 -- the replay after a sweep, which left these guards
@@ -95,7 +94,7 @@ module _ (f : Profile) (keeper : ℕ) (all : Bool) (p : Progress) (w : World) (s
   lowered = all_lowered f downs w (region_of f keeper test (p.books keeper) (before.rest.working keeper is).locals.guards_of_region)
 
   shown : visible p'.list ≡ visible p.list
-  shown = visible_steps keeper steps p.list ∙ ap (λ (es : List Event). es ++ visible p.list) (no_events sweeping refl keeper (part keeper p.list) steps sweep.kinds)
+  shown = unshown sweeping refl keeper steps p.list sweep.kinds
 
   -- ---- whose pages they are
   -- an outer page of one that goes down was the keeper's
@@ -161,9 +160,7 @@ module _ (f : Profile) (keeper : ℕ) (all : Bool) (p : Progress) (w : World) (s
       let o = outer_deed (part keeper p.list) (p.books keeper) q (before.rest.working keeper is).locals.guards_known (was_outer q h) in
       let deed : deed_in (visible p.list) q ≡ Some d = ap (λ (es : List Event). deed_in es q) (sym shown) ∙ deed_now f p' v valid after has q d of is_own in
       let word : word_after p.list (Word.Deed q) ≡ deed_word_of d = deed_of f p.list before.legal q ∙ ap word_of_deed deed in
-      let known : known_deed (part keeper p.list) q ≡ word_after p.list (Word.Deed q) =
-      known_is (known_deed (part keeper p.list) q) (word_after p.list (Word.Deed q)) (deeds_known f p.list before.legal keeper q) (λ none. deed_word_of-positive (large_of o.0) (sym o.1 ∙ none)) in
-      let d_is : d ≡ large_of o.0 = same_from_deed_word d (large_of o.0) of.kind tt (sym word ∙ (sym known ∙ o.1)) in
+      let d_is : d ≡ large_of o.0 = same_from_deed_word d (large_of o.0) of.kind tt (sym word ∙ word_known f p.list before.legal keeper q (large_of o.0) o.1) in
       let free : free_bit p'.list g ≡ true = free_left f p'.list valid after.legal g
       (λ j held. no_holder j g at_g held)
       (λ a b lives of_it. covered_not_held f p.list valid before.legal g a b (ap (λ (es : List Event). live_in es a) (sym shown) ∙ lives) of_it keeper (was_held g at_g)) in

@@ -1,6 +1,6 @@
 -- GUARDS ARE LOWERED in the text: their outer pages are anybody's again, and nothing else changes but hints.
-use Rattle.std.proofs.Common.{◌≡◌, ℕ, ◌==◌, Bool, true, false, not, ◌||◌, if◌then◌else◌, List, [], ◌∷◌, ◌++◌, map, reverse, inl, inr, refl, ap, sym, ◌∙◌, subst, append_assoc}
-use Rattle.std.proofs.lemmas.Bool.{false≢true, true≢false, eq-eqb, eqb-true, or_cases, or_left, or_right, false_from_ne_true}
+use Rattle.std.proofs.Common.{◌≡◌, ℕ, ◌==◌, Bool, true, false, not, ◌||◌, if◌then◌else◌, List, [], ◌∷◌, ◌++◌, map, reverse, inl, inr, refl, ap, sym, ◌∙◌, subst, append_assoc, append-nil}
+use Rattle.std.proofs.lemmas.Bool.{false≢true, true≢false, eq-eqb, eqb-true, or_cases, or_left, or_right, false_from_ne_true, or_parts}
 use Rattle.std.specs.List.{list_any, filter}
 use Rattle.pas_profile.specs.Profiles.{IsPage}
 use Rattle.pas_profile.specs.declared.profile.Profile.{Profile}
@@ -16,6 +16,7 @@ use Rattle.pas_same_text.proofs.GivenBack.{Returns, OnlyHints, returns_nothing, 
 use Rattle.pas_same_text.proofs.OuterPages.{has_outer}
 use Rattle.pas_same_text.proofs.SmallActs.{records_next}
 use Rattle.pas_same_text.proofs.StillIndexes.{same_guards, minds_keep}
+use Rattle.pas_same_text.proofs.Tests.{or_none, eqb_turned}
 
 -- ---- which pages come back, what is said, and which guards are left
 abbrev pub outer_pages : List Guard → List ℕ
@@ -68,12 +69,8 @@ module _ (f : Profile) (g : Guard) (w : World) (low : IsPage f g.low) (high : Is
   within : (page : ℕ) → has_number (g.low ∷ g.high ∷ []) page ≡ true → IsPage f page
   within page h = elim (or_cases (g.low == page) ((g.high == page) || false) h) [
     | inl is ↦ subst (IsPage f) (eqb-true g.low page is) low
-    | inr more ↦ subst (IsPage f) (eqb-true g.high page (no_other (g.high == page) more)) high
+    | inr more ↦ subst (IsPage f) (eqb-true g.high page (or_none (g.high == page) more)) high
   ]
-    where
-      no_other : (x : Bool) → (x || false) ≡ true → x ≡ true
-      no_other true h = refl
-      no_other false h = h
 
   one_returns : Returns f (g.low ∷ g.high ∷ []) w (lowers g w)
   one_returns = returns_like f (g.low ∷ g.high ∷ []) w minded (lowers g w) (minded_last f (g.low ∷ g.high ∷ []) w bare within (λ page. refl) (λ page b small h. h) (λ page b of none small. refl) refl) refl refl refl refl
@@ -97,11 +94,7 @@ all_lowered f (g ∷ downs) w of = lowered_then f g w of.0 of.1 downs (each lowe
 
 -- ---- records
 pub said_reversed : (downs : List Guard) (rs ws : List Record) → rs ≡ reverse ws → rs ++ map lowered_line downs ≡ reverse (said_onto downs ws)
-said_reversed [] rs ws is = nothing_more rs ∙ is
-  where
-    nothing_more : (xs : List Record) → xs ++ [] ≡ xs
-    nothing_more [] = refl
-    nothing_more (x ∷ xs) = ap (λ (ys : List Record). x ∷ ys) (nothing_more xs)
+said_reversed [] rs ws is = append-nil rs ∙ is
 said_reversed (g ∷ downs) rs ws is =
     sym (append_assoc rs (lowered_line g ∷ []) (map lowered_line downs)) ∙ said_reversed downs (rs ++ lowered_line g ∷ []) (lowered_line g ∷ ws) (records_next rs ws (lowered_line g) is)
 
@@ -192,22 +185,16 @@ apart_split t [] page apart h = absurd (false≢true h)
 apart_split t (g ∷ gs) page apart h = split_at t g gs page (t g) apart (apart_split t gs page apart.2) h
 
 -- a guard whose low page is none of theirs stays before them
-turned : (a b : ℕ) → (a == b) ≡ false → (b == a) ≡ false
-turned a b none = false_from_ne_true (b == a) (λ h. false≢true (sym none ∙ eq-eqb a b (sym (eqb-true b a h))))
-
 none_first : (g : BookGuard) (page : ℕ) (rest : Bool) → (is_outer_of g page || rest) ≡ false → ((g.low == page) ≡ false) × (rest ≡ false)
-none_first g page rest none = by_test (g.low == page) (g.high == page) rest none
-  where
-    by_test : (x y r : Bool) → ((x || y) || r) ≡ false → (x ≡ false) × (r ≡ false)
-    by_test true y r h = absurd (true≢false h)
-    by_test false true r h = absurd (true≢false h)
-    by_test false false r h = (refl, h)
+none_first g page rest none =
+    let parts = or_parts (is_outer_of g page) rest none in
+    ((or_parts (g.low == page) (g.high == page) parts.0).0, parts.1)
 
 first_stays : (k keeper : ℕ) (g : BookGuard) (fallen : List BookGuard) (gs : List Guard) → is_outer fallen g.low ≡ false → without_all (map (told_guard keeper) fallen) (told_guard k g ∷ gs) ≡ told_guard k g ∷ without_all (map (told_guard keeper) fallen) gs
 first_stays k keeper g [] gs none = refl
 first_stays k keeper g (d ∷ fallen) gs none =
     let both = none_first d g.low (is_outer fallen g.low) none in
-    ap (λ (t : Bool). without_all (map (told_guard keeper) fallen) (if not t then told_guard k g ∷ without d.low gs else without d.low gs)) (turned d.low g.low both.0)
+    ap (λ (t : Bool). without_all (map (told_guard keeper) fallen) (if not t then told_guard k g ∷ without d.low gs else without d.low gs)) (eqb_turned g.low d.low ∙ both.0)
     ∙ first_stays k keeper g fallen (without d.low gs) both.1
 
 own_at : (k : ℕ) (t : BookGuard → Bool) (g : BookGuard) (gs : List BookGuard) (s : Bool) → AreApart (g ∷ gs) → without_all (map (told_guard k) (filter t gs)) (map (told_guard k) gs) ≡ map (told_guard k) (filter (λ x. not (t x)) gs)

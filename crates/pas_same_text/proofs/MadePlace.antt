@@ -1,7 +1,7 @@
 -- PLACE IS MADE in a cache for one local allocator more: the spent one of its heap and class goes, or where there is none and the cache is full, the one used
 -- longest ago.
 use Rattle.std.proofs.Common.{◌≡◌, ℕ, ◌+◌, ◌/◌, ◌%◌, ◌<◌, ◌≤◌, ◌==◌, nat_le, Bool, true, false, not, ◌&&◌, ◌||◌, if◌then◌else◌, cond, List, [], ◌∷◌, ◌++◌, length, All, Option, None, Some, inl, refl, ap, sym, ◌∙◌, subst, append-nil, arith}
-use Rattle.std.proofs.lemmas.Bool.{true≢false, false≢true, eq-eqb, eqb-true}
+use Rattle.std.proofs.lemmas.Bool.{true≢false, eq-eqb, eqb-true}
 use Rattle.std.proofs.lemmas.Bool.Decides.{nat_tests}
 use Rattle.std.proofs.lemmas.List.Sums.{sum_by-cons}
 use Rattle.std.proofs.lemmas.List.Elements.{All-head, All-tail}
@@ -31,7 +31,7 @@ use Rattle.pas_same_text.specs.Same.{IsSame, AreSameLocals}
 use Rattle.pas_same_text.specs.Acts.{IsBetween}
 use Rattle.pas_same_text.proofs.CachedSlots.{found_passes}
 use Rattle.pas_same_text.proofs.CacheLists.{same_kept}
-use Rattle.pas_same_text.proofs.GivenUp.{AreUnique, unique_of}
+use Rattle.pas_same_text.proofs.GivenUp.{AreUnique, unique_of, own_counted}
 use Rattle.pas_same_text.proofs.OneUp.{up_to, up_same}
 use Rattle.pas_same_text.proofs.SameLocals.{Finds, for_same, found_same, others_same}
 use Rattle.pas_same_text.proofs.Tests.{and_first, and_second}
@@ -100,11 +100,7 @@ none_counted g (s ∷ slots) none = at (covers s g) (any_covers slots g) (count_
     at false rest n more le = more (omega (arith, le))
 
 first_apart : (g : ℕ) (s : Slots) (slots : List Slots) → count_by (λ x. covers x g) (s ∷ slots) ≤ 1 → covers s g ≡ true → any_covers slots g ≡ false
-first_apart g s slots one own = none_counted g slots (at (covers s g) (count_by (λ x. covers x g) slots) own (subst (λ (n : ℕ). n ≤ 1) (sum_by-cons (λ x. cond (covers x g) 1 0) s slots) one))
-  where
-    at : (t : Bool) (n : ℕ) → t ≡ true → cond t 1 0 + n ≤ 1 → n ≤ 0
-    at true n own le = omega (arith, le)
-    at false n own le = absurd (false≢true own)
+first_apart g s slots one own = none_counted g slots (own_counted (count_by (λ x. covers x g) slots) (covers s g) own (subst (λ (n : ℕ). n ≤ 1) (sum_by-cons (λ x. cond (covers x g) 1 0) s slots) one))
 
 -- ---- what the text does
 abbrev pub placed_by : ℕ → Option Local → World → World

@@ -21,9 +21,8 @@ use Rattle.pas_steps.specs.declared.step.Made.{Made}
 use Rattle.pas_steps.specs.declared.step.Step.{Step}
 use Rattle.pas_steps.specs.declared.step.Step.TheVariants.{Deed}
 use Rattle.pas_steps.proofs.Apart.{only_within}
-use Rattle.pas_core.specs.Good.{IsPartOf, IsInOnePlace}
+use Rattle.pas_core.specs.Good.{IsPartOf}
 use Rattle.pas_core.specs.Rights.{eligible_bit}
-use Rattle.pas_core.proofs.MachineRuns.{in_one_place}
 use Rattle.pas_core.proofs.Rights.{right_in_one_place}
 use Rattle.pas_search.specs.Kinds.{ReturnsDuly}
 use Rattle.pas_cache.specs.Kinds.{allocating}
@@ -41,7 +40,7 @@ use Rattle.pas_same_text.specs.Same.{has_number, IsSame, HasSame, AreSameCaches,
 use Rattle.pas_same_text.specs.Acts.{IsBetween}
 use Rattle.pas_same_text.specs.Words.{free_bit}
 use Rattle.pas_same_text.proofs.FlushActs.{events_recorded}
-use Rattle.pas_same_text.proofs.FreeGrains.{holder_thread, cached_held, outer_held, held_by}
+use Rattle.pas_same_text.proofs.FreeGrains.{holder_thread, cached_held, outer_held, held_by, free_uncovered}
 use Rattle.pas_same_text.proofs.GivenPages.{open_from, free_left}
 use Rattle.pas_same_text.proofs.GivingBack.{epoch_stays_by}
 use Rattle.pas_same_text.proofs.OuterPages.{still_unguarded}
@@ -121,13 +120,8 @@ module _ (f : Profile) (p q : Progress) (w v : World) (d : Directory) (valid : I
     | inr outer ↦ never_held j (outer_held f p between j g (ap (is_outer (p.books j)) on ∙ left.outer j (ap (is_outer (q.books j)) (sym on) ∙ outer)))
   ]
 
-  uncovered : (a : ℕ) (b : Live) → live_in (visible p.list) a ≡ Some b → IsPartOf g a b → IsInOnePlace p.list g → ⊥
-  uncovered a b lives of (inl o) = o.no_block a b lives of
-  uncovered a b lives of (inr (inl o)) = true≢false (sym free_before ∙ o.not_free)
-  uncovered a b lives of (inr (inr o)) = true≢false (sym free_before ∙ o.not_free)
-
   free_now : free_bit q.list g ≡ true
-  free_now = free_left f q.list valid there.legal g nobody (λ a b lives of. uncovered a b (left.covered a b lives of) of (in_one_place f p.list valid between.legal g))
+  free_now = free_left f q.list valid there.legal g nobody (λ a b lives of. free_uncovered f p.list valid between.legal g free_before a b (left.covered a b lives of) of)
 
   pub left_offered : (e : Directory) → IsDirectoryOf f e → eligible_bit q.list (number_of e) page ≡ true → is_offered v e page ≡ true
   left_offered e of_e bit =

@@ -1,34 +1,22 @@
 -- ONE LOCAL ALLOCATOR OF A CACHE IS STOPPED, or left where it has no slot: the text gives it up.
-use Rattle.std.proofs.Common.{◌≡◌, ℕ, ◌+◌, ◌*◌, ◌/◌, ◌%◌, ◌<◌, ◌≤◌, ◌==◌, Bool, true, false, ◌&&◌, ◌||◌, if◌then◌else◌, List, [], ◌∷◌, ◌++◌, reverse, Some, inl, inr, refl, ap, sym, ◌∙◌, subst, append-nil, arith}
+use Rattle.std.proofs.Common.{◌≡◌, ℕ, ◌/◌, ◌==◌, Bool, true, false, ◌||◌, if◌then◌else◌, List, [], ◌∷◌, ◌++◌, reverse, Some, inl, inr, refl, ap, sym, ◌∙◌, subst, append-nil}
 use Rattle.std.proofs.lemmas.Bool.{false≢true, eq-eqb, eqb-true}
 use Rattle.std.specs.List.{find}
-use Rattle.pas_bits.specs.Masks.{is_set, HasMember}
-use Rattle.pas_profile.specs.Classes.{class_grains, IsSlotStart}
-use Rattle.pas_profile.specs.Directories.{deed_word_of}
 use Rattle.pas_profile.specs.Profiles.{IsValid, IsPage, IsDirectoryOf}
 use Rattle.pas_profile.specs.declared.directory.Directory.{Directory}
 use Rattle.pas_profile.specs.declared.event.Event.{Event}
 use Rattle.pas_profile.specs.declared.profile.Profile.{Profile}
-use Rattle.pas_profile.specs.declared.word.Word.TheVariants as Word
-use Rattle.pas_profile.proofs.ClassFacts.{class_grains_positive}
-use Rattle.pas_profile.proofs.Codecs.{deed_word_of-positive, same_from_deed_word}
 use Rattle.pas_machine.specs.State.{live_in}
 use Rattle.pas_steps.specs.Events.{events_by}
 use Rattle.pas_steps.specs.Kinds.{Only}
-use Rattle.pas_steps.specs.Lists.{part, word_after, visible}
-use Rattle.pas_steps.specs.Views.{holds, known_deed, usable_by_kind}
+use Rattle.pas_steps.specs.Lists.{part, visible}
+use Rattle.pas_steps.specs.Views.{holds}
 use Rattle.pas_steps.specs.declared.step.Made.{Made}
 use Rattle.pas_steps.proofs.Apart.{only_within, events_same}
-use Rattle.pas_core.specs.Good.{word_of_deed}
-use Rattle.pas_core.proofs.Deeds.{known_is, deed_of}
 use Rattle.pas_core.proofs.Grains.{one_holder}
-use Rattle.pas_core.proofs.OneActor.{deed_same}
-use Rattle.pas_core.proofs.Rights.{deeds_known}
 use Rattle.pas_free_log.specs.Frames.{freeing}
-use Rattle.pas_segregated.specs.Masks.{start_of}
 use Rattle.pas_segregated.specs.Stops.{home_of, StopStepsAt}
 use Rattle.pas_segregated.specs.declared.slots.Slots.{Slots}
-use Rattle.pas_segregated.proofs.Starts.{start_at}
 use Rattle.pas_cache.specs.Contents.{Cached}
 use Rattle.pas_cache.specs.Kinds.{releasing}
 use Rattle.pas_cache.specs.Locals.{IsLocal, covers, any_covers}
@@ -46,15 +34,15 @@ use Rattle.pas_same_text.specs.Words.{free_bit}
 use Rattle.pas_same_text.proofs.CacheLists.{same_with}
 use Rattle.pas_same_text.proofs.Flushes.{visible_steps}
 use Rattle.pas_same_text.proofs.FreeGrains.{cached_held, outer_held, held_by, never_both, holder_thread}
-use Rattle.pas_same_text.proofs.GivenPages.{IsGivenBack, open_from, covered_not_held, free_left, given_pages}
+use Rattle.pas_same_text.proofs.GivenPages.{IsGivenBack, covered_not_held, free_left, given_pages}
 use Rattle.pas_same_text.proofs.GivenUp.{AreUnique, unique_of}
 use Rattle.pas_same_text.proofs.GivingBack.{IsMarked, hint_marks, offer_marks, epoch_stays_by}
 use Rattle.pas_same_text.proofs.GoneLocals.{left, gone_returns, gone_only}
 use Rattle.pas_same_text.proofs.OuterPages.{guards_as, still_unguarded}
-use Rattle.pas_same_text.proofs.RestingPages.{is_open, bit_at, deed_now}
+use Rattle.pas_same_text.proofs.RestingPages.{is_open}
 use Rattle.pas_same_text.proofs.StillIndexes.{same_guards, given_up_keeps}
-use Rattle.pas_same_text.proofs.StopActs.{slot_usable}
-use Rattle.pas_same_text.proofs.StopSteps.{IsMarkedBy, ReadsRoom, grain_read, one_marked, one_hints}
+use Rattle.pas_same_text.proofs.StopActs.{slot_room, read_room}
+use Rattle.pas_same_text.proofs.StopSteps.{IsMarkedBy, one_marked, one_hints}
 
 -- the replay after its steps, with the local allocators that are left
 abbrev pub up_to : Progress → ℕ → List Made → List Slots → Progress
@@ -138,41 +126,18 @@ module _ (f : Profile) (k : ℕ) (p : Progress) (w : World) (s : Slots) (l : Loc
       ]
 
   -- ---- why its page is offered
-  home_is : (q : ℕ) (d : Directory) → IsDirectoryOf f d → is_of v d q ≡ true → s.page ≡ q → d ≡ home_of s
-  home_is q d of is page =
-      let some : known_deed (part k p.list) s.page ≡ deed_word_of (home_of s) = o.known.deed in
-      let word : known_deed (part k p.list) s.page ≡ word_after p.list (Word.Deed s.page) =
-      known_is (known_deed (part k p.list) s.page) (word_after p.list (Word.Deed s.page)) (deeds_known f p.list o.before.legal k s.page) (λ none. deed_word_of-positive (home_of s) (sym some ∙ none)) in
-      let now : word_after p1.list (Word.Deed q) ≡ deed_word_of d = deed_of f p1.list o.after.legal q ∙ ap word_of_deed (deed_now f p1 v o.valid o.after has q d of is) in
-      let stays : word_after p1.list (Word.Deed q) ≡ word_after p.list (Word.Deed q) = deed_same freeing refl k steps p.list q freed in
-      same_from_deed_word d (home_of s) of.kind o.known.directory.kind (sym now ∙ (stays ∙ (ap (λ (x : ℕ). word_after p.list (Word.Deed x)) (sym page) ∙ (sym word ∙ some))))
-
-  slot_room : (q : ℕ) (d : Directory) → IsDirectoryOf f d → is_of v d q ≡ true → s.page ≡ q → HasMember s.starts → is_open v d q ≡ true
-  slot_room q d of is page m =
-      let b : ℕ = m.0 in
-      let small : b < 256 = m.1 in
-      let slot : IsSlotStart s.class b = o.known.starts b m.2 in
-      let some : 1 ≤ class_grains s.class = class_grains_positive s.class o.known.class in
-      let first : start_of s.class b ≡ b = start_at s.class b b slot (omega arith) (omega (arith, some)) in
-      let g : ℕ = 256 * q + b in
-      let at_page : (256 * q + b) / 256 ≡ q = omega (arith, small) in
-      let at_grain : (256 * q + b) % 256 ≡ b = omega (arith, small) in
-      let covered : covers s g ≡ true =
-      ap (λ (t : Bool). t && is_set s.starts (start_of s.class (g % 256))) (eq-eqb s.page (g / 256) (page ∙ sym at_page))
-      ∙ (ap (λ (x : ℕ). is_set s.starts (start_of s.class x)) at_grain ∙ (ap (is_set s.starts) first ∙ m.2)) in
+  slots_free : (g : ℕ) → covers s g ≡ true → free_bit p1.list g ≡ true
+  slots_free g covered =
       let held : holds (part k p.list) g ≡ true = cached_held f p o.before k g o.thread (o.in_cache g covered) in
-      let free : free_bit p1.list g ≡ true = free_left f p1.list o.valid o.after.legal g
+      free_left f p1.list o.valid o.after.legal g
       (λ j now. nobody j g covered now)
-      (λ a b' lives of_it. covered_not_held f p.list o.valid o.before.legal g a b' (ap (λ (es : List Event). live_in es a) (sym shown) ∙ lives) of_it k held) in
-      open_from f p1 v o.valid o.after has d q b small (ap (λ (x : Directory). usable_by_kind x.kind b) (home_is q d of is page) ∙ slot_usable s.right s.class b some slot) free
-
-  read_room : (q : ℕ) (d : Directory) → IsDirectoryOf f d → is_of v d q ≡ true → s.page ≡ q → ReadsRoom q (home_of s) steps → is_open v d q ≡ true
-  read_room q d of is page r =
-      open_from f p1 v o.valid o.after has d q r.grain r.small (ap (λ (x : Directory). usable_by_kind x.kind r.grain) (home_is q d of is page) ∙ r.usable)
-      (bit_at p1.list q r.grain r.small ∙ grain_read freeing refl f k p.list q r.grain steps o.after.legal freed r.read)
+      (λ a b lives of_it. covered_not_held f p.list o.valid o.before.legal g a b (ap (λ (es : List Event). live_in es a) (sym shown) ∙ lives) of_it k held)
 
   marked_room : (q : ℕ) (d : Directory) → IsDirectoryOf f d → is_of v d q ≡ true → IsMarkedBy s q steps → is_open v d q ≡ true
-  marked_room q d of is m = elim m.room [ inl some ↦ slot_room q d of is m.page some | inr read ↦ read_room q d of is m.page read ]
+  marked_room q d of is m = elim m.room [
+    | inl some ↦ slot_room f k p steps c1 v o.valid o.before o.after has freed s o.known slots_free q d of is m.page some
+    | inr read ↦ read_room f k p steps c1 v o.valid o.before o.after has freed s o.known q d of is m.page read
+  ]
 
   marked : (q : ℕ) → IsMarked q steps → IsMarkedBy s q steps
   marked q m = one_marked s q steps o.known.class o.order m

@@ -1,7 +1,7 @@
 -- WHAT A SEARCH FOR A RUN READ of a page, where no other actor makes a step: a page that was read as usable was usable before the search, and one that was usable before it is
 -- never read as not usable, lost or broken.
 use Rattle.std.proofs.Common.{◌≡◌, ◌≢◌, ℕ, ◌+◌, ◌*◌, ◌/◌, ◌%◌, ◌<◌, ◌==◌, Bool, true, false, ◌&&◌, ◌||◌, if◌then◌else◌, List, [], ◌∷◌, ◌++◌, ◌⊎◌, inl, inr, refl, ap, sym, ◌∙◌, subst, arith}
-use Rattle.std.proofs.lemmas.Bool.{true≢false, false≢true, eqb-true, eq-eqb, cases_eq}
+use Rattle.std.proofs.lemmas.Bool.{true≢false, false≢true, eqb-true, eq-eqb, cases_eq, or_from}
 use Rattle.pas_bits.specs.Bits.{has_bit}
 use Rattle.pas_profile.specs.Directories.{IsKind, number_of, deed_word_of}
 use Rattle.pas_profile.specs.Layouts.{same_word}
@@ -147,13 +147,9 @@ module _ (f : Profile) (k : ℕ) (l : Whole) (d : Directory) (p : ℕ) where
       bit : has_bit m.answer b ≡ free_bit (triples k xs ++ l) (p * 256 + (64 * word + b))
       bit = ap (λ (n : ℕ). has_bit n b) (free_read (triples k xs ++ l) p word m.step m.answer h.0 legal.0.answer_is) ∙ grain_bit (triples k xs ++ l) p word b small lt
 
-      neither : (x y : Bool) → x ≡ false → y ≡ false → (x || y) ≡ true → ⊥
-      neither true y none held h = true≢false none
-      neither false y none held h = true≢false (sym h ∙ held)
-
       by_bit : (t : Bool) → free_bit l (p * 256 + (64 * word + b)) ≡ t → free_bit l (p * 256 + (64 * word + b)) ≡ true
       by_bit true is = is
-      by_bit false is = let used = stays_used f k l (p * 256 + (64 * word + b)) xs legal.1 lends.1 due.1 is in absurd (neither (has_bit m.answer b) (holds xs (p * 256 + (64 * word + b))) (bit ∙ used.0) used.1 (h.1 b lt))
+      by_bit false is = let used = stays_used f k l (p * 256 + (64 * word + b)) xs legal.1 lends.1 due.1 is in absurd (false≢true (sym (or_from (has_bit m.answer b) (holds xs (p * 256 + (64 * word + b))) (bit ∙ used.0) used.1) ∙ h.1 b lt))
 
   -- A PAGE THAT WAS READ AS USABLE was so before the search
   pub usable_was : (xs : List Made) → IsKind d.kind → Legal f (triples k xs ++ l) → LendsNone xs → Always ReturnsDuly xs → ReadUsable d p xs → IsUsablePage d l p

@@ -24,18 +24,17 @@ use Rattle.pas_steps.specs.InTurn.{InTurn}
 use Rattle.pas_steps.specs.Kinds.{Only, Giving, LookLife, Backing, returning}
 use Rattle.pas_steps.specs.Lists.{Whole, part, word_after, visible, Legal}
 use Rattle.pas_steps.specs.Past.{Once, Always}
-use Rattle.pas_steps.specs.Views.{View, holds, has_right}
+use Rattle.pas_steps.specs.Views.{View, has_right}
 use Rattle.pas_steps.specs.declared.step.Made.{Made}
 use Rattle.pas_steps.specs.declared.step.Step.TheVariants.{Hint}
 use Rattle.pas_steps.proofs.Adding.{triples_append}
 use Rattle.pas_steps.proofs.Apart.{events_same, only_both, only_within}
 use Rattle.pas_steps.proofs.Frames.{events_append}
 use Rattle.pas_steps.proofs.Parts.{part_of_own}
-use Rattle.pas_core.specs.Good.{IsPartOf, IsInOnePlace}
+use Rattle.pas_core.specs.Good.{IsPartOf}
 use Rattle.pas_core.specs.Rights.{eligible_bit}
-use Rattle.pas_core.proofs.MachineRuns.{runs, in_one_place}
+use Rattle.pas_core.proofs.MachineRuns.{runs}
 use Rattle.pas_core.proofs.Nexts.{agreed_steps}
-use Rattle.pas_core.proofs.OneActor.{legal_earlier}
 use Rattle.pas_core.proofs.Rights.{right_not_offered}
 use Rattle.pas_rights.specs.Gives.{give_steps}
 use Rattle.pas_rights.specs.Looks.{ReadsAllFree}
@@ -70,9 +69,9 @@ use Rattle.pas_same_text.specs.Words.{free_bit}
 use Rattle.pas_same_text.proofs.BitfitGiven.{one_more}
 use Rattle.pas_same_text.proofs.CachedSlots.{block_of, block_same}
 use Rattle.pas_same_text.proofs.FlushActs.{events_recorded}
-use Rattle.pas_same_text.proofs.Flushes.{visible_steps}
-use Rattle.pas_same_text.proofs.FreeGrains.{outer_held}
-use Rattle.pas_same_text.proofs.GivingBack.{HintsPage, OffersPage, IsMarked, once_parts, marked_parts, none_marked, hint_marks, offer_marks, offered_by, hints_of, hint_read, epoch_stays_by}
+use Rattle.pas_same_text.proofs.Flushes.{visible_steps, legal_between}
+use Rattle.pas_same_text.proofs.FreeGrains.{outer_held, free_unheld, free_uncovered}
+use Rattle.pas_same_text.proofs.GivingBack.{HintsPage, OffersPage, IsMarked, once_parts, none_marked, hint_marks, offer_marks, offered_by, hints_of, hint_read, epoch_stays_by, marked_left}
 use Rattle.pas_same_text.proofs.KeepersRest.{outer_last}
 use Rattle.pas_same_text.proofs.LeftRuns.{all_marked, all_in_run, left_due, left_room}
 use Rattle.pas_same_text.proofs.MissedGuards.{made_listed, all_listed, deed_listed, deed_unlisted, live_listed, IsLeftFree, left_offered}
@@ -85,6 +84,7 @@ use Rattle.pas_same_text.proofs.SmallActs.{records_next}
 use Rattle.pas_same_text.proofs.SoughtRuns.{IsRunOf, IsMadeOf}
 use Rattle.pas_same_text.proofs.StopSteps.{ReadsGrain, grain_read}
 use Rattle.pas_same_text.proofs.TriedRuns.{unowned_free, visible_mid, made_events, found_made, found_pages}
+use Rattle.pas_same_text.proofs.Tests.{on_page}
 
 -- ---- what backings of pages in turn leave as it is
 module _ (k : ℕ) where
@@ -177,11 +177,9 @@ module _ (f : Profile) (k name heap n : ℕ) (p q : Progress) (w : World) (valid
   steps_are : rest ++ xs ≡ run.left ++ (gave ++ (run.backs ++ xs))
   steps_are = ap (λ (ms : List Made). ms ++ xs) run.after_is ∙ append_assoc run.left (gave ++ run.backs) xs
 
-  steps_end : rest ++ xs ≡ (run.left ++ gave) ++ (run.backs ++ xs)
-  steps_end = steps_are ∙ sym (append_assoc run.left gave (run.backs ++ xs))
-
   legal_backs : Legal f (triples k run.backs ++ mid)
-  legal_backs = subst (Legal f) (sym (triples_append k run.backs xs l)) (legal_earlier f k (run.left ++ gave) (run.backs ++ xs) l (subst (λ (ms : List Made). Legal f (triples k ms ++ l)) steps_end whole))
+  legal_backs = legal_between f k (run.left ++ gave) run.backs xs l
+      (subst (λ (ms : List Made). Legal f (triples k ms ++ l)) (steps_are ∙ sym (append_assoc run.left gave (run.backs ++ xs))) whole)
 
   span : HasSpan d first (first + (n + 2)) own (xs ++ own)
   span = run.found.got.from own met (agreed_steps f k l xs valid legal)
@@ -328,9 +326,6 @@ module _ (f : Profile) (k name heap n : ℕ) (p q : Progress) (w : World) (valid
   in_block : (g : ℕ) → in_run (grain_of block.name) (length_of block) g ≡ in_span (first + 1) (first + 1 + n) (g / 256)
   in_block g = ap (λ (b : Block). in_run (grain_of b.name) (length_of b) g) run.block_is ∙ run_is d (first + 1) n run.word g
 
-  on_page : (x b : ℕ) → b < 256 → (256 * x + b) / 256 ≡ x
-  on_page x b small = omega (arith, small)
-
   covers : (x b : ℕ) → IsInRun (first + 1) n x → b < 256 → in_run (grain_of block.name) (length_of block) (256 * x + b) ≡ true
   covers x b here small = in_block (256 * x + b) ∙ (ap (in_span (first + 1) (first + 1 + n)) (on_page x b small) ∙ span_in (first + 1) (first + 1 + n) x here.0 here.1)
 
@@ -360,20 +355,10 @@ module _ (f : Profile) (k name heap n : ℕ) (p q : Progress) (w : World) (valid
   run_used : (x b : ℕ) → IsInRun first (n + 2) x → b < 256 → free_bit q.list (256 * x + b) ≡ true → ⊥
   run_used x b here small free = by_page (inner_or first n x here)
     where
-      covered : IsInRun (first + 1) n x → IsInOnePlace q.list (256 * x + b) → ⊥
-      covered inner (inl o) = o.no_block (address_of block.name) live
-          (ap (λ (evs : List Event). live_in evs (address_of block.name)) visible_are ∙ ap (λ (t : Bool). if t then Some live else live_in (es ++ visible l) (address_of block.name)) (eq-eqb (address_of block.name) (address_of block.name) refl)) (covers x b inner small)
-      covered inner (inr (inl o)) = true≢false (sym free ∙ o.not_free)
-      covered inner (inr (inr o)) = true≢false (sym free ∙ o.not_free)
-
-      held : holds (part k q.list) (256 * x + b) ≡ true → IsInOnePlace q.list (256 * x + b) → ⊥
-      held has (inl o) = false≢true (sym (o.nobody k) ∙ has)
-      held has (inr (inl o)) = true≢false (sym free ∙ o.not_free)
-      held has (inr (inr o)) = true≢false (sym free ∙ o.not_free)
-
       by_page : IsInRun (first + 1) n x ⊎ ((first ≡ x) ⊎ (first + n + 1 ≡ x)) → ⊥
-      by_page (inl inner) = covered inner (in_one_place f q.list valid there.legal (256 * x + b))
-      by_page (inr outer) = held (outer_held f q there k (256 * x + b) (ap (is_outer (q.books k)) (on_page x b small) ∙ own_outer x outer)) (in_one_place f q.list valid there.legal (256 * x + b))
+      by_page (inl inner) = free_uncovered f q.list valid there.legal (256 * x + b) free (address_of block.name) live
+          (ap (λ (evs : List Event). live_in evs (address_of block.name)) visible_are ∙ ap (λ (t : Bool). if t then Some live else live_in (es ++ visible l) (address_of block.name)) (eq-eqb (address_of block.name) (address_of block.name) refl)) (covers x b inner small)
+      by_page (inr outer) = false≢true (sym (free_unheld f q.list valid there.legal (256 * x + b) free k) ∙ outer_held f q there k (256 * x + b) (ap (is_outer (q.books k)) (on_page x b small) ∙ own_outer x outer))
 
   -- ---- the leave
   abbrev base : Whole
@@ -392,10 +377,7 @@ module _ (f : Profile) (k name heap n : ℕ) (p q : Progress) (w : World) (valid
   after_kinds = (refl, (refl, only_within (Backing ∷ []) (Giving ∷ LookLife ∷ Backing ∷ []) run.backs refl (raised_backs run)))
 
   mark_left : (x : ℕ) → IsMarked x rest → IsMarked x run.left
-  mark_left x h = elim (marked_parts x run.left (gave ++ run.backs) (subst (IsMarked x) run.after_is h)) [
-    | inl marked ↦ marked
-    | inr later ↦ absurd (none_marked (Giving ∷ LookLife ∷ Backing ∷ []) refl x (gave ++ run.backs) after_kinds later)
-  ]
+  mark_left x h = marked_left (Giving ∷ LookLife ∷ Backing ∷ []) refl x run.left (gave ++ run.backs) after_kinds (subst (IsMarked x) run.after_is h)
 
   left_here : (x : ℕ) → IsMarked x run.left → IsInRun first (n + 2) x
   left_here x h = all_marked d (IsInRun first (n + 2)) (left_last_first first n) x run.left (left_in_run first n) run.left_order h

@@ -1,11 +1,13 @@
 -- A PAGE IS MADE READY for a block: the events of a search before a give are those of the text, by the machine's rules alone.
-use Rattle.std.proofs.Common.{◌≡◌, ◌≢◌, ℕ, ◌==◌, Bool, true, false, if◌then◌else◌, List, [], ◌∷◌, ◌++◌, map, Option, None, Some, ◌⊎◌, inl, inr, refl, ap, sym, ◌∙◌, subst}
-use Rattle.std.proofs.lemmas.Bool.{true≢false, false≢true, eq-eqb, eqb-true, false_from_ne_true}
-use Rattle.std.proofs.lemmas.Option.{same_Some}
+use Rattle.std.proofs.Common.{◌≡◌, ◌≢◌, ℕ, ◌==◌, Bool, true, false, if◌then◌else◌, List, [], ◌∷◌, ◌++◌, map, Option, None, Some, ◌⊎◌, inl, inr, refl, ap, sym, ◌∙◌, subst, ◌+◌, ◌*◌, ◌/◌, ◌<◌, ◌≤◌, arith}
+use Rattle.std.proofs.lemmas.Bool.{true≢false, eq-eqb, eqb-true, false_from_ne_true}
+use Rattle.std.proofs.lemmas.Option.{same_Some, none-some}
 use Rattle.pas_profile.specs.declared.directory.Directory.{Directory}
 use Rattle.pas_profile.specs.declared.event.Event.{Event}
 use Rattle.pas_profile.specs.declared.profile.Profile.{Profile}
-use Rattle.pas_machine.specs.Machine.{Admits, Run}
+use Rattle.pas_profile.specs.Blocks.{grain_of, length_of}
+use Rattle.pas_profile.specs.declared.name.Block.{Block}
+use Rattle.pas_machine.specs.Machine.{Admits, Run, Bears}
 use Rattle.pas_machine.specs.State.{deed_in, backed_in}
 use Rattle.pas_steps.specs.Events.{event_of, with_event, events_by}
 use Rattle.pas_steps.specs.Views.{View, epoch_of}
@@ -17,6 +19,8 @@ use Rattle.pas_one_text.specs.State.{World, shows, live_after}
 use Rattle.pas_one_text.specs.Pages.{is_none}
 use Rattle.pas_one_text.specs.Searches.{deeds, backs, readies}
 use Rattle.pas_same_text.specs.Same.{lives_in}
+use Rattle.pas_same_text.proofs.Tests.{eqb_itself}
+use Rattle.pas_bits.proofs.Runs.{to_run}
 
 -- ---- events that are shown
 abbrev pub shown : List Event → World → World
@@ -106,13 +110,8 @@ module _ (k : ℕ) (d : Directory) (page : ℕ) where
       at e IsAtPage.Backs = refl
 
   -- ---- none but those that are due
-  is_there : Option Directory → Bool
-  is_there None = false
-  is_there (Some x) = true
-
   deed_there : (o : Option Directory) → (if page == page then Some d else o) ≡ None → ⊥
-  unfolding is_there
-  deed_there o none = false≢true (sym (ap is_there none) ∙ ap (λ (t : Bool). is_there (if t then Some d else o)) (eq-eqb page page refl))
+  deed_there o none = none-some d (sym none ∙ ap (λ (t : Bool). if t then Some d else o) (eqb_itself page))
 
   none_before : (f : Profile) (es base : List Event) → AllAtPage k d page es → Run f (es ++ base) → deed_in (es ++ base) page ≡ None → es ≡ []
   none_before f [] base all run none = refl
@@ -165,3 +164,11 @@ module _ (k : ℕ) (d : Directory) (page : ℕ) where
           ap (backs k page) (unowned w none) ∙ (was_backed (shows (Event.Deed k page d) w) still ∙ ap (λ (xs : List Event). shows (Event.Deed k page d) (shown xs w)) (sym empty))
       at e IsAtPage.Backs may backed =
           ap (backs k page) (deeded f es w all.1 run.1 may.1 may.2) ∙ unbacked (shown es w) (ap (λ (xs : List Event). backed_in xs page) (shown_events es w) ∙ may.2)
+
+  -- .. where a block of it was given
+  pub given_ready : (f : Profile) (es : List Event) (w : World) (giver : ℕ) (block : Block) (start : ℕ) → AllAtPage k d page es → Run f (Event.Give giver block ∷ (es ++ w.events)) → start < 256 → grain_of block.name ≡ 256 * page + start → 1 ≤ length_of block → readies k d page w ≡ shown es w
+  given_ready f es w giver block start at run small grain some =
+      let on : (256 * page + start) / 256 ≡ page = omega (arith, small) in
+      let bears : Bears f (es ++ w.events) block.heap page =
+      subst (Bears f (es ++ w.events) block.heap) on (run.0.bears (256 * page + start) (to_run (grain_of block.name) (length_of block) (256 * page + start) (omega (arith, grain)) (omega (arith, grain, some)))) in
+      readied f es w at run.1 (λ none. none-some _ (sym none ∙ bears.deed)) bears.backed

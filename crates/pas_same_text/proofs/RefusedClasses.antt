@@ -23,17 +23,15 @@ use Rattle.pas_segregated.specs.declared.slots.Slots.{Slots}
 use Rattle.pas_cache.specs.Contents.{Cached}
 use Rattle.pas_cache.specs.Serves.{wanted_for, filling_in, IsRefill, Fetches, IsObtained, IsAnswered, ServesClass, ServesBy}
 use Rattle.pas_report.specs.declared.record.Said.{Said as TheSaid}
-use Rattle.pas_trace.specs.Acts.{Act}
 use Rattle.pas_trace.specs.EveryPlan.{IsThread}
-use Rattle.pas_trace.specs.declared.plan.What.TheVariants.{Alloc}
 use Rattle.pas_answers.specs.Answers.{Progress, Named, named, Answer, having, IsServed, after_answer, said_of_room, said_of_request}
 use Rattle.pas_answers.specs.Answers.{block_of as block_answered}
 use Rattle.pas_one_text.specs.State.{World}
 use Rattle.pas_one_text.specs.Searches.{refusal, refuses}
 use Rattle.pas_one_text.specs.Classes.{slots_for, takes_page, fetches, serves_class}
-use Rattle.pas_one_text.specs.Order.{acts_on, serves}
+use Rattle.pas_one_text.specs.Order.{serves}
 use Rattle.pas_same_text.specs.Same.{IsSame, HasSame}
-use Rattle.pas_same_text.specs.Acts.{IsBetween, IsTaken}
+use Rattle.pas_same_text.specs.Acts.{IsBetween}
 use Rattle.pas_same_text.proofs.BitfitRequests.{none_searched}
 use Rattle.pas_same_text.proofs.CacheLists.{same_own}
 use Rattle.pas_same_text.proofs.ClassFits.{class_fits}
@@ -158,9 +156,3 @@ module _ (f : Profile) (k name heap size align class : ℕ) (p p' : Progress) (w
     class_refused = subst (λ (r : Route). IsSame f p' (serves f k name heap r (room_in f size align) align w)) (sym route)
         (ends_so by_class.locals.found by_class.locals.fewer by_class.locals.before by_class.locals.given by_class.locals.steps_are by_class.locals.obtained
         (subst (IsAnswered by_class.locals.fewer a.cache.locals by_class.locals.given by_class.locals.found) is by_class.locals.ends))
-
--- ---- the act
-pub class_refused_act : (f : Profile) (line k name heap size align class : ℕ) → IsThread f k → IsAdmitted f size align heap → route_in f size align ≡ Route.Class class → (p p' : Progress) (w : World) (room : NoRoom)
-    → (taken : IsTaken f (Act.Operates (record { line = line; actor = k; what = Alloc name heap size align })) p p' w) → taken.advances.1.answer ≡ Err room → IsSame f p' (acts_on f (Act.Operates (record { line = line; actor = k; what = Alloc name heap size align })) w)
-class_refused_act f line k name heap size align class thread admitted route p p' w room taken is =
-    class_refused f k name heap size align class p p' w thread admitted route taken.valid taken.before taken.after taken.same taken.advances.0 taken.advances.1 taken.advances.2 room is

@@ -1,6 +1,6 @@
 -- Pages whenever all actors are at rest: a page with room that nobody keeps is offered, and an offered page is offered in the text where it has room.
 use Rattle.std.proofs.Common.{◌≡◌, ℕ, zero, suc, ◌+◌, ◌*◌, ◌/◌, ◌%◌, ◌<◌, ◌≤◌, ◌==◌, Bool, true, false, not, ◌&&◌, List, Option, None, Some, inl, inr, refl, ap, sym, ◌∙◌, arith}
-use Rattle.std.proofs.lemmas.Bool.{eq-eqb, eqb-true, false≢true, true≢false, and_cases, and_from, not_from_false, false_from_ne_true}
+use Rattle.std.proofs.lemmas.Bool.{eq-eqb, eqb-true, false≢true, true≢false, and_cases, and_from, not_from_false, false_from_ne_true, not-true, not-false}
 use Rattle.pas_bits.specs.Bits.{has_bit}
 use Rattle.pas_profile.specs.Directories.{number_of, deed_word_of, deed_word_numbered, directory_read, IsKind}
 use Rattle.pas_profile.specs.Profiles.{IsValid, IsDirectoryOf}
@@ -11,16 +11,16 @@ use Rattle.pas_profile.specs.declared.word.Word.TheVariants as Word
 use Rattle.pas_profile.proofs.Codecs.{numbered, deed_word_of-positive, read-deed_word_of, directory_from_profile, same_from_deed_word}
 use Rattle.pas_machine.specs.State.{deed_in}
 use Rattle.pas_steps.specs.Clear.{IsClear}
-use Rattle.pas_steps.specs.Lists.{Whole, part, word_after, visible}
-use Rattle.pas_steps.specs.Views.{usable_by, usable_by_kind}
+use Rattle.pas_steps.specs.Lists.{Whole, part, word_after, visible, Legal}
+use Rattle.pas_steps.specs.Views.{usable_by, usable_by_kind, known_deed}
 use Rattle.pas_core.specs.Good.{word_of_deed}
 use Rattle.pas_core.specs.Rights.{eligible_bit, IsUsableFree, IsRightOffered, IsRightInOnePlace}
-use Rattle.pas_core.proofs.Deeds.{deed_of, directory_is_of}
+use Rattle.pas_core.proofs.Deeds.{deed_of, directory_is_of, known_is}
 use Rattle.pas_core.proofs.Offers.{offered_at_rest}
-use Rattle.pas_core.proofs.Rights.{right_in_one_place}
+use Rattle.pas_core.proofs.Rights.{right_in_one_place, deeds_known}
 use Rattle.pas_answers.specs.Answers.{Progress}
 use Rattle.pas_one_text.specs.State.{World}
-use Rattle.pas_one_text.specs.Pages.{each_of, is_same, is_of, is_kept, is_guarded, is_free, has_room, is_offered}
+use Rattle.pas_one_text.specs.Pages.{each_of, is_same, is_of, is_kept, is_guarded, is_free, has_room, is_offered, is_none}
 use Rattle.pas_same_text.specs.Same.{HasSame}
 use Rattle.pas_same_text.specs.Acts.{IsBetween}
 use Rattle.pas_same_text.specs.Words.{free_bit}
@@ -50,6 +50,22 @@ some_fails (suc n) from test h = elim (and_cases (test from) (each_of (from + 1)
 ]
 
 -- ---- deeds
+-- a page has a deed where its word isn't 0
+pub no_word : (o : Option Directory) → is_none o ≡ true → word_of_deed o ≡ 0
+no_word None h = refl
+no_word (Some e) h = absurd (false≢true h)
+
+pub unowned_by : (o : Option Directory) → word_of_deed o ≡ 0 → is_none o ≡ true
+unowned_by None h = refl
+unowned_by (Some e) h = absurd (deed_word_of-positive e h)
+
+pub owned_is : (f : Profile) (l : Whole) (w : World) → Legal f l → w.events ≡ visible l → (page : ℕ) → word_after l (Word.Deed page) ≡ word_of_deed (deed_in w.events page)
+owned_is f l w legal events page = deed_of f l legal page ∙ ap (λ (es : List Event). word_of_deed (deed_in es page)) (sym events)
+
+-- an actor that knows the deed of a page knows its word
+pub word_known : (f : Profile) (l : Whole) → Legal f l → (k page : ℕ) (d : Directory) → known_deed (part k l) page ≡ deed_word_of d → word_after l (Word.Deed page) ≡ deed_word_of d
+word_known f l legal k page d knows = sym (known_is (known_deed (part k l) page) (word_after l (Word.Deed page)) (deeds_known f l legal k page) (λ none. deed_word_of-positive d (sym knows ∙ none))) ∙ knows
+
 pub record IsDeedOf (o : Option Directory) (d : Directory) : Type 0 where
   pub deed : Directory
   pub is : o ≡ Some deed
@@ -61,14 +77,6 @@ deed_told d (Some e) h = record { deed = e; is = refl; number = eqb-true (number
 
 same_number : (a b : Directory) → IsKind a.kind → IsKind b.kind → number_of a ≡ number_of b → a ≡ b
 same_number a b ka kb same = same_from_deed_word a b ka kb (sym (numbered a ka) ∙ (ap deed_word_numbered same ∙ numbered b kb))
-
-no-not : (x : Bool) → not x ≡ true → x ≡ false
-no-not true h = absurd (false≢true h)
-no-not false h = refl
-
-not-no : (x : Bool) → not x ≡ false → x ≡ true
-not-no true h = refl
-not-no false h = absurd (true≢false h)
 
 -- the bit of grain b of a page
 pub bit_at : (l : Whole) (page b : ℕ) → b < 256 → free_bit l (256 * page + b) ≡ has_bit (word_after l (Word.Free page (b / 64))) (b % 64)
@@ -88,7 +96,7 @@ pub is_opened : (w : World) (d : Directory) (page : ℕ) → is_guarded w page �
 is_opened w d page none room = and_from (not (is_guarded w page)) (has_room w d page) (not_from_false (is_guarded w page) none) room
 
 pub open_unguarded : (w : World) (d : Directory) (page : ℕ) → is_open w d page ≡ true → is_guarded w page ≡ false
-open_unguarded w d page h = no-not (is_guarded w page) (and_first (not (is_guarded w page)) (has_room w d page) h)
+open_unguarded w d page h = not-true (is_guarded w page) (and_first (not (is_guarded w page)) (has_room w d page) h)
 
 pub open_room : (w : World) (d : Directory) (page : ℕ) → is_open w d page ≡ true → has_room w d page ≡ true
 open_room w d page h = and_second (not (is_guarded w page)) (has_room w d page) h
@@ -109,7 +117,7 @@ module _ (f : Profile) (p : Progress) (w : World) (valid : IsValid f) (between :
       let of_own : IsDirectoryOf f o.deed = directory_is_of f p.list between.legal page o.deed there in
       there ∙ ap (λ (x : Directory). Some x) (same_number o.deed d of_own.kind of.kind o.number)
 
-  word_now : (page : ℕ) (d : Directory) → deed_in (visible p.list) page ≡ Some d → word_after p.list (Word.Deed page) ≡ deed_word_of d
+  pub word_now : (page : ℕ) (d : Directory) → deed_in (visible p.list) page ≡ Some d → word_after p.list (Word.Deed page) ≡ deed_word_of d
   word_now page d is = deed_of f p.list between.legal page ∙ ap word_of_deed is
 
   pub free_at : (page b : ℕ) → b < 256 → is_guarded w page ≡ false → is_free w page b ≡ has_bit (word_after p.list (Word.Free page (b / 64))) (b % 64)
@@ -137,11 +145,11 @@ module _ (f : Profile) (p : Progress) (w : World) (valid : IsValid f) (between :
   offered_bit page d of h =
       let own : is_of w d page ≡ true = and_first (is_of w d page) (not (is_kept w page) && is_open w d page) h in
       let rest : (not (is_kept w page) && is_open w d page) ≡ true = and_second (is_of w d page) (not (is_kept w page) && is_open w d page) h in
-      let kept : is_kept w page ≡ false = no-not (is_kept w page) (and_first (not (is_kept w page)) (is_open w d page) rest) in
+      let kept : is_kept w page ≡ false = not-true (is_kept w page) (and_first (not (is_kept w page)) (is_open w d page) rest) in
       let open_page : is_open w d page ≡ true = had_open w d page h in
       let room : has_room w d page ≡ true = open_room w d page open_page in
-      let o : Fails 0 256 (λ b. not (usable_by_kind d.kind b && is_free w page b)) = some_fails 256 0 (λ b. not (usable_by_kind d.kind b && is_free w page b)) (no-not (each_of 0 256 (λ b. not (usable_by_kind d.kind b && is_free w page b))) room) in
-      let both : (usable_by_kind d.kind o.number && is_free w page o.number) ≡ true = not-no (usable_by_kind d.kind o.number && is_free w page o.number) o.fails in
+      let o : Fails 0 256 (λ b. not (usable_by_kind d.kind b && is_free w page b)) = some_fails 256 0 (λ b. not (usable_by_kind d.kind b && is_free w page b)) (not-true (each_of 0 256 (λ b. not (usable_by_kind d.kind b && is_free w page b))) room) in
+      let both : (usable_by_kind d.kind o.number && is_free w page o.number) ≡ true = not-false (usable_by_kind d.kind o.number && is_free w page o.number) o.fails in
       let small : o.number < 256 = o.high in
       let word : word_after p.list (Word.Deed page) ≡ deed_word_of d = word_now page d (deed_now page d of own) in
       offered_where page o.number d small of word kept

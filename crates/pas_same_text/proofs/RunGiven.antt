@@ -1,8 +1,7 @@
 -- A REQUEST FOR WHOLE PAGES THAT IS SERVED by a run: its pages get deeds and memory where they have none, the lowest first, and their block is given.
-use Rattle.std.proofs.Common.{◌≡◌, ◌≢◌, ℕ, ◌+◌, ◌*◌, ◌/◌, ◌%◌, ◌<◌, ◌≤◌, ◌==◌, Bool, true, false, not, ◌&&◌, if◌then◌else◌, List, [], ◌∷◌, ◌++◌, Option, None, Some, ◌⊎◌, inl, inr, refl, ap, sym, ◌∙◌, subst, arith, append_assoc}
-use Rattle.std.proofs.lemmas.Bool.{true≢false, false≢true, eq-eqb, false_from_ne_true}
+use Rattle.std.proofs.Common.{◌≡◌, ◌≢◌, ℕ, ◌+◌, ◌*◌, ◌/◌, ◌<◌, ◌≤◌, ◌==◌, Bool, true, false, not, ◌&&◌, if◌then◌else◌, List, [], ◌∷◌, ◌++◌, Option, None, Some, ◌⊎◌, inl, inr, refl, ap, sym, ◌∙◌, subst, arith, append_assoc, append-nil}
+use Rattle.std.proofs.lemmas.Bool.{false≢true, false_from_ne_true}
 use Rattle.std.specs.List.{flat_map, filter}
-use Rattle.pas_bits.specs.Bits.{has_bit}
 use Rattle.pas_bits.specs.Runs.{in_run, meets_page}
 use Rattle.pas_profile.specs.Blocks.{address_of, grain_of, length_of}
 use Rattle.pas_profile.specs.Directories.{number_of, deed_word_of}
@@ -12,37 +11,34 @@ use Rattle.pas_profile.specs.declared.event.Event.{Event}
 use Rattle.pas_profile.specs.declared.name.Block.{Block}
 use Rattle.pas_profile.specs.declared.profile.Profile.{Profile}
 use Rattle.pas_profile.specs.declared.word.Word.TheVariants as Word
-use Rattle.pas_profile.proofs.Codecs.{deed_word_of-positive, same_from_deed_word}
+use Rattle.pas_profile.proofs.Codecs.{deed_word_of-positive}
 use Rattle.pas_machine.specs.Machine.{Run}
 use Rattle.pas_machine.specs.State.{Live, live_in, deed_in, gives_in}
 use Rattle.pas_steps.specs.Agreement.{Agreed}
 use Rattle.pas_steps.specs.Calls.{Leads, Kept, Gained}
 use Rattle.pas_steps.specs.Calls.{now as has_now}
 use Rattle.pas_steps.specs.Desks.{triples}
-use Rattle.pas_steps.specs.Effects.{target, free_word_at}
 use Rattle.pas_steps.specs.Events.{events_by}
 use Rattle.pas_steps.specs.InTurn.{InTurn}
 use Rattle.pas_steps.specs.Kinds.{Only, Giving, LookLife, Backing, returning}
 use Rattle.pas_steps.specs.Lists.{Whole, part, word_after, visible, Legal}
-use Rattle.pas_steps.specs.Past.{Once, Always}
-use Rattle.pas_steps.specs.Views.{View, has_right, known_deed, usable_by_kind}
+use Rattle.pas_steps.specs.Past.{Always}
+use Rattle.pas_steps.specs.Views.{View, has_right, known_deed}
 use Rattle.pas_steps.specs.declared.step.Made.{Made}
-use Rattle.pas_steps.specs.declared.step.Step.{Step}
 use Rattle.pas_steps.specs.declared.step.Step.TheVariants.{Deed, Hint}
 use Rattle.pas_steps.proofs.Adding.{triples_append}
-use Rattle.pas_steps.proofs.Apart.{events_same, no_events, only_both, only_within}
+use Rattle.pas_steps.proofs.Apart.{events_same, only_both, only_within}
 use Rattle.pas_steps.proofs.Frames.{events_append}
 use Rattle.pas_steps.proofs.Past.{always_map}
 use Rattle.pas_steps.proofs.Parts.{part_of_own}
-use Rattle.pas_core.specs.Good.{IsInOnePlace, word_of_deed}
+use Rattle.pas_core.specs.Good.{word_of_deed}
 use Rattle.pas_core.specs.Rights.{eligible_bit}
-use Rattle.pas_core.proofs.Deeds.{deed_of, known_is}
-use Rattle.pas_core.proofs.MachineRuns.{runs, in_one_place}
+use Rattle.pas_core.proofs.Deeds.{deed_of}
+use Rattle.pas_core.proofs.MachineRuns.{runs}
 use Rattle.pas_core.proofs.Nexts.{agreed_steps}
 use Rattle.pas_core.proofs.OneActor.{legal_earlier}
-use Rattle.pas_core.proofs.Rights.{right_in_one_place, right_not_offered, deeds_known}
+use Rattle.pas_core.proofs.Rights.{right_not_offered}
 use Rattle.pas_rights.specs.Gives.{give_steps}
-use Rattle.pas_rights.specs.Looks.{ReadsAllFree}
 use Rattle.pas_scan.specs.Runs.{IsInRun}
 use Rattle.pas_search.specs.Kinds.{ReturnsDuly}
 use Rattle.pas_large.specs.Allocates.{GaveLarge}
@@ -76,18 +72,20 @@ use Rattle.pas_same_text.proofs.BitfitGiven.{one_more}
 use Rattle.pas_same_text.proofs.CachedSlots.{block_of, block_same}
 use Rattle.pas_same_text.proofs.CacheLists.{same_kept}
 use Rattle.pas_same_text.proofs.FlushActs.{events_recorded}
-use Rattle.pas_same_text.proofs.Flushes.{visible_steps}
-use Rattle.pas_same_text.proofs.GivenPages.{open_from}
-use Rattle.pas_same_text.proofs.GivingBack.{HintsPage, OffersPage, IsMarked, once_parts, marked_parts, none_marked, hint_marks, offer_marks, offered_by, hints_of, hint_read, epoch_stays_by}
+use Rattle.pas_same_text.proofs.Flushes.{visible_steps, legal_between, given_lives}
+use Rattle.pas_same_text.proofs.GivingBack.{HintsPage, OffersPage, IsMarked, once_parts, none_marked, hint_marks, offer_marks, offered_by, hints_of, hint_read, epoch_stays_by, marked_left}
 use Rattle.pas_same_text.proofs.LeftRuns.{LeftInTurn, left_marked, left_due, left_room}
-use Rattle.pas_same_text.proofs.LoggedFrees.{after_with, nothing_more}
+use Rattle.pas_same_text.proofs.LoggedFrees.{after_with}
 use Rattle.pas_same_text.proofs.OuterPages.{guards_as, still_unguarded}
 use Rattle.pas_same_text.proofs.ReadyPages.{shown, shown_events, shown_records, shown_lives, shown_rest}
-use Rattle.pas_same_text.proofs.RestingPages.{bit_at, deed_now, bit_tells, bit_offered}
+use Rattle.pas_same_text.proofs.RestingPages.{word_known}
 use Rattle.pas_same_text.proofs.RunEvents.{in_turn, each_in_turn, shown_both, deeded, deeds_of, deeded_falls, deeded_within, deeded_events, deeds_beside, deeds_in_turn, backs_in_turn, backs_beside, deeds_live, backs_live}
 use Rattle.pas_same_text.proofs.RunMarks.{DeedsOn, IsRunTo, run_hints, run_offers}
 use Rattle.pas_same_text.proofs.RunsFound.{DeedsInRun}
-use Rattle.pas_same_text.proofs.StopSteps.{ReadsRoom, grain_read}
+use Rattle.pas_same_text.proofs.StopSteps.{ReadsRoom}
+use Rattle.pas_same_text.proofs.Tests.{on_page}
+use Rattle.pas_same_text.proofs.RoomsRead.{read_offered, never_read}
+use Rattle.pas_same_text.proofs.FreeGrains.{free_uncovered}
 
 -- The n pages from the first one on were got by the first of these steps, which made deeds of pages of this run alone, the lowest first. By the others they were backed, the lowest
 -- first, their block was given, and they were left.
@@ -153,12 +151,9 @@ module _ (f : Profile) (k name heap first n : ℕ) (p : Progress) (u : World) (g
   steps_are : rest ++ got ≡ run.left ++ (gave ++ (run.backs ++ got))
   steps_are = ap (λ (ms : List Made). ms ++ got) run.after_is ∙ append_assoc run.left (gave ++ run.backs) got
 
-  steps_end : rest ++ got ≡ (run.left ++ gave) ++ (run.backs ++ got)
-  steps_end = steps_are ∙ sym (append_assoc run.left gave (run.backs ++ got))
-
   legal_backs : Legal f (triples k run.backs ++ mid)
-  legal_backs =
-      subst (Legal f) (sym (triples_append k run.backs got l)) (legal_earlier f k (run.left ++ gave) (run.backs ++ got) l (subst (λ (ms : List Made). Legal f (triples k ms ++ l)) steps_end legal))
+  legal_backs = legal_between f k (run.left ++ gave) run.backs got l
+      (subst (λ (ms : List Made). Legal f (triples k ms ++ l)) (steps_are ∙ sym (append_assoc run.left gave (run.backs ++ got))) legal)
 
   agreed : Agreed f own (rest ++ got)
   agreed = agreed_steps f k l (rest ++ got) valid legal
@@ -218,7 +213,7 @@ module _ (f : Profile) (k name heap first n : ℕ) (p : Progress) (u : World) (g
   word_mid : (x : ℕ) → IsInRun first n x → word_after mid (Word.Deed x) ≡ deed_word_of d
   word_mid x here =
       let knows : known_deed (part k mid) x ≡ deed_word_of d = ap (λ (v : View). known_deed v x) (part_of_own k got l) ∙ pages.deeds x (span x here) in
-      sym (known_is (known_deed (part k mid) x) (word_after mid (Word.Deed x)) (deeds_known f mid legal_got k x) (λ none. deed_word_of-positive d (sym knows ∙ none))) ∙ knows
+      word_known f mid legal_got k x d knows
 
   deeds_there : (x : ℕ) → IsInRun first n x → deed_in (ds ++ u.events) x ≢ None
   deeds_there x here = no_deed_there d (deed_in (ds ++ u.events) x) (ap (λ (xs : List Event). word_of_deed (deed_in xs x)) (sym visible_mid) ∙ (sym (deed_of f mid legal_got x) ∙ word_mid x here))
@@ -267,9 +262,6 @@ module _ (f : Profile) (k name heap first n : ℕ) (p : Progress) (u : World) (g
   in_block : (g : ℕ) → in_run (grain_of block.name) (length_of block) g ≡ in_span first (first + n) (g / 256)
   in_block g = ap (λ (b : Block). in_run (grain_of b.name) (length_of b) g) run.block_is ∙ run_is d first n run.word g
 
-  on_page : (x b : ℕ) → b < 256 → (256 * x + b) / 256 ≡ x
-  on_page x b small = omega (arith, small)
-
   covers : (x b : ℕ) → IsInRun first n x → b < 256 → in_run (grain_of block.name) (length_of block) (256 * x + b) ≡ true
   covers x b here small = in_block (256 * x + b) ∙ (ap (in_span first (first + n)) (on_page x b small) ∙ span x here)
 
@@ -307,49 +299,24 @@ module _ (f : Profile) (k name heap first n : ℕ) (p : Progress) (u : World) (g
   live = record { actor = k; block = block }
 
   lives : (xs : List Made) → Only returning xs → live_in (visible (triples k xs ++ base)) (address_of block.name) ≡ Some live
-  lives xs only =
-      ap (λ (evs : List Event). live_in evs (address_of block.name))
-      (visible_steps k xs base ∙ (ap (λ (evs : List Event). evs ++ visible base) (no_events returning refl k (part k base) xs only) ∙ visible_steps k (gave ++ (run.backs ++ got)) l))
-      ∙ ap (λ (t : Bool). if t then Some live else live_in (events_by k own (run.backs ++ got) ++ visible l) (address_of block.name)) (eq-eqb (address_of block.name) (address_of block.name) refl)
+  lives xs only = given_lives returning refl k xs (gave ++ (run.backs ++ got)) l block (events_by k own (run.backs ++ got)) only refl
 
   -- no look of the leave reads the first grain of a page of the run as free
-  never_read : (x : ℕ) → IsInRun first n x → (xs : List Made) → Legal f (triples k xs ++ base) → Only returning xs → Once (ReadsAllFree x 0) xs → ⊥
-  never_read x here [] all only h = h
-  never_read x here (m ∷ xs) all only (inr h) = never_read x here xs all.1 only.1 h
-  never_read x here (m ∷ xs) all only (inl h) = by_place (in_one_place f (triples k xs ++ base) valid all.1 (256 * x + 0))
-    where
-      word : free_word_at (256 * x + 0) ≡ Word.Free x 0
-      word =
-          let at_page : (256 * x + 0) / 256 ≡ x = omega arith in
-          let at_word : (256 * x + 0) / 64 % 4 ≡ 0 = omega arith in
-          ap (λ (y : ℕ). Word.Free y ((256 * x + 0) / 64 % 4)) at_page ∙ ap (λ (y : ℕ). Word.Free x y) at_word
-
-      free : free_bit (triples k xs ++ base) (256 * x + 0) ≡ true
-      free =
-          let answer : m.answer ≡ word_after (triples k xs ++ base) (free_word_at (256 * x + 0)) =
-          all.0.answer_is ∙ (ap (λ (s : Step). word_after (triples k xs ++ base) (target s)) h.0 ∙ ap (word_after (triples k xs ++ base)) (sym word)) in
-          ap (λ (y : ℕ). has_bit y ((256 * x + 0) % 64)) (sym answer) ∙ h.1 ((256 * x + 0) % 64) (omega arith)
-
-      by_place : IsInOnePlace (triples k xs ++ base) (256 * x + 0) → ⊥
-      by_place (inl o) = o.no_block (address_of block.name) live (lives xs only.1) (covers x 0 here (omega arith))
-      by_place (inr (inl o)) = true≢false (sym free ∙ o.not_free)
-      by_place (inr (inr o)) = true≢false (sym free ∙ o.not_free)
+  taken : (x : ℕ) → IsInRun first n x → (xs : List Made) → Legal f (triples k xs ++ base) → Only returning xs → free_bit (triples k xs ++ base) (256 * x + 0) ≡ true → ⊥
+  taken x here xs legal only free = free_uncovered f (triples k xs ++ base) valid legal (256 * x + 0) free (address_of block.name) live (lives xs only) (covers x 0 here (omega arith))
 
   -- ---- marks
   after_kinds : Only (Giving ∷ LookLife ∷ Backing ∷ []) (gave ++ run.backs)
   after_kinds = (refl, (refl, only_within (Backing ∷ []) (Giving ∷ LookLife ∷ Backing ∷ []) run.backs refl back_kinds))
 
   mark_left : (x : ℕ) → IsMarked x rest → IsMarked x run.left
-  mark_left x h = elim (marked_parts x run.left (gave ++ run.backs) (subst (IsMarked x) run.after_is h)) [
-    | inl marked ↦ marked
-    | inr later ↦ absurd (none_marked (Giving ∷ LookLife ∷ Backing ∷ []) refl x (gave ++ run.backs) after_kinds later)
-  ]
+  mark_left x h = marked_left (Giving ∷ LookLife ∷ Backing ∷ []) refl x run.left (gave ++ run.backs) after_kinds (subst (IsMarked x) run.after_is h)
 
   no_hint : (x : ℕ) → HintsPage x rest → ⊥
   no_hint x h = elim (once_parts (λ m. m.step ≡ Hint x) run.left (gave ++ run.backs) (subst (HintsPage x) run.after_is h)) [
     | inl left ↦
         let r = hint_read x run.left (hints_of run.left (left_due d (pages_from first n) run.left run.left_order)) left in
-        never_read x (left_marked d first n x run.left run.left_order (hint_marks x run.left left)) run.left legal_left left_kinds (r.free 0 (omega arith))
+        never_read f k base returning x 0 (omega arith) (taken x (left_marked d first n x run.left run.left_order (hint_marks x run.left left))) run.left legal_left left_kinds (r.free 0 (omega arith))
     | inr later ↦ none_marked (Giving ∷ LookLife ∷ Backing ∷ []) refl x (gave ++ run.backs) after_kinds (hint_marks x (gave ++ run.backs) later)
   ]
 
@@ -371,16 +338,8 @@ module _ (f : Profile) (k name heap first n : ℕ) (p : Progress) (u : World) (g
 
   own_offer : (x : ℕ) (e : Directory) → IsInRun first n x → IsDirectoryOf f e → eligible_bit q.list (number_of e) x ≡ true → is_offered v e x ≡ true
   own_offer x e here of_e bit =
-      let r = offer_left x e here bit in
-      let tells = bit_tells f q v valid there same_now x e of_e (right_in_one_place f q.list there.legal x) bit in
-      let word : word_after q.list (Word.Deed x) ≡ deed_word_of e = deed_of f q.list there.legal x ∙ ap word_of_deed (deed_now f q v valid there same_now x e of_e tells.0) in
       let knows : known_deed (part k q.list) x ≡ deed_word_of d = ap (λ (y : View). known_deed y x) (part_of_own k (rest ++ got) l) ∙ given.deeds x (span x here) in
-      let known : known_deed (part k q.list) x ≡ word_after q.list (Word.Deed x) = known_is (known_deed (part k q.list) x) (word_after q.list (Word.Deed x)) (deeds_known f q.list there.legal k x) (λ none. deed_word_of-positive d (sym knows ∙ none)) in
-      let e_is : e ≡ d = same_from_deed_word e d of_e.kind tt (sym word ∙ (sym known ∙ knows)) in
-      let free : has_bit (word_after q.list (Word.Free x (r.grain / 64))) (r.grain % 64) ≡ true =
-      ap (λ (m : Whole). has_bit (word_after m (Word.Free x (r.grain / 64))) (r.grain % 64)) list_is ∙ grain_read returning refl f k base x r.grain run.left legal_left left_kinds r.read in
-      bit_offered f q v valid there same_now x e of_e bit
-      (open_from f q v valid there same_now e x r.grain r.small (ap (λ (y : Directory). usable_by_kind y.kind r.grain) e_is ∙ r.usable) (bit_at q.list x r.grain r.small ∙ free))
+      read_offered f q v valid there same_now returning refl k base run.left list_is left_kinds x e d of_e bit tt knows (offer_left x e here bit)
 
   within : (x : ℕ) → in_span first (first + n) x ≡ true → IsInRun first n x
   within x h = in_parts first (first + n) x h
@@ -422,7 +381,7 @@ module _ (f : Profile) (k name heap first n : ℕ) (p : Progress) (u : World) (g
     caches = same_now.caches;
     guards = same_now.guards;
     names = ap (λ (b : Block). named name (Some b) ∷ (shown es u).names) (sym block_is) ∙ ap (λ (ns : List Named). named name (Some block) ∷ ns) ((shown_rest es u).names ∙ same.names);
-    records = ap (λ (rs : List Record). p.records ++ rs) (nothing_more (records_of (events_by k own (rest ++ got))))
+    records = ap (λ (rs : List Record). p.records ++ rs) (append-nil (records_of (events_by k own (rest ++ got))))
         ∙ (ap (λ (xs : List Event). p.records ++ records_of xs) events_are
         ∙ events_recorded p.records u.records v.records (Event.Give k block ∷ es) same.records
         (ap (λ (b : Block). Record.Event (Event.Give k b) ∷ (shown es u).records) (sym block_is) ∙ ap (λ (rs : List Record). Record.Event (Event.Give k block) ∷ rs) (shown_records es u)));

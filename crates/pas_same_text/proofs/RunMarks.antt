@@ -1,18 +1,17 @@
 -- THE MARKS of pages after a search for a run and what came of it, from one state where all actors are at rest to another: of pages whose deeds it didn't make, and which pages are hinted at all.
-use Rattle.std.proofs.Common.{◌≡◌, ℕ, ◌/◌, ◌%◌, ◌<◌, ◌==◌, Bool, true, List, [], ◌∷◌, ◌++◌, Some, ◌⊎◌, inl, inr, refl, ap, sym, ◌∙◌, subst, arith, false}
-use Rattle.std.proofs.lemmas.Bool.{false≢true}
+use Rattle.std.proofs.Common.{◌≡◌, ℕ, ◌/◌, ◌%◌, ◌<◌, ◌==◌, Bool, true, List, [], ◌∷◌, ◌++◌, ◌⊎◌, inl, inr, refl, ap, sym, ◌∙◌, subst, arith, false}
+use Rattle.std.proofs.lemmas.Bool.{false≢true, cases_Bool}
 use Rattle.std.specs.List.{list_any}
 use Rattle.pas_profile.specs.Directories.{number_of}
 use Rattle.pas_profile.specs.Profiles.{IsValid, IsDirectoryOf}
 use Rattle.pas_profile.specs.declared.directory.Directory.{Directory}
-use Rattle.pas_profile.specs.declared.event.Event.{Event}
 use Rattle.pas_profile.specs.declared.profile.Profile.{Profile}
 use Rattle.pas_profile.specs.declared.word.Word.TheVariants as Word
 use Rattle.pas_machine.specs.State.{deed_in}
 use Rattle.pas_steps.specs.Desks.{triples}
 use Rattle.pas_steps.specs.Effects.{target}
 use Rattle.pas_steps.specs.Kinds.{Only}
-use Rattle.pas_steps.specs.Lists.{Whole, word_after, visible, Legal}
+use Rattle.pas_steps.specs.Lists.{Whole, word_after, Legal}
 use Rattle.pas_steps.specs.Past.{Once, Always}
 use Rattle.pas_steps.specs.declared.step.Made.{Made}
 use Rattle.pas_steps.specs.declared.step.Step.{Step}
@@ -23,7 +22,6 @@ use Rattle.pas_core.specs.Hints.{IsEmptyBacked}
 use Rattle.pas_core.specs.Rights.{empty_bit, eligible_bit}
 use Rattle.pas_core.proofs.Offers.{hinted_at_rest}
 use Rattle.pas_core.proofs.OneActor.{LendsNone, lends_none, legal_earlier}
-use Rattle.pas_core.proofs.Rights.{right_in_one_place}
 use Rattle.pas_rights.specs.Looks.{ReadsBacked, ReadsAllFree, TakesNone, ReadsEmpty}
 use Rattle.pas_scan.specs.Usable.{MakesNoDeedHere}
 use Rattle.pas_search.specs.Kinds.{ReturnsDuly}
@@ -34,20 +32,15 @@ use Rattle.pas_one_text.specs.State.{World}
 use Rattle.pas_one_text.specs.Pages.{is_free, is_hinted, is_guarded, is_offered}
 use Rattle.pas_same_text.specs.Same.{HasSame, ArePagesSame}
 use Rattle.pas_same_text.specs.Acts.{IsBetween}
-use Rattle.pas_same_text.proofs.GivenPages.{open_grows}
 use Rattle.pas_same_text.proofs.GivingBack.{HintsPage, OffersPage, once_parts, backed_stays, hinted_stays, hinted_by, offered_by}
 use Rattle.pas_same_text.proofs.PagesRead.{offered_then}
-use Rattle.pas_same_text.proofs.RestingPages.{had_open, clear_of, deed_now, bit_tells, bit_offered, offered_bit}
-use Rattle.pas_same_text.proofs.SearchedMarks.{offers_got}
-use Rattle.pas_same_text.proofs.SearchMarks.{read_free, own_bit}
+use Rattle.pas_same_text.proofs.RestingPages.{clear_of, offered_bit}
+use Rattle.pas_same_text.proofs.SearchedMarks.{offers_got, offered_still}
+use Rattle.pas_same_text.proofs.SearchMarks.{read_free}
 
 -- each deed that was made is of the directory, and of a page that is one of these
 abbrev pub DeedsOn : Directory → (ℕ → Bool) → List Made → Type 0
 DeedsOn d mine = Always (λ m before. (page : ℕ) (e : Directory) → m.step ≡ Deed page e → m.answer ≡ 0 → (e ≡ d) × (mine page ≡ true))
-
-true_or_false : (t : Bool) → (t ≡ true) ⊎ (t ≡ false)
-true_or_false true = inl refl
-true_or_false false = inr refl
 
 -- ---- hints: a page that such a search hints was backed and empty before it
 module _ (f : Profile) (k : ℕ) (l : Whole) (q : ℕ) where
@@ -131,12 +124,8 @@ module _ (f : Profile) (k : ℕ) (p p' : Progress) (w v : World) (d : Directory)
 
   from_offer : (q : ℕ) (e : Directory) → mine q ≡ false → IsDirectoryOf f e → eligible_bit p'.list (number_of e) q ≡ true → is_offered v e q ≡ true
   from_offer q e out of bit =
-      let told = bit_tells f p' v s.valid s.between s.now q e of (right_in_one_place f p'.list s.between.legal q) bit in
-      let deed : deed_in (visible l) q ≡ Some e =
-      ap (λ (es : List Event). deed_in es q) (sym s.old.events) ∙ (sym (s.deeds q out) ∙ (ap (λ (es : List Event). deed_in es q) s.now.events ∙ deed_now f p' v s.valid s.between s.now q e of told.0)) in
-      let o = at (offered_by k steps l (number_of e) q (ap (λ (m : Whole). eligible_bit m (number_of e) q) (sym s.list) ∙ bit)) in
-      let was : is_offered w e q ≡ true = s.was.offered q e of ∙ own_bit f l e o.0 q start of deed o.1 in
-      bit_offered f p' v s.valid s.between s.now q e of bit (open_grows w v e q (s.guarded q out) (λ b small h. s.free q b out small h) (had_open w e q was))
+      offered_still f l p' w v s.valid start s.between s.was s.now q e of (s.deeds q out) (s.guarded q out) (λ b small h. s.free q b out small h)
+      (at (offered_by k steps l (number_of e) q (ap (λ (m : Whole). eligible_bit m (number_of e) q) (sym s.list) ∙ bit))) bit
     where
       at : (eligible_bit l (number_of e) q ≡ true) ⊎ OffersPage q steps → (i : ℕ) × (eligible_bit l i q ≡ true)
       at (inl old) = (number_of e, old)
@@ -147,7 +136,7 @@ module _ (f : Profile) (k : ℕ) (p p' : Progress) (w v : World) (d : Directory)
 
   -- .. and offered
   pub run_offers : (q : ℕ) (e : Directory) → IsDirectoryOf f e → is_offered v e q ≡ eligible_bit p'.list (number_of e) q
-  run_offers q e of = same_truth (is_offered v e q) (eligible_bit p'.list (number_of e) q) (offered_bit f p' v s.valid s.between s.now q e of) (λ bit. elim (true_or_false (mine q)) [
+  run_offers q e of = same_truth (is_offered v e q) (eligible_bit p'.list (number_of e) q) (offered_bit f p' v s.valid s.between s.now q e of) (λ bit. elim (cases_Bool (mine q)) [
     | inl here ↦ s.own q e here of bit
     | inr out ↦ from_offer q e out of bit
   ])

@@ -1,34 +1,29 @@
 -- WHICH PAGES MAY BE ONE OF A RUN, and which run the text gives: those of a replay, whenever all actors are at rest.
-use Rattle.std.proofs.Common.{◌≡◌, ℕ, ◌+◌, ◌-◌, ◌*◌, ◌%◌, ◌<◌, ◌≤◌, nat_le, Bool, true, false, if◌then◌else◌, List, Option, None, Some, inl, inr, refl, ap, sym, ◌∙◌, arith}
-use Rattle.std.proofs.lemmas.Bool.{false≢true, or_cases, or_left, or_right, and_from, false_from_ne_true}
+use Rattle.std.proofs.Common.{◌≡◌, ℕ, ◌+◌, ◌-◌, ◌<◌, ◌≤◌, nat_le, Bool, true, false, if◌then◌else◌, Option, None, Some, inl, inr, refl, ap, sym, ◌∙◌, arith}
+use Rattle.std.proofs.lemmas.Bool.{or_cases, or_left, or_right, and_from, false_from_ne_true}
 use Rattle.std.proofs.lemmas.Bool.Decides.{nat_tests}
 use Rattle.std.proofs.lemmas.Option.{same_Some}
-use Rattle.pas_bits.specs.Bits.{has_bit}
 use Rattle.pas_profile.specs.Directories.{number_of}
 use Rattle.pas_profile.specs.Profiles.{IsValid, IsPage, IsDirectoryOf}
 use Rattle.pas_profile.specs.declared.directory.Directory.{Directory}
-use Rattle.pas_profile.specs.declared.event.Event.{Event}
 use Rattle.pas_profile.specs.declared.profile.Profile.{Profile}
-use Rattle.pas_profile.specs.declared.word.Word.TheVariants as Word
 use Rattle.pas_profile.proofs.Codecs.{deed_word_of-positive}
 use Rattle.pas_machine.specs.State.{deed_in}
-use Rattle.pas_steps.specs.Effects.{free_word_at}
-use Rattle.pas_steps.specs.Lists.{Whole, word_after}
-use Rattle.pas_core.specs.Good.{word_of_deed}
-use Rattle.pas_core.specs.Rights.{eligible_bit, free_of_page}
-use Rattle.pas_core.proofs.Deeds.{deed_of, deed_has_page}
+use Rattle.pas_steps.specs.Lists.{Whole}
+use Rattle.pas_core.specs.Rights.{eligible_bit}
+use Rattle.pas_core.proofs.Deeds.{deed_has_page}
 use Rattle.pas_core.proofs.OneActor.{offered_deed}
 use Rattle.pas_large.specs.Telling.{IsWholePage, IsUsablePage, IsUsableRun, HasNoUsableRun, IsLowestRun, IsNamedWhole}
 use Rattle.pas_answers.specs.Answers.{Progress}
 use Rattle.pas_one_text.specs.State.{World}
 use Rattle.pas_one_text.specs.Indexes.{named_first}
-use Rattle.pas_one_text.specs.Pages.{each_of, is_none, is_unowned, is_free, is_empty, is_guarded, is_offered}
+use Rattle.pas_one_text.specs.Pages.{each_of, is_unowned, is_free, is_empty, is_offered}
 use Rattle.pas_one_text.specs.Runs.{large_of, is_whole, is_usable, if_whole, named_run, is_run, lowest_run}
 use Rattle.pas_same_text.specs.Same.{HasSame, ArePagesSame}
 use Rattle.pas_same_text.specs.Acts.{IsBetween}
-use Rattle.pas_same_text.proofs.FreeGrains.{free_unless}
+use Rattle.pas_same_text.proofs.FreeGrains.{read_unless}
 use Rattle.pas_same_text.proofs.GivenBack.{each_at, each_all}
-use Rattle.pas_same_text.proofs.RestingPages.{open_unguarded, had_open}
+use Rattle.pas_same_text.proofs.RestingPages.{open_unguarded, had_open, owned_is, no_word, unowned_by}
 use Rattle.pas_same_text.proofs.SearchedPages.{find_first, find_none}
 use Rattle.pas_same_text.proofs.Tests.{and_first, and_second}
 
@@ -49,25 +44,6 @@ module _ (f : Profile) (p : Progress) (w : World) (valid : IsValid f) (between :
   d = large_of heap
 
   -- ---- ONE PAGE
-  reading : (page b : ℕ) → b < 256 → is_guarded w page ≡ false → is_free w page b ≡ free_of_page l page b
-  reading page b small none =
-      let turned : 256 * page + b ≡ page * 256 + b = omega arith in
-      let bit : (256 * page + b) % 64 ≡ b % 64 = omega arith in
-      free_unless f p w valid between same page b small none
-      ∙ (ap (λ (g : ℕ). has_bit (word_after l (free_word_at g)) ((256 * page + b) % 64)) turned
-      ∙ ap (λ (x : ℕ). has_bit (word_after l (free_word_at (page * 256 + b))) x) bit)
-
-  owned_is : (page : ℕ) → word_after l (Word.Deed page) ≡ word_of_deed (deed_in w.events page)
-  owned_is page = deed_of f l between.legal page ∙ ap (λ (es : List Event). word_of_deed (deed_in es page)) (sym pages.events)
-
-  no_word : (o : Option Directory) → is_none o ≡ true → word_of_deed o ≡ 0
-  no_word None h = refl
-  no_word (Some e) h = absurd (false≢true h)
-
-  unowned_by : (o : Option Directory) → word_of_deed o ≡ 0 → is_none o ≡ true
-  unowned_by None h = refl
-  unowned_by (Some e) h = absurd (deed_word_of-positive e h)
-
   pub whole_page : (page : ℕ) → is_whole w heap page ≡ true → IsWholePage d l page
   whole_page page h =
       let empty : is_empty w page ≡ true = and_second (is_offered w d page) (is_empty w page) h in
@@ -75,20 +51,20 @@ module _ (f : Profile) (p : Progress) (w : World) (valid : IsValid f) (between :
       record {
         deed = offered_deed f l d page of between.legal bit;
         offered = bit;
-        free = λ b small. sym (reading page b small (open_unguarded w d page (had_open w d page (and_first (is_offered w d page) (is_empty w page) h)))) ∙ each_at 256 0 b (is_free w page) empty (omega arith) small;
+        free = λ b small. sym (read_unless f p w valid between same page b small (open_unguarded w d page (had_open w d page (and_first (is_offered w d page) (is_empty w page) h)))) ∙ each_at 256 0 b (is_free w page) empty (omega arith) small;
       }
 
   pub page_whole : (page : ℕ) → IsWholePage d l page → is_whole w heap page ≡ true
-  page_whole page whole = and_from (is_offered w d page) (is_empty w page) (pages.offered page d of ∙ whole.offered) (each_all 256 0 (is_free w page) (λ b low high. reading page b high (open_unguarded w d page (had_open w d page (pages.offered page d of ∙ whole.offered))) ∙ whole.free b high))
+  page_whole page whole = and_from (is_offered w d page) (is_empty w page) (pages.offered page d of ∙ whole.offered) (each_all 256 0 (is_free w page) (λ b low high. read_unless f p w valid between same page b high (open_unguarded w d page (had_open w d page (pages.offered page d of ∙ whole.offered))) ∙ whole.free b high))
 
   pub usable_page : (page : ℕ) → is_usable w heap page ≡ true → IsUsablePage d l page
   usable_page page h = elim (or_cases (is_unowned w page) (is_whole w heap page) h) [
-    | inl none ↦ inl (owned_is page ∙ no_word (deed_in w.events page) none)
+    | inl none ↦ inl (owned_is f l w between.legal pages.events page ∙ no_word (deed_in w.events page) none)
     | inr whole ↦ inr (whole_page page whole)
   ]
 
   pub page_usable : (page : ℕ) → IsUsablePage d l page → is_usable w heap page ≡ true
-  page_usable page (inl none) = or_left (is_unowned w page) (is_whole w heap page) (unowned_by (deed_in w.events page) (sym (owned_is page) ∙ none))
+  page_usable page (inl none) = or_left (is_unowned w page) (is_whole w heap page) (unowned_by (deed_in w.events page) (sym (owned_is f l w between.legal pages.events page) ∙ none))
   page_usable page (inr whole) = or_right (is_unowned w page) (is_whole w heap page) (page_whole page whole)
 
   -- ---- A RUN

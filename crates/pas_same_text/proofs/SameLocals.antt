@@ -1,6 +1,7 @@
 -- Local allocators of a cache, in the text and in a replay: one is looked up, taken out, put at the end, and gives its lowest slot.
-use Rattle.std.proofs.Common.{◌≡◌, ℕ, ◌<◌, ◌≢◌, ◌==◌, Bool, true, false, not, ◌&&◌, ◌||◌, if◌then◌else◌, List, [], ◌∷◌, ◌++◌, Option, None, Some, inl, inr, refl, ap, sym, ◌∙◌, subst, arith}
+use Rattle.std.proofs.Common.{◌≡◌, ℕ, ◌<◌, ◌≢◌, ◌==◌, Bool, true, false, not, ◌&&◌, ◌||◌, if◌then◌else◌, List, [], ◌∷◌, ◌++◌, Option, Some, inl, inr, refl, ap, sym, ◌∙◌, subst, arith}
 use Rattle.std.proofs.lemmas.Bool.{eq-eqb, eqb-true, ne_eqb, eqb-false, false≢true, or_cases, or_left, false_from_ne_true}
+use Rattle.std.proofs.lemmas.Option.{same_Some, none-some}
 use Rattle.std.specs.List.{AllByRecursion, find}
 use Rattle.pas_bits.specs.Masks.{is_set, IsLowestSet}
 use Rattle.pas_segregated.specs.declared.slots.Slots.{Slots}
@@ -21,24 +22,12 @@ pub record Finds (s : Slots) (found : Option Local) : Type 0 where
   pub is : found ≡ Some local
   pub same : IsSameLocal s local
 
-or_first : Slots → Option Slots → Slots
-or_first x None = x
-or_first x (Some s) = s
-
 found_one : (s x : Slots) (y : Local) (rest : Option Slots) (more : Option Local) (t : Bool) → IsSameLocal x y → (rest ≡ Some s → Finds s more) → (if t then Some x else rest) ≡ Some s → Finds s (if t then Some y else more)
-unfolding or_first
-found_one s x y rest more true same later is = record { local = y; is = refl; same = subst (λ (z : Slots). IsSameLocal z y) (ap (or_first x) is) same }
+found_one s x y rest more true same later is = record { local = y; is = refl; same = subst (λ (z : Slots). IsSameLocal z y) (same_Some x s is) same }
 found_one s x y rest more false same later is = later is
 
 pub found_same : (heap class : ℕ) (slots : List Slots) (locals : List Local) (s : Slots) → AreSameLocals slots locals → local_for heap class slots ≡ Some s → Finds s (find (is_for heap class) locals)
-found_same heap class [] [] s same is = absurd (none is)
-  where
-    is_some : Option Slots → Bool
-    is_some None = false
-    is_some (Some x) = true
-
-    none : None ≡ Some s → ⊥
-    none e = false≢true (ap is_some e)
+found_same heap class [] [] s same is = absurd (none-some s is)
 found_same heap class [] (l ∷ locals) s same is = absurd same
 found_same heap class (x ∷ slots) [] s same is = absurd same
 found_same heap class (x ∷ slots) (y ∷ locals) s same is =

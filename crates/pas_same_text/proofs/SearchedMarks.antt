@@ -37,6 +37,16 @@ offers_got q [] due h = absurd h
 offers_got q (m ∷ xs) due (inl h) = inr (due.0.0 q (subst (IsReturnOf q) (sym h.1) (IsReturnOf.Offers h.0)))
 offers_got q (m ∷ xs) due (inr h) = inr (offers_got q xs due.1 h)
 
+-- a page is offered still where its deed is the same, it was offered by its bit, and its bit is set
+pub offered_still : (f : Profile) (l : Whole) (p' : Progress) (w v : World) → IsValid f → Legal f l → IsBetween f p' → ArePagesSame f l w → HasSame f p' v → (q : ℕ) (e : Directory) → IsDirectoryOf f e → deed_in v.events q ≡ deed_in w.events q
+    → (is_guarded w q ≡ false → is_guarded v q ≡ false) → ((b : ℕ) → b < 256 → is_free w q b ≡ true → is_free v q b ≡ true) → (i : ℕ) × (eligible_bit l i q ≡ true) → eligible_bit p'.list (number_of e) q ≡ true → is_offered v e q ≡ true
+offered_still f l p' w v valid start between was now q e of deeds guarded free o bit =
+    let told = bit_tells f p' v valid between now q e of (right_in_one_place f p'.list between.legal q) bit in
+    let deed : deed_in (visible l) q ≡ Some e =
+    ap (λ (es : List Event). deed_in es q) (sym was.events) ∙ (sym deeds ∙ (ap (λ (es : List Event). deed_in es q) now.events ∙ deed_now f p' v valid between now q e of told.0)) in
+    let was_offered : is_offered w e q ≡ true = was.offered q e of ∙ own_bit f l e o.0 q start of deed o.1 in
+    bit_offered f p' v valid between now q e of bit (open_grows w v e q guarded free (had_open w e q was_offered))
+
 -- Actor k went from p to p' by a search, and steps after it that mark no page but the one that serves. The text has the same events, blocks and caches at both ends, and the
 -- same hints. Free grains of other pages stay free, their deeds are the same, and none of them becomes guarded.
 pub record IsSearchedTo (f : Profile) (k : ℕ) (p p' : Progress) (w v : World) (d : Directory) (page : ℕ) (searched after : List Made) : Type 0 where
@@ -108,12 +118,8 @@ module _ (f : Profile) (k : ℕ) (p p' : Progress) (w v : World) (d : Directory)
 
   from_offer : (q : ℕ) (e : Directory) → page ≢ q → IsDirectoryOf f e → eligible_bit p'.list (number_of e) q ≡ true → is_offered v e q ≡ true
   from_offer q e ne of bit =
-      let told = bit_tells f p' v s.valid s.between s.now q e of (right_in_one_place f p'.list s.between.legal q) bit in
-      let deed : deed_in (visible l) q ≡ Some e =
-      ap (λ (es : List Event). deed_in es q) (sym s.old.events) ∙ (sym (s.deeds q ne) ∙ (ap (λ (es : List Event). deed_in es q) s.now.events ∙ deed_now f p' v s.valid s.between s.now q e of told.0)) in
-      let o = at (offered_by k steps l (number_of e) q (ap (λ (m : Whole). eligible_bit m (number_of e) q) (sym s.list) ∙ bit)) in
-      let was : is_offered w e q ≡ true = s.was.offered q e of ∙ own_bit f l e o.0 q first of deed o.1 in
-      bit_offered f p' v s.valid s.between s.now q e of bit (open_grows w v e q (s.guarded q ne) (λ b small h. s.free q b ne small h) (had_open w e q was))
+      offered_still f l p' w v s.valid first s.between s.was s.now q e of (s.deeds q ne) (s.guarded q ne) (λ b small h. s.free q b ne small h)
+      (at (offered_by k steps l (number_of e) q (ap (λ (m : Whole). eligible_bit m (number_of e) q) (sym s.list) ∙ bit))) bit
     where
       at : (eligible_bit l (number_of e) q ≡ true) ⊎ OffersPage q steps → (n : ℕ) × (eligible_bit l n q ≡ true)
       at (inl old) = (number_of e, old)

@@ -2,13 +2,12 @@
 use Rattle.std.proofs.Common.{◌≡◌, ◌≢◌, ℕ, zero, suc, ◌+◌, ◌<◌, ◌≤◌, Bool, true, false, ◌&&◌, if◌then◌else◌, List, [], ◌∷◌, ◌++◌, Option, None, Some, Ok, Err, inl, inr, refl, ap, sym, ◌∙◌, arith}
 use Rattle.std.proofs.lemmas.Bool.{true≢false, cases_Bool, cases_eq}
 use Rattle.std.specs.List.{find}
+use Rattle.std.proofs.Math.Bool.{and-false}
 use Rattle.pas_profile.specs.Directories.{number_of}
 use Rattle.pas_profile.specs.Profiles.{IsPage}
 use Rattle.pas_profile.specs.declared.directory.Directory.{Directory}
-use Rattle.pas_profile.specs.declared.event.Event.{Event}
 use Rattle.pas_profile.specs.declared.profile.Profile.{Profile}
 use Rattle.pas_profile.specs.declared.word.Word.TheVariants as Word
-use Rattle.pas_profile.proofs.Codecs.{deed_word_of-positive}
 use Rattle.pas_machine.specs.State.{deed_in}
 use Rattle.pas_steps.specs.Desks.{triples}
 use Rattle.pas_steps.specs.Effects.{target}
@@ -19,7 +18,6 @@ use Rattle.pas_steps.specs.Views.{has_right}
 use Rattle.pas_steps.specs.declared.step.Made.{Made}
 use Rattle.pas_core.specs.Good.{word_of_deed}
 use Rattle.pas_core.specs.Rights.{eligible_bit, free_of_page}
-use Rattle.pas_core.proofs.Deeds.{deed_of}
 use Rattle.pas_core.proofs.OneActor.{unfit_entry, deed_quiet, deed_exit, deed_none, spot_same, zero_told, one_told, entry_lacks, legal_before, offered_deed}
 use Rattle.pas_core.proofs.Rights.{is_offered, spot_of, spotted, right_not_offered}
 use Rattle.pas_search.specs.Searches.{FromOffered, ByDeed, DeedMadeHere}
@@ -30,7 +28,7 @@ use Rattle.pas_one_text.specs.Pages.{page_numbers, is_none, is_unowned}
 use Rattle.pas_one_text.specs.Pages.{is_offered as is_offered_text}
 use Rattle.pas_one_text.specs.Searches.{some_of, page_or, refusal, searched}
 use Rattle.pas_same_text.specs.Searched.{IsSearch}
-use Rattle.pas_same_text.proofs.RestingPages.{open_unguarded, had_open}
+use Rattle.pas_same_text.proofs.RestingPages.{open_unguarded, had_open, owned_is, unowned_by}
 
 -- ---- the first number that passes a test
 first_at : (test : ℕ → Bool) (from : ℕ) (rest : Option ℕ) (t : Bool) → test from ≡ t → t ≡ false → (if test from then Some from else rest) ≡ rest
@@ -51,10 +49,6 @@ find_none test (suc n) from none =
     first_at test from (find test (numbers_from (from + 1) n)) (test from) refl (none from (omega arith) (omega arith))
     ∙ find_none test n (from + 1) (λ q low high. none q (omega (arith, low)) (omega (arith, high)))
 
-no_more : (x : Bool) → (x && false) ≡ false
-no_more true = refl
-no_more false = refl
-
 module _ (no_fit : Readings → Type 0) (f : Profile) (d : Directory) (k : ℕ) (p : Progress) (w : World) (fits : ℕ → List ℕ) where
   abbrev l : Whole
   l = p.list
@@ -72,7 +66,7 @@ module _ (no_fit : Readings → Type 0) (f : Profile) (d : Directory) (k : ℕ) 
 
     -- a page on which it doesn't fit doesn't serve; where a guard has it, it isn't offered
     unfit_over : (q : ℕ) → IsPage f q → no_fit (free_of_page l q) → (t : Bool) → is_offered_text w d q ≡ t → serves q ≡ false
-    unfit_over q of unfit true offered = ap (λ (t : Bool). is_offered_text w d q && t) (s.fits_same.none q of (open_unguarded w d q (had_open w d q offered)) unfit) ∙ no_more (is_offered_text w d q)
+    unfit_over q of unfit true offered = ap (λ (t : Bool). is_offered_text w d q && t) (s.fits_same.none q of (open_unguarded w d q (had_open w d q offered)) unfit) ∙ and-false (is_offered_text w d q)
     unfit_over q of unfit false offered = ap (λ (t : Bool). t && some_of (fits q)) offered
 
     -- a page that didn't fit or was read as not offered serves in the text neither
@@ -102,13 +96,6 @@ module _ (no_fit : Readings → Type 0) (f : Profile) (d : Directory) (k : ℕ) 
         ap (λ (o : Option ℕ). page_or o (page_or (find (is_unowned w) (page_numbers f)) (Err (refusal f w d)))) found
 
     -- ---- words of deeds
-    owned_is : (q : ℕ) → word_after l (Word.Deed q) ≡ word_of_deed (deed_in w.events q)
-    owned_is q = deed_of f l first q ∙ ap (λ (es : List Event). word_of_deed (deed_in es q)) (sym s.pages.events)
-
-    unowned_by : (o : Option Directory) → word_of_deed o ≡ 0 → is_none o ≡ true
-    unowned_by None h = refl
-    unowned_by (Some e) h = absurd (deed_word_of-positive e h)
-
     owned_by : (o : Option Directory) → word_of_deed o ≢ 0 → is_none o ≡ false
     owned_by None ne = absurd (ne refl)
     owned_by (Some e) ne = refl
@@ -121,11 +108,11 @@ module _ (no_fit : Readings → Type 0) (f : Profile) (d : Directory) (k : ℕ) 
   made_chosen page of m steps s h =
       let t : IsSearch no_fit f d k p steps w fits = earlier m steps s in
       let now : word_after (triples k steps ++ l) (Word.Deed page) ≡ 0 = sym (s.legal.0.answer_is ∙ ap (λ x. word_after (triples k steps ++ l) (target x)) h.deed) ∙ h.made in
-      let bare : is_unowned w page ≡ true = unowned_by steps t (deed_in w.events page) (sym (owned_is steps t page) ∙ deed_none k l page steps now) in
+      let bare : is_unowned w page ≡ true = unowned_by (deed_in w.events page) (sym (owned_is f l w (first steps t) t.pages.events page) ∙ deed_none k l page steps now) in
       let low = of.0 in let high = of.1 in
       let none : find serves (page_numbers f) ≡ None = find_none serves f.pages 1 (λ q above below. passed_over steps t q (f.pages + 1) (above, omega (arith, below)) (omega (arith, below)) h.searched) in
       let found : find (is_unowned w) (page_numbers f) ≡ Some page = find_first (is_unowned w) f.pages 1 page low (omega (arith, high)) bare (λ q above below.
-      owned_by steps t (deed_in w.events q) (λ zero_word. deed_exit f k l q steps t.legal (h.lower q above below) (deed_quiet f k l q steps t.legal h.quiet ∙ (owned_is steps t q ∙ zero_word)))) in
+      owned_by steps t (deed_in w.events q) (λ zero_word. deed_exit f k l q steps t.legal (h.lower q above below) (deed_quiet f k l q steps t.legal h.quiet ∙ (owned_is f l w (first steps t) t.pages.events q ∙ zero_word)))) in
       ap (λ (o : Option ℕ). page_or o (page_or (find (is_unowned w) (page_numbers f)) (Err (refusal f w d)))) none
       ∙ ap (λ (o : Option ℕ). page_or o (Err (refusal f w d))) found
 

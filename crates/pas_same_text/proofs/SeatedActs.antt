@@ -1,6 +1,6 @@
 -- EACH ACT KEEPS THE SEATS: only keepers have guards up after it, they cache nothing, and the outer pages stand beside their blocks and aren't backed.
 use Rattle.std.proofs.Common.{◌≡◌, ℕ, ◌==◌, Bool, true, false, if◌then◌else◌, List, [], ◌∷◌, ◌++◌, Option, None, Some, inl, inr, refl, ap, sym, ◌∙◌, subst, arith}
-use Rattle.std.proofs.lemmas.Bool.{false≢true, eq-eqb, eqb-true}
+use Rattle.std.proofs.lemmas.Bool.{false≢true, eq-eqb, eqb-true, ne_eqb}
 use Rattle.pas_profile.specs.Profiles.{IsValid}
 use Rattle.pas_profile.specs.declared.name.Block.{Block}
 use Rattle.pas_profile.specs.declared.profile.Profile.{Profile}
@@ -56,15 +56,11 @@ moved f Act.MarksClose p p' own is = subst (λ (q : Progress). IsMoved p q 0) (s
 moved f (Act.Ends k) p p' own is = subst (λ (q : Progress). IsMoved p q k) (sym is.3) (record { steps = is.0; list = refl; books = refl; others = λ j ne. ap (λ (t : Bool). if t then is.1 else p.caches j) ne })
 moved f (Act.Lowers keeper) p p' own is = absurd own
 
-same_number : (k j : ℕ) (t : Bool) → (k == j) ≡ t → (k ≡ j → ⊥) → t ≡ false
-same_number k j true e ne = absurd (ne (eqb-true k j e))
-same_number k j false e ne = refl
-
 seated_moved : (threads : ℕ) (f : Profile) (p p' : Progress) (j : ℕ) → IsValid f → IsBetween f p → Legal f p'.list → (IsKeeperOf threads f j → ⊥) → AreSeated threads f p → IsMoved p p' j → AreSeated threads f p'
 seated_moved threads f p p' j valid before legal works seated m = record {
   few = seated.few;
   unbooked = λ k other. ap (λ (bs : Books). bs k) m.books ∙ seated.unbooked k other;
-  uncached = λ k keeps. m.others k (same_number k j (k == j) refl (λ same. works (subst (IsKeeperOf threads f) same keeps))) ∙ seated.uncached k keeps;
+  uncached = λ k keeps. m.others k (ne_eqb k j (λ same. works (subst (IsKeeperOf threads f) same keeps))) ∙ seated.uncached k keeps;
   beside = λ k. subst (λ (bs : Books). Each IsBeside (bs k)) (sym m.books) (seated.beside k);
   bare = λ k page outer. still k page (ap (λ (bs : Books). is_outer (bs k) page) (sym m.books) ∙ outer) (j == k) refl;
 }
@@ -88,7 +84,7 @@ seated_rest : (threads : ℕ) (f : Profile) (p : Progress) (keeper : ℕ) (gs : 
     → AreResting f p.caches (with_book p.books keeper gs) l → AreSeated threads f names
 seated_rest threads f p keeper gs l q keeps seated caches books list rest = record {
   few = seated.few;
-  unbooked = λ k other. ap (λ (bs : Books). bs k) books ∙ (other_book p.books keeper k gs (same_number k keeper (k == keeper) refl (λ same. other (subst (IsKeeperOf threads f) (sym same) keeps))) ∙ seated.unbooked k other);
+  unbooked = λ k other. ap (λ (bs : Books). bs k) books ∙ (other_book p.books keeper k gs (ne_eqb k keeper (λ same. other (subst (IsKeeperOf threads f) (sym same) keeps))) ∙ seated.unbooked k other);
   uncached = λ k own. ap (λ (cs : ℕ → Cached). cs k) caches ∙ seated.uncached k own;
   beside = λ k. subst (λ (bs : Books). Each IsBeside (bs k)) (sym books) (rest.beside k);
   bare = λ k page outer. subst (λ (m : Whole). backed_in (visible m) page ≡ false) (sym list) (rest.bare k page (ap (λ (bs : Books). is_outer (bs k) page) (sym books) ∙ outer));

@@ -1,7 +1,8 @@
 -- WHERE THREADS AND KEEPERS ARE AT REST with their caches and books, all actors of the region rest.
-use Rattle.std.proofs.Common.{◌≡◌, ℕ, ◌<◌, ◌≤◌, Bool, true, false, ◌||◌, List, [], ◌⊎◌, inl, inr, refl, sym, ◌∙◌, subst, arith}
+use Rattle.std.proofs.Common.{◌≡◌, ℕ, ◌<◌, ◌≤◌, List, [], ◌⊎◌, inl, inr, refl, sym, ◌∙◌, subst, arith}
 use Rattle.std.proofs.lemmas.Bool.{cases_lt}
 use Rattle.std.proofs.lemmas.List.Elements.{All-nil}
+use Rattle.std.proofs.Math.Bool.{or-false}
 use Rattle.pas_profile.specs.declared.profile.Profile.{Profile}
 use Rattle.pas_steps.specs.Lists.{part, Legal}
 use Rattle.pas_steps.specs.Views.{View}
@@ -19,10 +20,6 @@ use Rattle.pas_answers.specs.Rests.{AreAtRest}
 use Rattle.pas_same_text.specs.Acts.{IsResting, AreResting, IsBetween}
 use Rattle.pas_same_text.specs.Seats.{IsThreadOf, IsKeeperOf, AreSeated}
 
-no_other : (x : Bool) → (x || false) ≡ x
-no_other true = refl
-no_other false = refl
-
 -- whoever acts is an actor of the region
 pub thread_of : (threads : ℕ) (f : Profile) (k : ℕ) → IsThreadOf threads k → threads ≤ f.threads → IsThread f k
 thread_of threads f k own few = let low = own.0 in let high = own.1 in (low, omega (arith, high, few))
@@ -34,7 +31,7 @@ keeper_of threads f k keeps = let past = keeps.0 in (omega (arith, past), keeps.
 pub thread_rests : (f : Profile) (c : Cached) (v : View) → AtRest f c v → IsResting f c [] v
 thread_rests f c v rest = record {
   locals = record {
-    grains = λ g. rest.locals.grains g ∙ sym (no_other (any_covers c.locals g));
+    grains = λ g. rest.locals.grains g ∙ sym (or-false (any_covers c.locals g));
     rights = rest.locals.rights;
     clear = rest.locals.clear;
     known = rest.locals.known;
@@ -72,7 +69,7 @@ keeper_rests f guards v fits = record {
 pub thread_at_rest : (f : Profile) (c : Cached) (v : View) → IsResting f c [] v → AtRest f c v
 thread_at_rest f c v rest = record {
   locals = record {
-    grains = λ g. rest.locals.grains g ∙ no_other (any_covers c.locals g);
+    grains = λ g. rest.locals.grains g ∙ or-false (any_covers c.locals g);
     rights = rest.locals.rights;
     clear = rest.locals.clear;
     known = rest.locals.known;

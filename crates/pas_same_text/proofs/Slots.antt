@@ -20,7 +20,7 @@ use Rattle.pas_one_text.specs.State.{Local, Cache, cache_in}
 use Rattle.pas_one_text.specs.Pages.{is_cached}
 use Rattle.pas_same_text.specs.Same.{IsSameLocal, AreSameLocals}
 use Rattle.pas_same_text.proofs.CacheLists.{all_locals}
-use Rattle.pas_same_text.proofs.Tests.{IsFound, found, passed, any_filtered, filtered_any}
+use Rattle.pas_same_text.proofs.Tests.{IsFound, found, passed, any_filtered, filtered_any, on_page}
 
 -- ---- one local allocator
 -- it is of the page, and one of its slots has the grain
@@ -47,9 +47,6 @@ module _ (s : Slots) (l : Local) (b : ℕ) (same : IsSameLocal s l) (is : IsClas
   slots_same = same_truth (list_any (λ x. in_run x (class_grains l.class) b) l.slots) (is_set s.starts (start_of s.class b)) slot_set set_slot
 
 -- grain b of a page, as one of the region
-page_of : (page b : ℕ) → b < 256 → (256 * page + b) / 256 ≡ page
-page_of page b small = omega (arith, small)
-
 grain_of : (page b : ℕ) → b < 256 → (256 * page + b) % 256 ≡ b
 grain_of page b small = omega (arith, small)
 
@@ -57,7 +54,7 @@ pub grain_same : (s : Slots) (l : Local) (page b : ℕ) → b < 256 → IsSameLo
 grain_same s l page b small same is starts =
     ap (λ (q : ℕ). (q == page) && list_any (λ x. in_run x (class_grains l.class) b) l.slots) same.page
     ∙ (ap (λ (t : Bool). (s.page == page) && t) (slots_same s l b same is starts)
-    ∙ (ap (λ (q : ℕ). (s.page == q) && is_set s.starts (start_of s.class b)) (sym (page_of page b small))
+    ∙ (ap (λ (q : ℕ). (s.page == q) && is_set s.starts (start_of s.class b)) (sym (on_page page b small))
     ∙ ap (λ (x : ℕ). (s.page == (256 * page + b) / 256) && is_set s.starts (start_of s.class x)) (sym (grain_of page b small))))
 
 -- ---- those of a cache

@@ -1,6 +1,6 @@
 -- A KEEPER'S SEARCH for a run whose outer pages aren't backed, where no other actor makes a step: which runs failed in it, and of which pages it made deeds.
 use Rattle.std.proofs.Common.{◌≡◌, ◌≢◌, ℕ, ◌+◌, ◌*◌, ◌/◌, ◌≤◌, ◌==◌, Bool, true, false, if◌then◌else◌, List, [], ◌∷◌, ◌++◌, ◌⊎◌, inl, inr, refl, ap, sym, ◌∙◌, subst, arith}
-use Rattle.std.proofs.lemmas.Bool.{true≢false, false≢true, eqb-true}
+use Rattle.std.proofs.lemmas.Bool.{false≢true, eqb-true}
 use Rattle.std.specs.List.{AllByRecursion}
 use Rattle.pas_profile.specs.Profiles.{IsValid, IsPage, IsDirectoryOf}
 use Rattle.pas_profile.specs.declared.directory.Directory.{Directory}
@@ -16,9 +16,7 @@ use Rattle.pas_steps.specs.declared.step.Made.{Made}
 use Rattle.pas_steps.specs.declared.step.Step.{Step}
 use Rattle.pas_steps.specs.declared.step.Step.TheVariants.{Look, Deed}
 use Rattle.pas_steps.proofs.Parts.{part_of_own}
-use Rattle.pas_core.specs.Good.{IsInOnePlace}
 use Rattle.pas_core.proofs.Deeds.{deed_has_page, deed_kept}
-use Rattle.pas_core.proofs.MachineRuns.{in_one_place}
 use Rattle.pas_core.proofs.OneActor.{LendsNone, lends_none, deed_none, legal_before}
 use Rattle.pas_core.proofs.Rights.{free_without_deed}
 use Rattle.pas_scan.specs.Runs.{IsInRun}
@@ -30,23 +28,15 @@ use Rattle.pas_large.proofs.Outcomes.{MadeOf}
 use Rattle.pas_guard.specs.Evidence.{HoldsRunWhole, OuterBackedHere, IsBad, OuterFailsHere, HasFailedOnce}
 use Rattle.pas_guard.specs.Seeks.{seeking}
 use Rattle.pas_one_text.specs.Runs.{large_of}
-use Rattle.pas_same_text.specs.Words.{free_bit}
 use Rattle.pas_same_text.proofs.GivingBack.{backed_stays}
 use Rattle.pas_same_text.proofs.PagesRead.{usable_was, bad_never}
 use Rattle.pas_same_text.proofs.RunEvents.{with_deed, deeded}
 use Rattle.pas_same_text.proofs.RunsFound.{lacks_usable, never_fails}
+use Rattle.pas_same_text.proofs.FreeGrains.{free_unheld}
 
 -- a page one of whose grains an actor holds has a deed
 pub held_deed : (f : Profile) (l : Whole) (k g : ℕ) → IsValid f → Legal f l → holds (part k l) g ≡ true → word_after l (Word.Deed (g / 256)) ≢ 0
-held_deed f l k g valid legal held none = by_place (in_one_place f l valid legal g)
-  where
-    free : free_bit l g ≡ true
-    free = free_without_deed f l legal g none
-
-    by_place : IsInOnePlace l g → ⊥
-    by_place (inl o) = false≢true (sym (o.nobody k) ∙ held)
-    by_place (inr (inl o)) = true≢false (sym free ∙ o.not_free)
-    by_place (inr (inr o)) = true≢false (sym free ∙ o.not_free)
+held_deed f l k g valid legal held none = false≢true (sym (free_unheld f l valid legal g (free_without_deed f l legal g none) k) ∙ held)
 
 -- ---- runs of n + 2 pages
 -- a run of the region that was usable

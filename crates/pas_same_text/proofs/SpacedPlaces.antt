@@ -1,6 +1,6 @@
 -- Lists of places that follow each other at a step, and those of them that pass a test.
 use Rattle.std.proofs.Common.{◌≡◌, ℕ, zero, suc, ◌+◌, ◌*◌, ◌<◌, Bool, true, false, ◌||◌, if◌then◌else◌, List, [], ◌∷◌, take, inl, inr, refl, ap, ◌∙◌, arith}
-use Rattle.std.proofs.lemmas.Bool.{false≢true, or_cases}
+use Rattle.std.proofs.lemmas.Bool.{false≢true, or_cases, or_left, or_right}
 use Rattle.std.proofs.Math.Nat.{suc-mul}
 use Rattle.std.specs.List.{list_any, filter}
 use Rattle.pas_one_text.specs.Searches.{some_of}
@@ -20,22 +20,14 @@ some_filtered test [] = refl
 some_filtered test (x ∷ xs) = some_next x (filter test xs) (test x) (list_any test xs) (some_filtered test xs)
 
 -- the i-th of them
-or_first : (x y : Bool) → x ≡ true → (x || y) ≡ true
-or_first true y h = refl
-or_first false y h = absurd (false≢true h)
-
-or_second : (x y : Bool) → y ≡ true → (x || y) ≡ true
-or_second true y h = refl
-or_second false y h = h
+pub next_place : (from step i : ℕ) → from + step + i * step ≡ from + suc i * step
+next_place from step i = let m = suc-mul i step in omega (arith, m)
 
 pub in_spaced : (test : ℕ → Bool) (n from step i : ℕ) → i < n → test (from + i * step) ≡ true → list_any test (spaced from step n) ≡ true
 in_spaced test zero from step i lt h = absurd (omega (arith, lt))
-in_spaced test (suc n) from step zero lt h = or_first (test from) (list_any test (spaced (from + step) step n)) (ap test (omega arith) ∙ h)
+in_spaced test (suc n) from step zero lt h = or_left (test from) (list_any test (spaced (from + step) step n)) (ap test (omega arith) ∙ h)
 in_spaced test (suc n) from step (suc i) lt h =
-    or_second (test from) (list_any test (spaced (from + step) step n)) (in_spaced test n (from + step) step i (omega (arith, lt)) (ap test (next from step i) ∙ h))
-  where
-    next : (from step i : ℕ) → from + step + i * step ≡ from + suc i * step
-    next from step i = let m = suc-mul i step in omega (arith, m)
+    or_right (test from) (list_any test (spaced (from + step) step n)) (in_spaced test n (from + step) step i (omega (arith, lt)) (ap test (next_place from step i) ∙ h))
 
 pub from_spaced : (test : ℕ → Bool) (n from step : ℕ) → list_any test (spaced from step n) ≡ true → (i : ℕ) × (i < n) × (test (from + i * step) ≡ true)
 from_spaced test zero from step h = absurd (false≢true h)
@@ -56,8 +48,5 @@ first_spaced test (suc n) from step zero lt h before =
     ∙ ap (λ (x : ℕ). x ∷ []) (omega arith)
 first_spaced test (suc n) from step (suc i) lt h before =
     ap (λ (t : Bool). take 1 (if t then from ∷ filter test (spaced (from + step) step n) else filter test (spaced (from + step) step n))) (ap test (omega arith) ∙ before 0 (omega arith))
-    ∙ (first_spaced test n (from + step) step i (omega (arith, lt)) (ap test (later i) ∙ h) (λ j small. ap test (later j) ∙ before (suc j) (omega (arith, small)))
-    ∙ ap (λ (x : ℕ). x ∷ []) (later i))
-  where
-    later : (j : ℕ) → from + step + j * step ≡ from + suc j * step
-    later j = let m = suc-mul j step in omega (arith, m)
+    ∙ (first_spaced test n (from + step) step i (omega (arith, lt)) (ap test (next_place from step i) ∙ h) (λ j small. ap test (next_place from step j) ∙ before (suc j) (omega (arith, small)))
+    ∙ ap (λ (x : ℕ). x ∷ []) (next_place from step i))

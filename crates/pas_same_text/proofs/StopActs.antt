@@ -14,21 +14,18 @@ use Rattle.pas_profile.specs.declared.event.Event.{Event}
 use Rattle.pas_profile.specs.declared.profile.Profile.{Profile}
 use Rattle.pas_profile.specs.declared.word.Word.TheVariants as Word
 use Rattle.pas_profile.proofs.ClassFacts.{class_grains_positive}
-use Rattle.pas_profile.proofs.Codecs.{deed_word_of-positive, same_from_deed_word}
+use Rattle.pas_profile.proofs.Codecs.{same_from_deed_word}
 use Rattle.pas_steps.specs.Desks.{triples}
 use Rattle.pas_steps.specs.Events.{events_by}
 use Rattle.pas_steps.specs.Kinds.{Only}
 use Rattle.pas_steps.specs.Lists.{part, word_after, visible, Legal}
-use Rattle.pas_steps.specs.Views.{View, holds, known_deed, usable_by_kind}
+use Rattle.pas_steps.specs.Views.{View, holds, usable_by_kind}
 use Rattle.pas_steps.specs.declared.step.Made.{Made}
 use Rattle.pas_steps.proofs.Adding.{triples_append}
 use Rattle.pas_steps.proofs.Apart.{only_both, only_within}
 use Rattle.pas_steps.proofs.Frames.{events_append}
-use Rattle.pas_core.specs.Good.{word_of_deed}
-use Rattle.pas_core.proofs.Deeds.{known_is, deed_of}
 use Rattle.pas_core.proofs.Grains.{one_holder}
 use Rattle.pas_core.proofs.OneActor.{legal_earlier, deed_same}
-use Rattle.pas_core.proofs.Rights.{deeds_known}
 use Rattle.pas_free_log.specs.Flushes.{noted_after}
 use Rattle.pas_free_log.specs.Frames.{freeing}
 use Rattle.pas_segregated.specs.Masks.{start_of}
@@ -59,9 +56,10 @@ use Rattle.pas_same_text.proofs.GivenPages.{IsGivenBack, open_from, covered_not_
 use Rattle.pas_same_text.proofs.GivenUp.{IsGivenUp, AllOfRegion, unique_of, all_up}
 use Rattle.pas_same_text.proofs.GivingBack.{IsMarked, marked_parts, hint_marks, offer_marks, offered_of_region, hints_both, epoch_stays_by}
 use Rattle.pas_same_text.proofs.OuterPages.{guards_as, still_unguarded}
-use Rattle.pas_same_text.proofs.RestingPages.{is_open, bit_at, deed_now}
+use Rattle.pas_same_text.proofs.RestingPages.{is_open, deed_now, word_known, word_now}
 use Rattle.pas_same_text.proofs.StillIndexes.{same_guards, stops_keep}
-use Rattle.pas_same_text.proofs.StopSteps.{IsMarkedBy, IsMarkedIn, AllClasses, ReadsRoom, room_earlier, grain_read, all_marked, all_hints}
+use Rattle.pas_same_text.proofs.StopSteps.{IsMarkedBy, IsMarkedIn, AllClasses, ReadsRoom, room_earlier, all_marked, all_hints}
+use Rattle.pas_same_text.proofs.RoomsRead.{read_open}
 
 -- ---- what is known of each local allocator of a cache
 all_classes : (f : Profile) (v : View) (slots : List Slots) → All (IsLocal f v) slots → AllClasses slots
@@ -98,6 +96,36 @@ one_of f v q steps slots known (IsMarkedIn.There s rest o) =
 pub slot_usable : (right : Bool) (class b : ℕ) → 1 ≤ class_grains class → IsSlotStart class b → usable_by_kind (kind_of_class (not right) class) b ≡ true
 slot_usable true class b some slot = let within = slot.within in let lt : b < usable_grains class = omega (arith, within, some) in grind (arith, nat_tests, lt)
 slot_usable false class b some slot = refl
+
+-- slots whose page is of a directory in the text, after steps of their thread that give back, are at home there; that page is open where they had a slot whose grains are free now, or where room was read
+module _ (f : Profile) (k : ℕ) (p : Progress) (steps : List Made) (c' : Cached) (v : World) (valid : IsValid f) (before : IsBetween f p) (after : IsBetween f (with_steps p k steps c')) (has : HasSame f (with_steps p k steps c') v) (kinds : Only freeing steps)
+    (s : Slots) (known : IsLocal f (part k p.list) s) where
+  abbrev ended : Progress
+  ended = with_steps p k steps c'
+
+  home_is : (q : ℕ) (d : Directory) → IsDirectoryOf f d → is_of v d q ≡ true → s.page ≡ q → d ≡ home_of s
+  home_is q d of is page =
+      let now : word_after ended.list (Word.Deed q) ≡ deed_word_of d = word_now f ended v valid after has q d (deed_now f ended v valid after has q d of is) in
+      let stays : word_after ended.list (Word.Deed q) ≡ word_after p.list (Word.Deed q) = deed_same freeing refl k steps p.list q kinds in
+      same_from_deed_word d (home_of s) of.kind known.directory.kind (sym now ∙ (stays ∙ (ap (λ (x : ℕ). word_after p.list (Word.Deed x)) (sym page) ∙ word_known f p.list before.legal k s.page (home_of s) known.deed)))
+
+  pub slot_room : ((g : ℕ) → covers s g ≡ true → free_bit ended.list g ≡ true) → (q : ℕ) (d : Directory) → IsDirectoryOf f d → is_of v d q ≡ true → s.page ≡ q → HasMember s.starts → is_open v d q ≡ true
+  slot_room free q d of is page m =
+      let b : ℕ = m.0 in
+      let small : b < 256 = m.1 in
+      let slot : IsSlotStart s.class b = known.starts b m.2 in
+      let some : 1 ≤ class_grains s.class = class_grains_positive s.class known.class in
+      let first : start_of s.class b ≡ b = start_at s.class b b slot (omega arith) (omega (arith, some)) in
+      let g : ℕ = 256 * q + b in
+      let at_page : (256 * q + b) / 256 ≡ q = omega (arith, small) in
+      let at_grain : (256 * q + b) % 256 ≡ b = omega (arith, small) in
+      let covered : covers s g ≡ true =
+      ap (λ (t : Bool). t && is_set s.starts (start_of s.class (g % 256))) (eq-eqb s.page (g / 256) (page ∙ sym at_page))
+      ∙ (ap (λ (x : ℕ). is_set s.starts (start_of s.class x)) at_grain ∙ (ap (is_set s.starts) first ∙ m.2)) in
+      open_from f ended v valid after has d q b small (ap (λ (x : Directory). usable_by_kind x.kind b) (home_is q d of is page) ∙ slot_usable s.right s.class b some slot) (free g covered)
+
+  pub read_room : (q : ℕ) (d : Directory) → IsDirectoryOf f d → is_of v d q ≡ true → s.page ≡ q → ReadsRoom q (home_of s) steps → is_open v d q ≡ true
+  read_room q d of is page r = read_open f ended v valid after has freeing refl k p.list steps refl kinds q d (home_of s) (home_is q d of is page) r
 
 module _ (f : Profile) (k : ℕ) (p : Progress) (w : World) (flushed stopped : List Made) (c' : Cached) (valid : IsValid f) (thread : IsThread f k) (before : IsBetween f p) (same : IsSame f p w) (usable : AreBlocksUsable (visible p.list))
     (h : EmptiesLog k (p.caches k).log (p.caches k).noted c'.noted flushed) (each : StopsEach (p.caches k).locals stopped) (kinds : Only releasing stopped) (silent : (v : View) → events_by k v stopped ≡ [])
@@ -174,43 +202,16 @@ module _ (f : Profile) (k : ℕ) (p : Progress) (w : World) (flushed stopped : L
   all_kinds : Only freeing (stopped ++ flushed)
   all_kinds = only_both freeing stopped flushed (only_within releasing freeing stopped refl kinds) to.kinds
 
-  home_is : (s : Slots) (q : ℕ) (d : Directory) → IsDirectoryOf f d → is_of v d q ≡ true → IsLocal f (part k p.list) s → s.page ≡ q → d ≡ home_of s
-  home_is s q d of is local page =
-      let some : known_deed (part k p.list) s.page ≡ deed_word_of (home_of s) = local.deed in
-      let word : known_deed (part k p.list) s.page ≡ word_after p.list (Word.Deed s.page) =
-      known_is (known_deed (part k p.list) s.page) (word_after p.list (Word.Deed s.page)) (deeds_known f p.list before.legal k s.page) (λ none. deed_word_of-positive (home_of s) (sym some ∙ none)) in
-      let now : word_after p'.list (Word.Deed q) ≡ deed_word_of d = deed_of f p'.list after.legal q ∙ ap word_of_deed (deed_now f p' v valid after has q d of is) in
-      let stays : word_after p'.list (Word.Deed q) ≡ word_after p.list (Word.Deed q) = deed_same freeing refl k (stopped ++ flushed) p.list q all_kinds in
-      same_from_deed_word d (home_of s) of.kind local.directory.kind (sym now ∙ (stays ∙ (ap (λ (x : ℕ). word_after p.list (Word.Deed x)) (sym page) ∙ (sym word ∙ some))))
-
-  slot_room : (s : Slots) (q : ℕ) (d : Directory) → IsDirectoryOf f d → is_of v d q ≡ true → IsLocal f (part k p.list) s → ((g : ℕ) → covers s g ≡ true → any_covers c.locals g ≡ true) → s.page ≡ q → HasMember s.starts → is_open v d q ≡ true
-  slot_room s q d of is local in_cache page m =
-      let b : ℕ = m.0 in
-      let small : b < 256 = m.1 in
-      let slot : IsSlotStart s.class b = local.starts b m.2 in
-      let some : 1 ≤ class_grains s.class = class_grains_positive s.class local.class in
-      let first : start_of s.class b ≡ b = start_at s.class b b slot (omega arith) (omega (arith, some)) in
-      let g : ℕ = 256 * q + b in
-      let at_page : (256 * q + b) / 256 ≡ q = omega (arith, small) in
-      let at_grain : (256 * q + b) % 256 ≡ b = omega (arith, small) in
-      let covered : covers s g ≡ true =
-      ap (λ (t : Bool). t && is_set s.starts (start_of s.class (g % 256))) (eq-eqb s.page (g / 256) (page ∙ sym at_page))
-      ∙ (ap (λ (x : ℕ). is_set s.starts (start_of s.class x)) at_grain ∙ (ap (is_set s.starts) first ∙ m.2)) in
+  slots_free : (s : Slots) → ((g : ℕ) → covers s g ≡ true → any_covers c.locals g ≡ true) → (g : ℕ) → covers s g ≡ true → free_bit p'.list g ≡ true
+  slots_free s in_cache g covered =
       let held : holds (part k p.list) g ≡ true = cached_held f p before k g thread (in_cache g covered) in
-      let free : free_bit p'.list g ≡ true = free_left f p'.list valid after.legal g
+      free_left f p'.list valid after.legal g
       (λ j now. let is_own : j ≡ k = eqb-true j k (one_holder f p.list valid before.legal j k g (held_before j g now) held) in lets_go g (in_cache g covered) (subst (λ (i : ℕ). holds (part i p'.list) g ≡ true) is_own now))
-      (λ a b' lives of_it. covered_not_held f p.list valid before.legal g a b' (lived f p p' w v to.pages valid before after same.pages.events has usable fewer held_before a b' lives) of_it k held) in
-      open_from f p' v valid after has d q b small (ap (λ (x : Directory). usable_by_kind x.kind b) (home_is s q d of is local page) ∙ slot_usable s.right s.class b some slot) free
-
-  read_room : (s : Slots) (q : ℕ) (d : Directory) → IsDirectoryOf f d → is_of v d q ≡ true → IsLocal f (part k p.list) s → s.page ≡ q → ReadsRoom q (home_of s) stopped → is_open v d q ≡ true
-  read_room s q d of is local page r =
-      let all : ReadsRoom q (home_of s) (stopped ++ flushed) = room_earlier q (home_of s) stopped flushed r in
-      open_from f p' v valid after has d q all.grain all.small (ap (λ (x : Directory). usable_by_kind x.kind all.grain) (home_is s q d of is local page) ∙ all.usable)
-      (bit_at p'.list q all.grain all.small ∙ grain_read freeing refl f k p.list q all.grain (stopped ++ flushed) after.legal all_kinds all.read)
+      (λ a b lives of_it. covered_not_held f p.list valid before.legal g a b (lived f p p' w v to.pages valid before after same.pages.events has usable fewer held_before a b lives) of_it k held)
 
   marked_room : (q : ℕ) (d : Directory) → IsDirectoryOf f d → is_of v d q ≡ true → (o : IsOneOf f (part k p.list) q stopped c.locals) → HasMember o.own.starts ⊎ ReadsRoom q (home_of o.own) stopped → is_open v d q ≡ true
-  marked_room q d of is o (inl some) = slot_room o.own q d of is o.known o.has o.marked.page some
-  marked_room q d of is o (inr read) = read_room o.own q d of is o.known o.marked.page read
+  marked_room q d of is o (inl some) = slot_room f k p (stopped ++ flushed) c' v valid before after has all_kinds o.own o.known (slots_free o.own o.has) q d of is o.marked.page some
+  marked_room q d of is o (inr read) = read_room f k p (stopped ++ flushed) c' v valid before after has all_kinds o.own o.known q d of is o.marked.page (room_earlier q (home_of o.own) stopped flushed read)
 
   stop_marks : (q : ℕ) → IsMarked q stopped → IsMarkedIn q stopped c.locals
   stop_marks q marked = all_marked q c.locals stopped (all_classes f (part k p.list) c.locals known) each.order marked

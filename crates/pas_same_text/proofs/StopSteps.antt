@@ -180,10 +180,6 @@ in_later : (q : ℕ) (ys xs : List Made) (slots : List Slots) → IsMarkedIn q x
 in_later q ys xs slots (IsMarkedIn.Here s rest o) = IsMarkedIn.Here s rest (marked_later s q ys xs o)
 in_later q ys xs slots (IsMarkedIn.There s rest o) = IsMarkedIn.There s rest (in_later q ys xs rest o)
 
-pub in_earlier : (q : ℕ) (ys xs : List Made) (slots : List Slots) → IsMarkedIn q ys slots → IsMarkedIn q (ys ++ xs) slots
-in_earlier q ys xs slots (IsMarkedIn.Here s rest o) = IsMarkedIn.Here s rest (marked_earlier s q ys xs o)
-in_earlier q ys xs slots (IsMarkedIn.There s rest o) = IsMarkedIn.There s rest (in_earlier q ys xs rest o)
-
 pub all_marked : (q : ℕ) (slots : List Slots) (steps : List Made) → AllClasses slots → StopsAll slots steps → IsMarked q steps → IsMarkedIn q steps slots
 all_marked q [] steps classes h marked = absurd (subst (IsMarked q) h marked)
 all_marked q (s ∷ rest) steps classes h marked = subst (λ (ms : List Made). IsMarkedIn q ms (s ∷ rest)) (sym h.4) (elim (marked_parts q h.0 h.1 (subst (IsMarked q) h.4 marked)) [

@@ -14,11 +14,10 @@ use Rattle.pas_machine.specs.State.{live_in, gives_in, ends_in}
 use Rattle.pas_steps.specs.Desks.{triples}
 use Rattle.pas_steps.specs.Effects.{life_word_at}
 use Rattle.pas_steps.specs.Kinds.{Kinds, LookLife, Putting, Only}
-use Rattle.pas_steps.specs.Lists.{Whole, part, word_after, visible, Legal}
+use Rattle.pas_steps.specs.Lists.{Whole, word_after, visible, Legal}
 use Rattle.pas_steps.specs.Past.{Always}
 use Rattle.pas_steps.specs.declared.step.Made.{Made}
 use Rattle.pas_steps.proofs.Adding.{triples_append}
-use Rattle.pas_steps.proofs.Apart.{no_events}
 use Rattle.pas_core.proofs.Lives.{turn_is}
 use Rattle.pas_core.proofs.MachineRuns.{agrees}
 use Rattle.pas_core.proofs.OneActor.{legal_earlier}
@@ -35,7 +34,7 @@ use Rattle.pas_guard.specs.Lowers.{LowerSteps}
 use Rattle.pas_guard.specs.Sweeps.{is_over, life_look, lowered_record, SweptOne, Swept, sweeping}
 use Rattle.pas_guard.specs.declared.book.Guard.{Guard as BookGuard}
 use Rattle.pas_same_text.specs.Same.{told_guard}
-use Rattle.pas_same_text.proofs.Flushes.{visible_steps}
+use Rattle.pas_same_text.proofs.Flushes.{unshown}
 use Rattle.pas_same_text.proofs.GivingBack.{IsMarked, marked_parts, none_marked, returns_marked, hints_none, hints_both}
 use Rattle.pas_same_text.proofs.LoweredGuards.{lowered_line}
 use Rattle.pas_same_text.proofs.ReturnHints.{return_hints}
@@ -155,7 +154,7 @@ module _ (f : Profile) (all : Bool) (es : List Event) (keeper : ℕ) (valid : Is
       let looked : Legal f (triples keeper (life_look g word) ++ l) = legal_earlier f keeper first (life_look g word) l early in
       let kinds : Only sweeping (rest ++ piece) = subst (Only sweeping) h.7 only in
       let shown : visible (triples keeper piece ++ l) ≡ es =
-      visible_steps keeper piece l ∙ (ap (λ (xs : List Event). xs ++ visible l) (no_events sweeping refl keeper (part keeper l) piece (only_later sweeping rest piece kinds)) ∙ same) in
+      unshown sweeping refl keeper piece l (only_later sweeping rest piece kinds) ∙ same in
       let test : goes_down all es g ≡ (all || is_over g word) =
       ap (λ (t : Bool). all || t) (ap (λ (xs : List Event). nat_lt g.block.name.turn (ends_in xs (address_of g.block.name))) (sym same) ∙ sym (look_true f keeper word g l valid looked beside.0)) in
       let later : IsSwept all es keeper gs h.3 h.4 rest =

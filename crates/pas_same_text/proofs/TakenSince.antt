@@ -2,7 +2,6 @@
 -- were free before the search.
 use Rattle.std.proofs.Common.{◌≡◌, ◌≢◌, ℕ, zero, suc, ◌+◌, ◌*◌, ◌/◌, ◌%◌, ◌<◌, ◌≤◌, ◌==◌, Bool, true, false, ◌&&◌, if◌then◌else◌, List, [], ◌∷◌, ◌++◌, IsTrue, ◌↔◌, inl, inr, refl, ap, sym, ◌∙◌, subst, append_assoc, arith}
 use Rattle.std.proofs.lemmas.Bool.{true≢false, false≢true, eq-eqb, eqb-true, ne_eqb, lt-ltb, cases_eq, or_cases, false_from_ne_true}
-use Rattle.std.proofs.lemmas.Bool.Decides.{nat_tests}
 use Rattle.pas_bits.specs.Bits.{has_bit}
 use Rattle.pas_bits.specs.Masks.{is_set}
 use Rattle.pas_bits.specs.declared.mask.Mask4.{Mask4}
@@ -32,10 +31,7 @@ use Rattle.pas_partial.specs.Rows.{IsFreeSlot}
 use Rattle.pas_segregated.specs.Takes.{TookSlots, takes_after, takes_since}
 use Rattle.pas_same_text.specs.Words.{free_bit}
 use Rattle.pas_same_text.proofs.SearchMarks.{stays_used, stays_free}
-use Rattle.pas_same_text.proofs.Tests.{and_first, and_second}
-
-turned_test : (x y : ℕ) → (x == y) ≡ (y == x)
-turned_test x y = grind (arith, nat_tests)
+use Rattle.pas_same_text.proofs.Tests.{and_first, and_second, eqb_turned}
 
 -- ---- the right of a page that is neither offered nor parked stays
 module _ (page : ℕ) where
@@ -110,12 +106,12 @@ module _ (f : Profile) (k page g : ℕ) (of : g / 256 ≡ page) (v ts before : L
   listed_step (Deed q d) a lends marks allowed suits was h =
       let so = was h in (
         right_stays page (Deed q d) a (has_right v page) marks so.0,
-        still_listed ByDeed ((q == page) && (a == 0)) ((page == q) && (a == 0)) (ap (λ (t : Bool). t && (a == 0)) (turned_test page q)) suits (λ e. ap (is_with k) e) so,
+        still_listed ByDeed ((q == page) && (a == 0)) ((page == q) && (a == 0)) (ap (λ (t : Bool). t && (a == 0)) (eqb_turned page q)) suits (λ e. ap (is_with k) e) so,
       )
   listed_step (TakeRight q d) a lends marks allowed suits was h =
       let so = was h in (
         right_stays page (TakeRight q d) a (has_right v page) marks so.0,
-        still_listed (FromOffer (number_of d)) ((q == page) && has_bit a (page % 64)) ((page == q) && has_bit a (page % 64)) (ap (λ (t : Bool). t && has_bit a (page % 64)) (turned_test page q)) suits (λ e. ap (is_with k) e) so,
+        still_listed (FromOffer (number_of d)) ((q == page) && has_bit a (page % 64)) ((page == q) && has_bit a (page % 64)) (ap (λ (t : Bool). t && has_bit a (page % 64)) (eqb_turned page q)) suits (λ e. ap (is_with k) e) so,
       )
   listed_step (Take q word mask) a lends marks allowed suits was h = took q word mask a allowed was (in_mask q word mask g && has_bit a (g % 64)) refl h
   listed_step (Put q word mask) a lends marks allowed suits was h = was (put_kept (in_mask q word mask g) (holds before g) h)

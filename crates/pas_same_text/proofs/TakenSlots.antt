@@ -20,7 +20,7 @@ use Rattle.pas_one_text.specs.Classes.{spaced, free_slots, row_from, first_row, 
 use Rattle.pas_same_text.specs.Same.{HasSame, IsRising, has_number}
 use Rattle.pas_same_text.specs.Acts.{IsBetween}
 use Rattle.pas_same_text.proofs.ClassFits.{slot_there, slot_index, slot_tested, slot_free}
-use Rattle.pas_same_text.proofs.SpacedPlaces.{in_spaced, from_spaced}
+use Rattle.pas_same_text.proofs.SpacedPlaces.{in_spaced, from_spaced, next_place}
 use Rattle.pas_same_text.proofs.Tests.{filtered_has, has_filtered}
 
 -- ---- places that follow each other at a step, and pass a test
@@ -69,9 +69,6 @@ module _ (test : ℕ → Bool) (step : ℕ) (some : 1 ≤ step) where
   abbrev places : ℕ → ℕ → List ℕ
   places from n = filter test (spaced from step n)
 
-  later_place : (from i : ℕ) → from + step + i * step ≡ from + suc i * step
-  later_place from i = let m = suc-mul i step in omega (arith, m)
-
   first_place : (from : ℕ) → from + 0 * step ≡ from
   first_place from = omega arith
 
@@ -98,7 +95,7 @@ module _ (test : ℕ → Bool) (step : ℕ) (some : 1 ≤ step) where
               let o = in_row m n (next + step) s later in
               let lt = o.1 in
               let less = o.2 in
-              (suc o.0, omega (arith, lt), omega (arith, less), o.3 ∙ later_place next o.0, λ j le. each_one o.0 j le o.4 so)
+              (suc o.0, omega (arith, lt), omega (arith, less), o.3 ∙ next_place next step o.0, λ j le. each_one o.0 j le o.4 so)
         ]
     | inr fails ↦ absurd (false≢true (ap (λ (xs : List ℕ). has_number xs s) (sym (ap (row_from next step (suc m)) (failing next n fails) ∙ no_row next step (suc m) (places (next + step) n) (all_above test n (next + step) step next (omega (arith, some))))) ∙ h))
   ]
@@ -109,7 +106,7 @@ module _ (test : ℕ → Bool) (step : ℕ) (some : 1 ≤ step) where
 
       each_one : (i j : ℕ) → j ≤ suc i → ((j : ℕ) → j ≤ i → test (next + step + j * step) ≡ true) → test next ≡ true → test (next + j * step) ≡ true
       each_one i zero le rest so = ap test (first_place next) ∙ so
-      each_one i (suc j) le rest so = ap test (sym (later_place next j)) ∙ rest j (omega (arith, le))
+      each_one i (suc j) le rest so = ap test (sym (next_place next step j)) ∙ rest j (omega (arith, le))
 
   row_has : (m n next i : ℕ) → i < m → i < n → ((j : ℕ) → j ≤ i → test (next + j * step) ≡ true) → has_number (row_from next step m (places next n)) (next + i * step) ≡ true
   row_has zero n next i few less all = absurd (omega (arith, few))
@@ -120,8 +117,8 @@ module _ (test : ℕ → Bool) (step : ℕ) (some : 1 ≤ step) where
   row_has (suc m) (suc n) next (suc i) few less all =
       row_passing m n next (next + suc i * step) (ap test (sym (first_place next)) ∙ all 0 (omega arith))
       ∙ or_right (next == (next + suc i * step)) (has_number (row_from (next + step) step m (places (next + step) n)) (next + suc i * step))
-      (ap (has_number (row_from (next + step) step m (places (next + step) n))) (sym (later_place next i))
-      ∙ row_has m n (next + step) i (omega (arith, few)) (omega (arith, less)) (λ j le. ap test (later_place next j) ∙ all (suc j) (omega (arith, le))))
+      (ap (has_number (row_from (next + step) step m (places (next + step) n))) (sym (next_place next step i))
+      ∙ row_has m n (next + step) i (omega (arith, few)) (omega (arith, less)) (λ j le. ap test (next_place next step j) ∙ all (suc j) (omega (arith, le))))
 
   -- ---- the places before the first that passes
   skipped : (i n rest from : ℕ) → i + rest ≡ n → ((j : ℕ) → j < i → test (from + j * step) ≡ false) → places from n ≡ places (from + i * step) rest
@@ -129,8 +126,8 @@ module _ (test : ℕ → Bool) (step : ℕ) (some : 1 ≤ step) where
   skipped (suc i) zero rest from is before = absurd (omega (arith, is))
   skipped (suc i) (suc n) rest from is before =
       failing from n (ap test (sym (first_place from)) ∙ before 0 (omega arith))
-      ∙ (skipped i n rest (from + step) (omega (arith, is)) (λ j lt. ap test (later_place from j) ∙ before (suc j) (omega (arith, lt)))
-      ∙ ap (λ (x : ℕ). places x rest) (later_place from i))
+      ∙ (skipped i n rest (from + step) (omega (arith, is)) (λ j lt. ap test (next_place from step j) ∙ before (suc j) (omega (arith, lt)))
+      ∙ ap (λ (x : ℕ). places x rest) (next_place from step i))
 
   -- the row begins with it
   first_row_is : (from n : ℕ) → 1 ≤ n → test from ≡ true → first_row step (places from n) ≡ row_from from step 4 (places from n)

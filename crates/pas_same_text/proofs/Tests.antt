@@ -1,11 +1,34 @@
 -- Tests on lists.
-use Rattle.std.proofs.Common.{◌≡◌, ℕ, ◌==◌, Bool, true, false, not, ◌&&◌, ◌||◌, if◌then◌else◌, List, [], ◌∷◌, ◌⊎◌, inl, inr, refl, ap, sym, ◌∙◌}
+use Rattle.std.proofs.Common.{◌≡◌, ℕ, ◌==◌, Bool, true, false, not, ◌&&◌, ◌||◌, if◌then◌else◌, List, [], ◌∷◌, ◌⊎◌, inl, inr, refl, ap, sym, ◌∙◌, arith, ◌+◌, ◌*◌, ◌/◌, ◌<◌}
 use Rattle.std.proofs.lemmas.Bool.{eq-eqb, eqb-true, false≢true, or_cases, or_left, or_right}
+use Rattle.std.proofs.lemmas.Bool.Decides.{nat_tests}
 use Rattle.std.specs.List.{list_any, filter}
+use Rattle.std.proofs.Math.Bool.{or-false}
 use Rattle.pas_same_text.specs.Same.{has_number}
 
+-- ---- tests
+pub or_none : (x : Bool) {t : Bool} → (x || false) ≡ t → x ≡ t
+or_none x h = sym (or-false x) ∙ h
+
+pub eqb_itself : (n : ℕ) → (n == n) ≡ true
+eqb_itself n = eq-eqb n n refl
+
+pub eqb_turned : (x y : ℕ) → (x == y) ≡ (y == x)
+eqb_turned x y = grind (arith, nat_tests)
+
+-- what passes a test and not another passes where the other passes less
+pub and_more : (x c d : Bool) → (d ≡ true → c ≡ true) → (x && not c) ≡ true → (x && not d) ≡ true
+and_more true true d more h = absurd (false≢true h)
+and_more true false true more h = absurd (false≢true (more refl))
+and_more true false false more h = refl
+and_more false c d more h = absurd (false≢true h)
+
+-- grain b of a page is on it
+pub on_page : (page b : ℕ) → b < 256 → (256 * page + b) / 256 ≡ page
+on_page page b small = omega (arith, small)
+
 -- ---- lists
-or_more : (x y z : Bool) → (y ≡ true → z ≡ true) → (x || y) ≡ true → (x || z) ≡ true
+pub or_more : (x y z : Bool) → (y ≡ true → z ≡ true) → (x || y) ≡ true → (x || z) ≡ true
 or_more true y z more h = refl
 or_more false y z more h = more h
 
@@ -42,10 +65,7 @@ pub record IsFound (numbers : List ℕ) (p : ℕ → Bool) : Type 0 where
   pub so : p number ≡ true
 
 found_at : (p : ℕ → Bool) (n : ℕ) (more : List ℕ) → (list_any p more ≡ true → IsFound more p) → (p n ≡ true) ⊎ (list_any p more ≡ true) → IsFound (n ∷ more) p
-found_at p n more rest (inl so) = record { number = n; there = or_left (n == n) (has_number more n) (same n); so = so }
-  where
-    same : (m : ℕ) → (m == m) ≡ true
-    same m = eq-eqb m m refl
+found_at p n more rest (inl so) = record { number = n; there = or_left (n == n) (has_number more n) (eqb_itself n); so = so }
 found_at p n more rest (inr so) = let o = rest so in record { number = o.number; there = or_right (n == o.number) (has_number more o.number) o.there; so = o.so }
 
 pub found : (p : ℕ → Bool) (numbers : List ℕ) → list_any p numbers ≡ true → IsFound numbers p
@@ -63,7 +83,7 @@ passed p (n ∷ more) m h so = elim (or_cases (n == m) (has_number more m) h) [
 ]
 
 -- ---- tests that follow from others
-weaker_at : (x y r s : Bool) → (x ≡ true → y ≡ true) → (r ≡ true → s ≡ true) → (x || r) ≡ true → (y || s) ≡ true
+pub weaker_at : (x y r s : Bool) → (x ≡ true → y ≡ true) → (r ≡ true → s ≡ true) → (x || r) ≡ true → (y || s) ≡ true
 weaker_at true true r s here rest h = refl
 weaker_at true false r s here rest h = absurd (false≢true (here refl))
 weaker_at false true r s here rest h = refl

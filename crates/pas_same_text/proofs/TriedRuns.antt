@@ -2,6 +2,7 @@
 use Rattle.std.proofs.Common.{◌≡◌, ◌≢◌, ℕ, ◌+◌, ◌*◌, ◌/◌, ◌<◌, ◌≤◌, ◌==◌, nat_le, Bool, true, false, not, ◌&&◌, ◌||◌, if◌then◌else◌, List, [], ◌∷◌, ◌++◌, Option, None, Some, ◌⊎◌, inl, inr, refl, ap, sym, ◌∙◌, subst, arith}
 use Rattle.std.proofs.lemmas.Bool.{false≢true, eq-eqb, eqb-true, eqb-false, false_from_ne_true}
 use Rattle.std.proofs.Math.Path.{fun_ext}
+use Rattle.std.proofs.Math.Bool.{and-false}
 use Rattle.std.specs.List.{AllByRecursion}
 use Rattle.pas_profile.specs.Directories.{number_of}
 use Rattle.pas_profile.specs.Profiles.{IsValid, IsDirectoryOf}
@@ -24,9 +25,9 @@ use Rattle.pas_steps.specs.declared.step.Made.{Made}
 use Rattle.pas_steps.specs.declared.step.Step.TheVariants.{Deed}
 use Rattle.pas_steps.proofs.Parts.{part_of_own}
 use Rattle.pas_steps.proofs.Past.{always_map}
-use Rattle.pas_core.specs.Good.{word_of_deed, word_of_backed}
+use Rattle.pas_core.specs.Good.{word_of_deed}
 use Rattle.pas_core.proofs.Deeds.{deed_of, backed_of, known_is}
-use Rattle.pas_core.proofs.MachineRuns.{runs}
+use Rattle.pas_core.proofs.MachineRuns.{runs, one_backed}
 use Rattle.pas_core.proofs.Nexts.{agreed_steps}
 use Rattle.pas_core.proofs.Rights.{Nowhere, is_with, spot_of, DeedFits, no_deed, spotted, deeds_known, free_without_deed}
 use Rattle.pas_scan.specs.Runs.{IsInRun}
@@ -54,7 +55,7 @@ use Rattle.pas_same_text.proofs.GivingBack.{backed_stays}
 use Rattle.pas_same_text.proofs.KeptPages.{keeper}
 use Rattle.pas_same_text.proofs.RaiseWalk.{below, below_all, all_so, IsWalked, found_text, none_text}
 use Rattle.pas_same_text.proofs.ReadyPages.{shown, shown_events, shown_rest}
-use Rattle.pas_same_text.proofs.RestingPages.{is_open}
+use Rattle.pas_same_text.proofs.RestingPages.{is_open, owned_is, unowned_by}
 use Rattle.pas_same_text.proofs.RunEvents.{deeded, deeds_of, deeded_falls, deeded_events, deeds_live}
 use Rattle.pas_same_text.proofs.RunsSame.{run_usable, usable_run}
 use Rattle.pas_same_text.proofs.SoughtRuns.{IsRunOf, IsBackedRun, IsMadeOf, failed_run, found_run, bad_run, made_pages}
@@ -67,9 +68,6 @@ all_true : (d : Directory) (kept room empty : Bool) → kept ≡ false → room 
 all_true d kept room empty none some full =
     ap (λ (t : Bool). (t && (not kept && room)) && empty) (eq-eqb (number_of d) (number_of d) refl)
     ∙ (ap (λ (t : Bool). (not t && room) && empty) none ∙ (ap (λ (t : Bool). t && empty) some ∙ full))
-
-one_backed : (b : Bool) → 1 ≡ word_of_backed b → b ≡ true
-one_backed b h = grind arith
 
 word_some : (o : Option Directory) → word_of_deed o ≢ 0 → o ≢ None
 word_some o some none = some (ap word_of_deed none)
@@ -107,11 +105,7 @@ module _ (f : Profile) (k heap n : ℕ) (p : Progress) (w : World) (valid : IsVa
       false≢true (sym (ap (is_with by.0) nowhere) ∙ (sym (at.has by.0) ∙ by.1)))
 
   no_deed_in : (page : ℕ) → word_after l (Word.Deed page) ≡ 0 → is_none (deed_in w.events page) ≡ true
-  no_deed_in page none = by_word (deed_in w.events page) (ap (λ (es : List Event). word_of_deed (deed_in es page)) same.pages.events ∙ (sym (deed_of f l between.legal page) ∙ none))
-    where
-      by_word : (o : Option Directory) → word_of_deed o ≡ 0 → is_none o ≡ true
-      by_word None is = refl
-      by_word (Some e) is = absurd (deed_word_of-positive e is)
+  no_deed_in page none = unowned_by (deed_in w.events page) (sym (owned_is f l w between.legal same.pages.events page) ∙ none)
 
   -- ---- deeds of such pages change no page's use
   same_use : (o : Option Directory) (qs : List ℕ) (page : ℕ) → usable_in d o (mine qs) page ≡ usable_in d o w page
@@ -159,12 +153,8 @@ module _ (f : Profile) (k heap n : ℕ) (p : Progress) (w : World) (valid : IsVa
     | inl low ↦ ap (λ (t : Bool). not t && not (backed_in w.events (r + n + 1))) (backed_told r ∙ one_backed (backed_in (visible l) r) (sym low ∙ backed_of f l between.legal r))
     | inr high ↦
         ap (λ (t : Bool). not (backed_in w.events r) && not t) (backed_told (r + n + 1) ∙ one_backed (backed_in (visible l) (r + n + 1)) (sym high ∙ backed_of f l between.legal (r + n + 1)))
-        ∙ neither (not (backed_in w.events r))
+        ∙ and-false (not (backed_in w.events r))
   ]
-    where
-      neither : (t : Bool) → (t && false) ≡ false
-      neither true = refl
-      neither false = refl
 
   -- ==== THE SEARCH, whose deeds are of pages of these runs below the end; each page of such a run has its deed then
   module _ (xs : List Made) (legal : Legal f (triples k xs ++ l)) (kinds : Only seeking xs) (rise : DeedsRise xs) (due : Always ReturnsDuly xs) (met : MayFind d (part k l)) where

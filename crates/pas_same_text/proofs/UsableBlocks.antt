@@ -1,7 +1,8 @@
 -- Each act leaves each live block on grains that blocks of its page's directory may cover.
 use Rattle.std.proofs.Common.{◌≡◌, ℕ, ◌/◌, ◌%◌, ◌<◌, ◌==◌, nat_le, max, Bool, true, false, if◌then◌else◌, List, [], ◌∷◌, ◌++◌, length, map, reverse, Option, None, Some, Result, Ok, Err, MatchResult, inl, inr, refl, ap, sym, ◌∙◌, subst, arith}
-use Rattle.std.proofs.lemmas.Bool.{false≢true, eqb-true}
+use Rattle.std.proofs.lemmas.Bool.{eqb-true}
 use Rattle.std.proofs.lemmas.Bool.Decides.{nat_tests}
+use Rattle.std.proofs.lemmas.Option.{same_Some, none-some}
 use Rattle.std.specs.List.{AllByRecursion}
 use Rattle.pas_bits.specs.Runs.{in_run}
 use Rattle.pas_bits.proofs.Runs.{run_of}
@@ -21,7 +22,7 @@ use Rattle.pas_profile.specs.declared.name.Block.{Block}
 use Rattle.pas_profile.specs.declared.profile.Profile.{Profile}
 use Rattle.pas_profile.specs.declared.word.Word.TheVariants as Word
 use Rattle.pas_profile.proofs.ClassFacts.{usable_grains_le, class_suits, class_known}
-use Rattle.pas_profile.proofs.Codecs.{deed_word_of-positive, same_from_deed_word}
+use Rattle.pas_profile.proofs.Codecs.{same_from_deed_word}
 use Rattle.pas_machine.specs.Machine.{Run, Bears}
 use Rattle.pas_machine.specs.State.{Live, live_in, deed_in}
 use Rattle.pas_machine.proofs.LiveBlocks.{all_borne}
@@ -35,10 +36,9 @@ use Rattle.pas_steps.proofs.Apart.{no_events}
 use Rattle.pas_steps.proofs.Frames.{events_append}
 use Rattle.pas_steps.proofs.Parts.{part_of_own}
 use Rattle.pas_core.specs.Good.{IsPartOf, word_of_deed}
-use Rattle.pas_core.proofs.Deeds.{known_is, deed_of, directory_is_of}
+use Rattle.pas_core.proofs.Deeds.{deed_of, directory_is_of}
 use Rattle.pas_core.proofs.MachineRuns.{runs}
 use Rattle.pas_core.proofs.OneActor.{legal_before, legal_earlier}
-use Rattle.pas_core.proofs.Rights.{deeds_known}
 use Rattle.pas_free_log.specs.Flushes.{Settled, shown_for, event_for}
 use Rattle.pas_free_log.specs.Logs.{entry_of, sized_entry}
 use Rattle.pas_free_log.specs.declared.ending.Outcome.{Outcome as TheEnd}
@@ -66,6 +66,7 @@ use Rattle.pas_answers.specs.Reaching.{AnswersTried, AnswersGuarded}
 use Rattle.pas_answers.proofs.Reached.{tried_on, pieces_back}
 use Rattle.pas_same_text.specs.Acts.{AreBlocksUsable, HasUsableBlocks, KeepsUsable}
 use Rattle.pas_same_text.proofs.Flushes.{visible_steps}
+use Rattle.pas_same_text.proofs.RestingPages.{word_known}
 
 -- ---- one event
 -- the block may be given so: each of its grains is one that blocks of its page's directory may cover
@@ -80,31 +81,21 @@ GivesUsably es (Event.Give k block) = IsUsableGive es block
 GivesUsably es (Event.End k name e) = Unit {0}
 GivesUsably es (Event.Reject k name why) = Unit {0}
 
-is_some : {A : Type 0} → Option A → Bool
-is_some None = false
-is_some (Some x) = true
-
 deed_usable : (f : Profile) (es : List Event) (p : ℕ) (d own : Directory) (address : ℕ) (b : Live) (g : ℕ) (t : Bool) → (p == g / 256) ≡ t → Run f es → deed_in es p ≡ None → live_in es address ≡ Some b → IsPartOf g address b
     → AreBlocksUsable es → (if t then Some d else deed_in es (g / 256)) ≡ Some own → usable_by_kind own.kind (g % 256) ≡ true
-unfolding is_some
 deed_usable f es p d own address b g true e run none lives of usable is =
     let bears : Bears f es b.block.heap (g / 256) = all_borne f es run address b lives g of in
-    absurd (false≢true (ap is_some (sym none ∙ (ap (deed_in es) (eqb-true p (g / 256) e) ∙ bears.deed))))
+    absurd (none-some _ (sym none ∙ (ap (deed_in es) (eqb-true p (g / 256) e) ∙ bears.deed)))
 deed_usable f es p d own address b g false e run none lives of usable is = usable.usable address b lives g of own is
 
 ended_usable : (es : List Event) (own : Directory) (address : ℕ) (b : Live) (g : ℕ) (t : Bool) → (if t then None else live_in es address) ≡ Some b → IsPartOf g address b → AreBlocksUsable es → deed_in es (g / 256) ≡ Some own → usable_by_kind own.kind (g % 256) ≡ true
-unfolding is_some
-ended_usable es own address b g true lives of usable is = absurd (false≢true (ap is_some lives))
+ended_usable es own address b g true lives of usable is = absurd (none-some b lives)
 ended_usable es own address b g false lives of usable is = usable.usable address b lives g of own is
-
-abbrev or_this : Live → Option Live → Live
-or_this d None = d
-or_this d (Some x) = x
 
 given_usable : (k : ℕ) (block : Block) (es : List Event) (own : Directory) (address : ℕ) (b : Live) (g : ℕ) (t : Bool) → (address_of block.name == address) ≡ t → (if t then Some (record { actor = k; block = block }) else live_in es address) ≡ Some b → IsPartOf g address b
     → IsUsableGive es block → AreBlocksUsable es → deed_in es (g / 256) ≡ Some own → usable_by_kind own.kind (g % 256) ≡ true
 given_usable k block es own address b g true e lives of give usable is =
-    let same : block ≡ b.block = ap (λ (o : Option Live). (or_this (record { actor = k; block = block }) o).block) lives in
+    let same : block ≡ b.block = ap (λ (l : Live). l.block) (same_Some (record { actor = k; block = block }) b lives) in
     let at : address_of block.name ≡ address = eqb-true (address_of block.name) address e in
     give g (ap (λ (a : ℕ). in_run (a / 16) (length_of block) g) at ∙ (ap (λ (x : Block). in_run (address / 16) (length_of x) g) same ∙ of)) own is
 given_usable k block es own address b g false e lives of give usable is = usable.usable address b lives g of own is
@@ -136,10 +127,6 @@ no_give es (Event.Unback k p e) is = tt
 no_give es (Event.Give k block) is = absurd is
 no_give es (Event.End k name e) is = tt
 no_give es (Event.Reject k name why) is = tt
-
-run_later : (f : Profile) (evs es : List Event) → Run f (evs ++ es) → Run f es
-run_later f [] es run = run
-run_later f (e ∷ evs) es run = run_later f evs es run.1
 
 all_usable : (f : Profile) (evs es : List Event) → Run f (evs ++ es) → AreNoGives evs → AreBlocksUsable es → AreBlocksUsable (evs ++ es)
 all_usable f [] es run none usable = usable
@@ -252,9 +239,7 @@ module _ (f : Profile) (k heap size align : ℕ) (l : Whole) (steps : List Made)
       let deed : deed_in (visible whole) page ≡ Some d = ap (λ (es : List Event). deed_in es page) shown ∙ is in
       let word : word_after whole (Word.Deed page) ≡ deed_word_of d = deed_of f whole legal page ∙ ap word_of_deed deed in
       let some : known_deed (part k whole) page ≡ deed_word_of wanted.directory = ap (λ (v : View). known_deed v page) (part_of_own k steps l) ∙ given.of_directory g of in
-      let known : known_deed (part k whole) page ≡ word_after whole (Word.Deed page) =
-      known_is (known_deed (part k whole) page) (word_after whole (Word.Deed page)) (deeds_known f whole legal k page) (λ none. deed_word_of-positive wanted.directory (sym some ∙ none)) in
-      let same : d ≡ wanted.directory = same_from_deed_word d wanted.directory (directory_is_of f whole legal page d deed).kind (kind_known f (is_shared f heap) size align (route_in f size align) refl) (sym word ∙ (sym known ∙ some)) in
+      let same : d ≡ wanted.directory = same_from_deed_word d wanted.directory (directory_is_of f whole legal page d deed).kind (kind_known f (is_shared f heap) size align (route_in f size align) refl) (sym word ∙ word_known f whole legal k page wanted.directory some) in
       ap (λ (x : Directory). usable_by_kind x.kind (g % 256)) same ∙ placed_usable f (is_shared f heap) size align (route_in f size align) block g refl given.placed given.room of
 
   by_answer : (answer : Result Block NoRoom) → RequestEnds k wanted (part k l) steps answer → AreBlocksUsable (visible whole)

@@ -1,6 +1,6 @@
 -- The first state of the text is that of a replay that did nothing yet, and the text of a state that is the replay's is what is written of it.
 use Rattle.std.proofs.Common.{◌≡◌, ℕ, zero, suc, ◌+◌, ◌%◌, ◌==◌, Bool, true, false, not, List, [], ◌++◌, length, map, if◌then◌else◌, ◌-◌, codes, Option, None, Some, inl, inr, refl, ap, sym, ◌∙◌, subst}
-use Rattle.std.proofs.lemmas.Bool.{false≢true}
+use Rattle.std.proofs.lemmas.Option.{none-some}
 use Rattle.pas_bits.proofs.Words.{none_of_zero}
 use Rattle.pas_profile.specs.Directories.{directory_read}
 use Rattle.pas_profile.specs.Profiles.{IsValid}
@@ -60,13 +60,8 @@ start_same f = record {
   read = refl;
 }
 
-is_some : {A : Type 0} → Option A → Bool
-is_some None = false
-is_some (Some x) = true
-
 pub start_usable : AreBlocksUsable []
-unfolding is_some
-start_usable = record { usable = λ address b lives g of d is. absurd (false≢true (ap is_some is)) }
+start_usable = record { usable = λ address b lives g of d is. absurd (none-some d is) }
 
 -- ==== THE END
 pages_told : (es : List Event) (marks other : ℕ → Marked) (n : ℕ) → ((page : ℕ) → marks page ≡ other page) → machine_pages es marks n ≡ machine_pages es other n
@@ -110,11 +105,7 @@ module _ (f : Profile) (p : Progress) (w : World) (valid : IsValid f) (legal : L
   parked_told page None at = sym (no_deed_parked page at)
   parked_told page (Some d) at =
       ap not (sym (ap (λ (o : Option Directory). offered_by w o page) (deed_is page ∙ at)) ∙ offered_same page)
-      ∙ sym (true_marks.offered_or_parked page (λ none. absurd (false≢true (ap is_there (sym none ∙ at)))))
-    where
-      is_there : Option Directory → Bool
-      is_there None = false
-      is_there (Some d) = true
+      ∙ sym (true_marks.offered_or_parked page (λ none. absurd (none-some d (sym none ∙ at))))
 
   marks_same : (page : ℕ) → marks_of w page ≡ marks_after l page
   marks_same page =
