@@ -33,6 +33,7 @@ use Rattle.pas_trace.specs.Asked.{request_in}
 use Rattle.pas_trace.specs.declared.item.Request.{Request}
 use Rattle.pas_trace.specs.declared.plan.Op.{Op}
 use Rattle.pas_answers.specs.Guarding.{after_trying}
+use Rattle.pas_answers.specs.Phases.{AreInPhases}
 use Rattle.pas_answers.specs.Reaching.{AnswersOp, AnswersTried, AnswersGuarded, Advances, Reaches}
 use Rattle.pas_answers.specs.Indexes.{GoByIndexes}
 use Rattle.pas_answers.specs.Refusals.{AreRefusalsTrue}
@@ -197,13 +198,14 @@ resting InOrder threads f acts p p' is go = go.1
 resting OnThreads threads f acts p p' is go = tt
 
 pub replays : (way : Way) (plan : Plan) (reached : Progress) (whole : Whole) (records : List Record) → IsValid (region_of plan) → (answers : Reaches (region_of plan) (acts_of_plan plan) at_start reached)
-    → IsOneOrder way reached.list whole → records ≡ arranged way (region_of plan).threads reached.records → Legal (region_of plan) whole → ((k : ℕ) → HasNothing (part k whole))
+    → IsOneOrder way reached.list whole → AreInPhases (region_of plan) (acts_of_plan plan) at_start reached answers whole → records ≡ arranged way (region_of plan).threads reached.records → Legal (region_of plan) whole → ((k : ℕ) → HasNothing (part k whole))
     → AreRefusalsTrue way (region_of plan) (acts_of_plan plan) at_start reached answers → GoInOrder way (threads_of plan) (region_of plan) (acts_of_plan plan) at_start reached answers
     → AreOfThreads (threads_of plan) (acts_of_plan plan) → IsReplay way plan whole records
-replays way plan reached whole records valid answers one_order records_are legal nothing refusals go of = record {
+replays way plan reached whole records valid answers one_order phases records_are legal nothing refusals go of = record {
   reached = reached;
   answers = answers;
   one_order = one_order;
+  phases = phases;
   records_are = records_are;
   legal = legal;
   nothing = nothing;

@@ -1,5 +1,5 @@
 -- Acts that were answered one after the other: how they follow each other, and that what they found on the list stays there.
-use Rattle.std.proofs.Common.{◌≡◌, ℕ, inl, inr, List, [], ◌∷◌, ◌++◌, Option, Some, None, refl, sym, ◌∙◌, ap, subst}
+use Rattle.std.proofs.Common.{◌≡◌, ℕ, inl, inr, List, [], ◌∷◌, ◌++◌, Option, Some, None, refl, sym, ◌∙◌, ap, subst, append_assoc}
 use Rattle.std.specs.Prelude.{MatchOption}
 use Rattle.pas_profile.specs.declared.profile.Profile.{Profile}
 use Rattle.pas_steps.specs.Lists.{Whole}
@@ -13,10 +13,11 @@ use Rattle.pas_trace.specs.Asked.{request_in}
 use Rattle.pas_trace.specs.declared.item.Request.{Request}
 use Rattle.pas_trace.specs.declared.plan.Op.{Op}
 use Rattle.pas_answers.specs.Guarding.{after_trying}
+use Rattle.pas_answers.specs.Phases.{StandFirst, AtMark, AreInPhases}
 use Rattle.pas_answers.specs.Reaching.{AnswersTried, AnswersGuarded, Advances, Reaches}
 
 -- acts that were answered are followed by others
-pub reach_both : (f : Profile) (xs ys : List Act) (p q r : Progress) → Reaches f xs p q → Reaches f ys q r → Reaches f (xs ++ ys) p r
+abbrev pub reach_both : (f : Profile) (xs ys : List Act) (p q r : Progress) → Reaches f xs p q → Reaches f ys q r → Reaches f (xs ++ ys) p r
 reach_both f [] ys p q r one two = subst (λ (s : Progress). Reaches f ys s r) one two
 reach_both f (x ∷ xs) ys p q r one two = (one.0, one.1, reach_both f xs ys one.0 q r one.2 two)
 
@@ -83,3 +84,22 @@ was_so f P back [] p q is so = subst P (list_of is) so
 was_so f P back (act ∷ acts) p q is so =
     let on = put_on f act p is.0 is.1 in
     pieces_back P back on.0 p.list (subst P on.1 (was_so f P back acts is.0 q is.2 so))
+
+-- ---- the phases, where the list is that of the pieces
+-- these are the first steps of the list
+abbrev Begins : Whole → Whole → Type 0
+Begins whole l = (since : Whole) × (whole ≡ since ++ l)
+
+begun_before : (whole : Whole) (k : ℕ) (steps : List Made) (l : Whole) → Begins whole (triples k steps ++ l) → Begins whole l
+begun_before whole k steps l begun = (begun.0 ++ triples k steps, begun.1 ∙ sym (append_assoc begun.0 (triples k steps) l))
+
+at_mark : (act : Act) (So : Type 0) → So → AtMark act So
+at_mark (MarksPhase n) So so = so
+at_mark MarksClose So so = so
+at_mark act So so = tt
+
+pub in_phases : (f : Profile) (acts : List Act) (p q : Progress) (is : Reaches f acts p q) (whole : Whole) → (since : Whole) × (whole ≡ since ++ q.list) → AreInPhases f acts p q is whole
+in_phases f [] p q is whole begun = tt
+in_phases f (act ∷ acts) p q is whole begun =
+    let first = was_so f (Begins whole) (begun_before whole) (act ∷ acts) p q is begun in
+    (at_mark act (StandFirst p.list whole) (record { since = first.0; so_far = p.list; whole_is = first.1; parts_are = λ k. refl }), in_phases f acts is.0 q is.2 whole begun)

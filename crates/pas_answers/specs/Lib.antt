@@ -2,6 +2,7 @@ pub mod Answers
 pub mod Guarding
 pub mod Keeping
 pub mod Reaching
+pub mod Phases
 pub mod Ways
 pub mod Indexes
 pub mod Refusals

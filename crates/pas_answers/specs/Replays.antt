@@ -22,6 +22,7 @@ use Rattle.pas_guard.specs.declared.book.Guard.{Guard}
 pub use Rattle.pas_trace.specs.Acts.{region_of, threads_of, keepers_of, acts_of_plan}
 use Rattle.pas_answers.specs.Answers.{Caches, Books, Progress}
 use Rattle.pas_answers.specs.Reaching.{Reaches}
+use Rattle.pas_answers.specs.Phases.{AreInPhases}
 use Rattle.pas_answers.specs.Indexes.{GoByIndexes}
 use Rattle.pas_answers.specs.Refusals.{AreRefusalsTrue}
 use Rattle.pas_answers.specs.Rests.{RestBetween}
@@ -53,7 +54,7 @@ KeepersMakeCalls f threads whole = (keeper : ℕ) → threads < keeper → (call
 
 -- A REPLAY of a plan, for both ways: a list of steps and the records of it. The acts of the plan are answered one after the other, each by its actor's own
 -- steps and cache. `reached` is how far they come, with the list of these steps and their records. The list of the replay has of each actor the same
--- part as that one, and its records are those, in the order of this way. The list is legal, and at its end all actors have nothing and owe nothing; its
+-- part as that one, phase by phase, and its records are those, in the order of this way. The list is legal, and at its end all actors have nothing and owe nothing; its
 -- keepers make nothing but calls of `raise` and `sweep`, so that the outer pages of their guards stay bare (`laws::guards_stay_bare`). Its
 -- visible events are a run of the allocator's machine, whose pages have the deeds that the threads know. The stamp of each page is the greatest epoch of
 -- an end there, and the marks of the pages are true. In the order of the text a request was refused only where nothing could serve it, for the true
@@ -63,6 +64,7 @@ pub record IsReplay (way : Way) (plan : Plan) (whole : Whole) (records : List Re
   pub reached : Progress
   pub answers : Reaches (region_of plan) (acts_of_plan plan) at_start reached
   pub one_order : IsOneOrder way reached.list whole
+  pub phases : AreInPhases (region_of plan) (acts_of_plan plan) at_start reached answers whole
   pub records_are : records ≡ arranged way (region_of plan).threads reached.records
   pub legal : Legal (region_of plan) whole
   pub nothing : (k : ℕ) → HasNothing (part k whole)

@@ -4,10 +4,10 @@ use Rattle.std.proofs.lemmas.List.{take-append-le, take-append-drop, take_all, d
 use Rattle.std.proofs.Math.Seq.{take-add, take-append-add}
 use borrow.Rule.Slice.PartMut.{put_mid, post_of}
 use Rattle.pas_io.specs.Inputs.{HasRead}
-use Rattle.pas_io.specs.Told.{Moves, MovesTold, Writes, WritesFront}
+use Rattle.pas_io.specs.Told.{KeepsTold, Moves, MovesTold, Writes, WritesFront}
 
 pub writes_more : (before middle after : Option (List ℕ)) (xs ys : List ℕ) → Writes before middle xs → Writes middle after ys → Writes before after (xs ++ ys)
-writes_more None middle after xs ys first next = let Next : Option (List ℕ) → Type 0 = λ m. Writes m after ys in subst Next first next
+writes_more None middle after xs ys first next = tt
 writes_more (Some held) middle after xs ys first next =
     let Next : Option (List ℕ) → Type 0 = λ m. Writes m after ys in
     let e : after ≡ Some ((held ++ xs) ++ ys) = subst Next first next in
@@ -16,10 +16,11 @@ writes_more (Some held) middle after xs ys first next =
 pub writes_on : (before middle after : Option (List ℕ)) (bytes : List ℕ) (k n : ℕ) → Writes before middle (take k bytes) → Writes middle after (take n (drop k bytes)) → Writes before after (take (k + n) bytes)
 writes_on before middle after bytes k n first next = rw (take-add k n bytes) (writes_more before middle after (take k bytes) (take n (drop k bytes)) first next)
 
-pub front_of : (before after after' : Option (List ℕ)) (bytes : List ℕ) (k : ℕ) → Writes before after (take k bytes) → after' ≡ after → WritesFront before after' bytes
-front_of before after after' bytes k wrote same =
-    let Wrote : Option (List ℕ) → Type 0 = λ h. Writes before h (take k bytes) in
-    (take k bytes, drop k bytes, sym (take-append-drop k bytes), subst Wrote (sym same) wrote)
+pub front_of : (before after after' : Option (List ℕ)) (bytes : List ℕ) (k : ℕ) → Writes before after (take k bytes) → KeepsTold after after' → WritesFront before after' bytes
+front_of None after after' bytes k wrote same = (take k bytes, drop k bytes, sym (take-append-drop k bytes), tt)
+front_of (Some held) after after' bytes k wrote same =
+    let Kept : Option (List ℕ) → Type 0 = λ h. KeepsTold h after' in
+    (take k bytes, drop k bytes, sym (take-append-drop k bytes), subst Kept wrote same)
 
 -- a read after others: what is left, and what the buffer's front holds
 pub filled_more : (told buffer part : List ℕ) (k m n : ℕ) → k ≤ length buffer → take k buffer ≡ take k told → n ≤ length part → take n part ≡ take n (drop k told) → take (k + n) (put_mid k m buffer part) ≡ take (k + n) told

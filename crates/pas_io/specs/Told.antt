@@ -14,12 +14,17 @@ pub record Moves (left : List ℕ) (left' : Option (List ℕ)) (buffer buffer' :
   pub ends : n ≡ 0 → (left ≡ []) ⊎ (buffer ≡ [])
 
 abbrev pub MovesTold : Option (List ℕ) → Option (List ℕ) → List ℕ → List ℕ → ℕ → Type 0
-MovesTold None left' buffer buffer' n = left' ≡ None
+MovesTold None left' buffer buffer' n = Unit {0}
 MovesTold (Some left) left' buffer buffer' n = Moves left left' buffer buffer' n
+
+-- what is told stays as it is
+abbrev pub KeepsTold : Option (List ℕ) → Option (List ℕ) → Type 0
+KeepsTold None after = Unit {0}
+KeepsTold (Some told) after = after ≡ Some told
 
 -- the bytes were written, where the sink tells
 abbrev pub Writes : Option (List ℕ) → Option (List ℕ) → List ℕ → Type 0
-Writes None after bytes = after ≡ None
+Writes None after bytes = Unit {0}
 Writes (Some held) after bytes = after ≡ Some (held ++ bytes)
 
 -- some first part of the bytes was written

@@ -12,7 +12,7 @@ mod unread;
 pub mod whole;
 
 ghost use Rattle.std.specs.Prelude.{◌≡◌, ◌≢◌, ◌<◌, ◌≤◌, ◌+◌, ℕ, List, [], Option, length, take, IfOk, OnErr};
-ghost use Rattle.pas_io.specs.Told.{Rose, MovesTold, Writes};
+ghost use Rattle.pas_io.specs.Told.{Rose, KeepsTold, MovesTold, Writes};
 
 pub use memory::{MemorySink, MemorySource};
 pub use real::{RealSink, RealSource};
@@ -36,7 +36,7 @@ pub trait Source {
     fn read(&mut self, buffer: &mut [u8]) -> Result<usize, Failed>
         ensures within { IfOk result (λ n. n ≤ length buffer.old) }
         ensures moves { IfOk result (λ n. MovesTold (rest self.old) (rest self.new) buffer.old buffer.new n) }
-        ensures keeps { OnErr result (rest self.new ≡ rest self.old) }
+        ensures keeps { OnErr result (KeepsTold (rest self.old) (rest self.new)) }
         ensures sound { IfOk result (λ n. faults self.new ≡ faults self.old) }
         ensures failed { OnErr result (Rose (faults self.old) (faults self.new)) }
         ensures count { faults self.old ≤ faults self.new }
@@ -57,7 +57,7 @@ pub trait Sink {
         ensures within { IfOk result (λ n. n ≤ length bytes.now) }
         ensures some { IfOk result (λ n. bytes.now ≢ [] → 1 ≤ n) }
         ensures writes { IfOk result (λ n. Writes (held self.old) (held self.new) (take n bytes.now)) }
-        ensures keeps { OnErr result (held self.new ≡ held self.old) }
+        ensures keeps { OnErr result (KeepsTold (held self.old) (held self.new)) }
         ensures sound { IfOk result (λ n. faults self.new ≡ faults self.old) }
         ensures failed { OnErr result (Rose (faults self.old) (faults self.new)) }
         ensures count { faults self.old ≤ faults self.new }

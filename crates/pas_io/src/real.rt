@@ -2,7 +2,7 @@
 //!
 //! Proved: each error of the system is a fault and is counted once, and no other call is; no number is above the length of the buffer or of
 //! the piece. Trusted, and only tested by `tests/pipes_and_files.py`: what is said at the two types.
-ghost use Rattle.std.specs.Prelude.{◌≡◌, ◌≤◌, None};
+ghost use Rattle.std.specs.Prelude.{◌≡◌, ◌≤◌};
 ghost use Rattle.pas_io.specs.Told.{Rose};
 
 use crate::{Failed, Sink, Source};
@@ -20,14 +20,15 @@ pub struct RealSource<R> {
 
 impl<R: Read> RealSource<R> {
     pub fn new(reader: R) -> RealSource<R>
-        ensures { result.faults ≡ 0 }
+        ensures reader { result.reader ≡ reader }
+        ensures faults { result.faults ≡ 0 }
     {
         RealSource { reader, faults: 0 }
     }
 }
 
 impl<R: Read> Source for RealSource<R> {
-    ghost rest = { λ s. None };
+    ghost rest = { λ s. R.remaining s.reader };
 
     ghost faults = { λ s. s.faults };
 
@@ -54,14 +55,15 @@ pub struct RealSink<W> {
 
 impl<W: Write> RealSink<W> {
     pub fn new(writer: W) -> RealSink<W>
-        ensures { result.faults ≡ 0 }
+        ensures writer { result.writer ≡ writer }
+        ensures faults { result.faults ≡ 0 }
     {
         RealSink { writer, faults: 0 }
     }
 }
 
 impl<W: Write> Sink for RealSink<W> {
-    ghost held = { λ s. None };
+    ghost held = { λ s. W.contents s.writer };
 
     ghost faults = { λ s. s.faults };
 

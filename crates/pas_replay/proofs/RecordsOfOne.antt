@@ -89,6 +89,7 @@ replay_of_one {text} {plan} {whole} {records} is alone replay = record {
   reached = replay.reached;
   answers = replay.answers;
   one_order = λ k. ap (λ (l : Whole). part k l) replay.one_order;
+  phases = replay.phases;
   records_are = replay.records_are ∙ sym (arranged_same is alone replay.reached replay.answers);
   legal = replay.legal;
   nothing = replay.nothing;

@@ -31,6 +31,7 @@ use Rattle.pas_answers.specs.Names.{names_held}
 use Rattle.pas_answers.specs.Replays.{at_start, phases_of, region_of, threads_of, keepers_of, acts_of_plan, empty_cache, Shows}
 use Rattle.pas_answers.specs.Ways.{InOrder}
 use Rattle.pas_answers.proofs.Consequences.{replays}
+use Rattle.pas_answers.proofs.Reached.{in_phases}
 use Rattle.pas_large.specs.Doors.{Indexes}
 use Rattle.pas_answers.proofs.TrueRefusals.{all_refuse, all_take}
 use Rattle.pas_answers.specs.declared.names.Names.{Names}
@@ -191,7 +192,7 @@ shows {plan} {region} actors table {out} {state} limit valid threads fit so empt
     let answers = all.0.0 in
     record {
       whole = p.list;
-      replay = replays InOrder plan p p.list (records_in out) valid answers refl at.records_are legal (bare_at so empty lowered)
+      replay = replays InOrder plan p p.list (records_in out) valid answers refl (in_phases (region_of plan) (acts_of_plan plan) at_start p answers p.list ([], refl)) at.records_are legal (bare_at so empty lowered)
           (all_refuse (region_of plan) limit [] (acts_of_plan plan) at_start p valid fit legal answers)
           ((all.0.1, all_take (region_of plan) (acts_of_plan plan) at_start p valid legal answers), all.1) threads;
       profile = profile ∙ at.profile_is;

@@ -1,3 +1,4 @@
 mod Ruling
+pub mod GivingBack
 pub mod Opened
 pub mod Pops

@@ -13,9 +13,14 @@ use Rattle.pas_steps.specs.Views.{View}
 use Rattle.pas_shared.specs.declared.rule.Roster.{Roster}
 use Rattle.pas_shared.specs.declared.rule.Roster.TheVariants.{Unused}
 use Rattle.pas_shared.specs.declared.pass.SharedPass.{SharedPass}
-use Rattle.pas_shared.specs.Ruled.{Names, all_but_first, first_alone, AreNamed, AreAfterOneList, Holds}
+use Rattle.pas_shared.specs.Ruled.{Names, all_but_first, first_alone, AreNamed, AllKnow, AreAfterOneList, Holds}
 use Rattle.pas_shared.specs.Passes.{IsOfTable, IsFresh, AreFresh}
-use Rattle.pas_shared.proofs.Ruling.{splits}
+use Rattle.pas_shared.proofs.Ruling.{Apart, SawOf, splits}
+
+-- of the one seat
+know_one : (P : Roster → Type 0) (w : Roster) → P w → AllKnow P (w ∷ [])
+know_one P w so zero u e = subst P (some-injective w u e) so
+know_one P w so (suc i) u e = absurd (some-ne-none u (sym e))
 
 pub begins : (f : Profile) (words : List ℕ) → length words ≡ words_of f.pages f.heaps → ((w : Word) → IsWordOf f w → slice_index words (index_of f.pages w) ≡ opening w) → AreAfterOneList f words (Unused 0 ∷ [])
 begins f words sized values = record {
@@ -26,6 +31,8 @@ begins f words sized values = record {
   one_order = λ _. refl;
   seat_number = λ _. 0;
   named = named;
+  apart = know_one Apart (Unused 0) tt;
+  seen = know_one (SawOf []) (Unused 0) ([], refl);
 }
   where
     none : (u : Roster) (k : ℕ) (v : View) → Unused 0 ≡ u → Names u k v → [] ≡ v

@@ -6,7 +6,7 @@ use Rattle.pas_profile.specs.declared.profile.Profile.{Profile}
 use Rattle.pas_machine.specs.Machine.{Run}
 use Rattle.pas_profile.specs.declared.word.Word.TheVariants as Word
 use Rattle.pas_steps.specs.Views.{known_deed, View, epoch_of}
-use Rattle.pas_steps.specs.Lists.{Whole, Legal, part, visible, word_after}
+use Rattle.pas_steps.specs.Lists.{Triple, Whole, Legal, part, visible, word_after}
 use Rattle.pas_core.proofs.MachineRuns.{runs, agrees, in_one_place, lists_borne}
 use Rattle.pas_core.proofs.Offers.{parked_is_owed, empty_is_minded}
 use Rattle.pas_core.proofs.Rights.{right_in_one_place, free_without_deed, free_known, deeds_known, backed_known}
@@ -15,7 +15,7 @@ use Rattle.pas_core.proofs.Deeds.{known_is}
 use Rattle.pas_core.proofs.Lives.{life_is_known}
 use Rattle.pas_shared.specs.Kept.{IsGood, NoneIsEarly}
 use Rattle.std.proofs.lemmas.Bool.{cases_eq}
-use Rattle.std.proofs.lemmas.List.{set-get_or}
+use Rattle.std.proofs.lemmas.List.{set-get_or, append-nil}
 use Rattle.std.specs.Prelude.{slice_index, slice_set}
 use prog.Atomic.{either}
 use mathlib.Core.Option.{some, some-injective, some-ne-none}
@@ -34,10 +34,11 @@ use Rattle.pas_core.specs.Orders.{with_step}
 use Rattle.pas_core.specs.WordLists.{AreWordsAfter}
 use Rattle.pas_core.proofs.Nexts.{legal_next, agrees_next, with_step_own, with_step_others, one_order_next, words_next}
 use Rattle.pas_shared.specs.declared.exchange.Change.{Change}
+use Rattle.pas_shared.specs.declared.rule.Entry.{Entry}
 use Rattle.pas_shared.specs.declared.rule.Part.{Part}
 use Rattle.pas_shared.specs.declared.rule.Roster.{Roster}
-use Rattle.pas_shared.specs.declared.rule.Roster.TheVariants.{Unused, Listed}
-use Rattle.pas_shared.specs.Ruled.{HasPart, Names, alone, first_alone, all_but_first, joined, AreNamed, AreAfterOneList, Holds, changed, IsAskedOf, IsAdded, Makes, IsAddedIfKept, parts_in, NamesNobody}
+use Rattle.pas_shared.specs.declared.rule.Roster.TheVariants.{Unused, Listed, Settled}
+use Rattle.pas_shared.specs.Ruled.{HasPart, Names, alone, first_alone, all_but_first, joined, AreNamed, AreAfterOneList, Holds, changed, IsAskedOf, IsAdded, Makes, IsAddedIfKept, parts_in, entries_in, steps_of, seen_in, all_but_last, last_alone, SawNothing, IsEarlier, AreApart, AllKnow, HasAllOf, SeesAll}
 use Rattle.std.specs.List.{All}
 use Rattle.std.proofs.lemmas.List.Elements.{All-cons, All-weaker}
 use Rattle.pas_shared.specs.declared.pass.SharedPass.{SharedPass}
@@ -91,6 +92,31 @@ grows own seat_number rosters id k v m h its is i u b x e named = ⊎_elim
     there : i ≢ id → (seat_number b ≡ i) × (own b ≡ x) → (seat_number b ≡ i) × (with_step k m own b ≡ x)
     there ne p = (p.0, with_step_others b k m own (λ z. ne (sym p.0 ∙ (ap seat_number z ∙ its))) ∙ p.1)
 
+-- ---- what is so of all seats
+know_set : (P : Roster → Type 0) (rosters : List Roster) (id : ℕ) (w : Roster) → AllKnow P rosters → P w → AllKnow P (set rosters id w)
+know_set P rosters id w all new i u e = ⊎_elim (λ (t : (i ≡ id) × (w ≡ u)). subst P t.1 new) (λ (t : (i ≢ id) × (get_elem? rosters i ≡ some u)). all i u t.1) (at_set rosters id i w u e)
+
+abbrev pub Apart : Roster → Type 0
+Apart u = AreApart (parts_in u)
+
+abbrev pub SawOf : Whole → Roster → Type 0
+SawOf l u = IsEarlier (seen_in u) l
+
+pub nothing_seen : (l : Whole) → IsEarlier [] l
+nothing_seen l = (l, sym (append-nil l))
+
+seen_longer : (s l : Whole) (t : Triple) → IsEarlier s l → IsEarlier s (t ∷ l)
+seen_longer s l t seen = (t ∷ seen.0, ap (λ (m : Whole). t ∷ m) seen.1)
+
+-- the list as a seat sees it
+abbrev pub entries_for : Whole → List Entry
+entries_for [] = []
+entries_for (t ∷ l) = record { actor = t.actor; made = t.made } ∷ entries_for l
+
+entries_same : (l : Whole) → steps_of (entries_for l) ≡ l
+entries_same [] = refl
+entries_same (t ∷ l) = ap (λ (m : Whole). t ∷ m) (entries_same l)
+
 -- ---- a step
 pub adds : (f : Profile) (slots id k : ℕ) (v : View) (s : Step) (i : ℕ) (g : ℕ → ℕ) → IsAskedOf f k v s → i ≡ index_of f.pages (target s) → ((n : ℕ) → new_value (epoch_of v) s n ≡ g n)
     → Allows (Holds f) slots id (alone k v, []) i g (IsAdded f k v s)
@@ -114,6 +140,8 @@ adds f slots id k v s i g asked at same t h len there fits =
         one_order = one_order_next l h.own k (made s n) h.one_order;
         seat_number = h.seat_number;
         named = grows h.own h.seat_number t.views id k v (made s n) h.named here.0 here.1;
+        apart = know_set Apart t.views id (alone k (made s n ∷ v)) h.apart ((λ x none. none), tt);
+        seen = know_set (SawOf (triple k (made s n) ∷ l)) t.views id (alone k (made s n ∷ v)) (λ j u e. seen_longer (seen_in u) l (triple k (made s n)) (h.seen j u e)) (nothing_seen (triple k (made s n) ∷ l));
       },
       (refl, agrees_next f l k v s n asked.valid h.legal its_part asked.of_region read),
     )
@@ -196,8 +224,25 @@ at_end [] a b (suc j) e = absurd (some-ne-none b (sym e))
 at_end (x ∷ xs) a b zero e = inl e
 at_end (x ∷ xs) a b (suc j) e = ⊎_elim inl (λ (t : (j ≡ length xs) × (a ≡ b)). inr (ap suc t.0, t.1)) (at_end xs a b j e)
 
+know_end : (P : Roster → Type 0) (rosters : List Roster) (w : Roster) → AllKnow P rosters → P w → AllKnow P (rosters ++ w ∷ [])
+know_end P rosters w all new i u e = ⊎_elim (λ was. all i u was) (λ (t : (i ≡ length rosters) × (w ≡ u)). subst P t.1 new) (at_end rosters w u i e)
+
+-- .. of the one whose view is cut in two, and of the new one
+know_split : (P : Roster → Type 0) (rosters : List Roster) (id : ℕ) (left right : Roster) → AllKnow P rosters → P left → P right → AllKnow P (set rosters id left ++ right ∷ [])
+know_split P rosters id left right all one other = know_end P (set rosters id left) right (know_set P rosters id left all one) other
+
 pub splits : (f : Profile) (id n : ℕ) → Splits (Holds f) id (Unused n) (all_but_first (Unused n)) (first_alone (Unused n))
-splits f id n s h there = record { whole = h.whole; legal = h.legal; words_are = h.words_are; own = h.own; one_order = h.one_order; seat_number = seat_number; named = all_named }
+splits f id n s h there = record {
+  whole = h.whole;
+  legal = h.legal;
+  words_are = h.words_are;
+  own = h.own;
+  one_order = h.one_order;
+  seat_number = seat_number;
+  named = all_named;
+  apart = know_split Apart s.views id (Unused (n + 1)) (alone n []) h.apart tt ((λ x none. none), tt);
+  seen = know_split (SawOf h.whole) s.views id (Unused (n + 1)) (alone n []) h.seen (nothing_seen h.whole) (nothing_seen h.whole);
+}
   where
     k : ℕ
     k = length (set s.views id (Unused (n + 1)))
@@ -243,17 +288,68 @@ has_either (p ∷ ps) qs k v (inr h) = ⊎_elim (λ t. inl (inr t)) inr (has_eit
 names_either : (u w : Roster) (k : ℕ) (v : View) → Names (joined u w) k v → Names u k v ⊎ Names w k v
 names_either (Listed ps) (Listed qs) k v h = ⊎_elim inr inl (has_either qs ps k v h)
 names_either (Listed ps) (Unused n) k v h = inl h
+names_either (Listed ps) (Settled es qs) k v h = ⊎_elim inr inl (has_either qs ps k v h)
+names_either (Settled es ps) (Listed qs) k v h = ⊎_elim inr inl (has_either qs ps k v h)
+names_either (Settled es ps) (Unused n) k v h = inl h
+names_either (Settled es ps) (Settled ds qs) k v h = ⊎_elim inr inl (has_either qs ps k v h)
 names_either (Unused n) (Listed qs) k v h = inr h
 names_either (Unused n) (Unused m) k v h = inr h
+names_either (Unused n) (Settled es qs) k v h = inr h
+
+-- no actor is at both
+abbrev AtOne : Roster → Roster → Type 0
+AtOne u w = (k : ℕ) (v x : View) → Names u k v → Names w k x → ⊥
+
+apart_both : (qs ps : List Part) → AreApart qs → AreApart ps → ((k : ℕ) (v x : View) → HasPart ps k v → HasPart qs k x → ⊥) → AreApart (qs ++ ps)
+apart_both [] ps one other never = other
+apart_both (q ∷ qs) ps one other never = (
+  (λ v has. ⊎_elim (λ here. one.0 v here) (λ there. never q.actor v q.made there (inl (refl, refl))) (has_either qs ps q.actor v has)),
+  apart_both qs ps one.1 other (λ k v x there here. never k v x there (inr here)),
+)
+
+apart_joined : (u w : Roster) → Apart u → Apart w → AtOne u w → Apart (joined u w)
+apart_joined (Listed ps) (Listed qs) one other never = apart_both qs ps other one never
+apart_joined (Listed ps) (Unused n) one other never = one
+apart_joined (Listed ps) (Settled es qs) one other never = apart_both qs ps other one never
+apart_joined (Settled es ps) (Listed qs) one other never = apart_both qs ps other one never
+apart_joined (Settled es ps) (Unused n) one other never = one
+apart_joined (Settled es ps) (Settled ds qs) one other never = apart_both qs ps other one never
+apart_joined (Unused n) (Listed qs) one other never = other
+apart_joined (Unused n) (Unused m) one other never = other
+apart_joined (Unused n) (Settled es qs) one other never = other
+
+seen_joined : (u w : Roster) (l : Whole) → SawOf l u → SawOf l w → SawOf l (joined u w)
+seen_joined (Listed ps) (Listed qs) l one other = one
+seen_joined (Listed ps) (Unused n) l one other = one
+seen_joined (Listed ps) (Settled es qs) l one other = one
+seen_joined (Settled es ps) (Listed qs) l one other = one
+seen_joined (Settled es ps) (Unused n) l one other = one
+seen_joined (Settled es ps) (Settled ds qs) l one other = one
+seen_joined (Unused n) (Listed qs) l one other = other
+seen_joined (Unused n) (Unused m) l one other = other
+seen_joined (Unused n) (Settled es qs) l one other = other
 
 pub joins : (f : Profile) (id : ℕ) (u : Roster) (other : ℕ) (w : Roster) → Joins (Holds f) id u other w (joined u w) (Listed [])
-joins f id u other w s h here apart there = record { whole = h.whole; legal = h.legal; words_are = h.words_are; own = h.own; one_order = h.one_order; seat_number = seat_number; named = all_named }
+joins f id u other w s h here apart there = record {
+  whole = h.whole;
+  legal = h.legal;
+  words_are = h.words_are;
+  own = h.own;
+  one_order = h.one_order;
+  seat_number = seat_number;
+  named = all_named;
+  apart = know_set Apart (set s.views id (joined u w)) other (Listed []) (know_set Apart s.views id (joined u w) h.apart (apart_joined u w (h.apart id u here) (h.apart other w theirs) at_one)) tt;
+  seen = know_set (SawOf h.whole) (set s.views id (joined u w)) other (Listed []) (know_set (SawOf h.whole) s.views id (joined u w) h.seen (seen_joined u w h.whole (h.seen id u here) (h.seen other w theirs))) (nothing_seen h.whole);
+}
   where
     seat_number : ℕ → ℕ
     seat_number b = (if eqb (h.seat_number b) other then id else h.seat_number b)
 
     theirs : get_elem? s.views other ≡ some w
     theirs = ⊎_elim (λ (t : (other ≡ id) × (joined u w ≡ w)). absurd (apart t.0)) (λ (t : (other ≢ id) × (get_elem? s.views other ≡ some w)). t.1) (at_set s.views id other (joined u w) w there)
+
+    at_one : AtOne u w
+    at_one k v x mine its = apart (sym (h.named other w k x theirs its).0 ∙ (h.named id u k v here mine).0)
 
     moved : (b : ℕ) → h.seat_number b ≡ other → seat_number b ≡ id
     moved b e = ap (λ c. if c then id else h.seat_number b) (eq-eqb (h.seat_number b) other e)
@@ -284,10 +380,18 @@ has_right (p ∷ ps) qs k v h = inr (has_right ps qs k v h)
 kept : (u : Roster) (n : ℕ) (w : View) (k : ℕ) (v : View) → HasPart (parts_in u) k v → HasPart (parts_in (joined u (alone n w))) k v
 kept (Unused m) n w k v h = absurd h
 kept (Listed ps) n w k v h = has_right (record { actor = n; made = w } ∷ []) ps k v h
+kept (Settled es ps) n w k v h = has_right (record { actor = n; made = w } ∷ []) ps k v h
 
 taken_in : (u : Roster) (n : ℕ) (w : View) → HasPart (parts_in (joined u (alone n w))) n w
 taken_in (Unused m) n w = inl (refl, refl)
 taken_in (Listed ps) n w = inl (refl, refl)
+taken_in (Settled es ps) n w = inl (refl, refl)
+
+-- what it saw stays
+pub seen_still : (u : Roster) (n : ℕ) (w : View) → seen_in (joined u (alone n w)) ≡ seen_in u
+seen_still (Unused m) n w = refl
+seen_still (Listed ps) n w = refl
+seen_still (Settled es ps) n w = refl
 
 -- one more pass
 pub takes_in : (u : Roster) (me : Me (Unit {0}) Roster) (p : SharedPass) (rest : List SharedPass) → me ≡ (joined u p.place.seat.me.0, []) → All (IsNamed u) rest → All (IsNamed me.0) (p ∷ rest)
@@ -301,26 +405,168 @@ takes_in u me p rest is h =
 names_shown : (u : Roster) (k : ℕ) (v : View) → HasPart (parts_in u) k v → Names u k v
 names_shown (Unused n) k v h = absurd h
 names_shown (Listed ps) k v h = h
+names_shown (Settled es ps) k v h = h
 
-pub ends : (f key : Profile) (id : ℕ) (u : Roster) (words : List ℕ) (slots : List (Unit {0})) (passes : List SharedPass) → key ≡ f → Final (Seen (Holds key) id u) words slots → All (IsNamed u) passes → AreWordsOf f passes (λ w. slice_index words (index_of f.pages w))
-ends f key id u words slots passes known (s, h, words_are, homes, there) named = subst (λ (g : Profile). AreWordsOf g passes (λ w. slice_index words (index_of g.pages w))) known record {
-  whole = h.0.whole;
-  legal = h.0.legal;
-  parts = All-weaker (IsNamed u) (λ (p : SharedPass). part (seat_of p).actor h.0.whole ≡ view_of p) (λ p has. h.0.one_order p.place.actor ∙ (h.0.named id u p.place.actor (view_of p) h.1 (names_shown u _ _ has)).1) passes named;
-  words = λ w hw. ap (λ (ws : List ℕ). slice_index ws (index_of key.pages w)) (sym words_are) ∙ h.0.words_are.values w hw;
-}
+pub ends : (f key : Profile) (id : ℕ) (u : Roster) (words : List ℕ) (slots : List (Unit {0})) (passes : List SharedPass) → key ≡ f → Final (Seen (Holds key) id u) words slots → All (IsNamed u) passes
+    → (after : AreWordsOf f passes (λ w. slice_index words (index_of f.pages w))) × IsEarlier (seen_in u) after.whole
+ends f key id u words slots passes known (s, h, words_are, homes, there) named = subst (λ (g : Profile). (after : AreWordsOf g passes (λ w. slice_index words (index_of g.pages w))) × IsEarlier (seen_in u) after.whole) known (
+  record {
+    whole = h.0.whole;
+    legal = h.0.legal;
+    parts = All-weaker (IsNamed u) (λ (p : SharedPass). part (seat_of p).actor h.0.whole ≡ view_of p) (λ p has. h.0.one_order p.place.actor ∙ (h.0.named id u p.place.actor (view_of p) h.1 (names_shown u _ _ has)).1) passes named;
+    words = λ w hw. ap (λ (ws : List ℕ). slice_index ws (index_of key.pages w)) (sym words_are) ∙ h.0.words_are.values w hw;
+  },
+  h.0.seen id u h.1,
+)
 
 pub read_at : (xs : List ℕ) (i a d : ℕ) → get_elem? xs i ≡ some a → get_or xs i d ≡ a
 read_at [] i a d e = absurd (some-ne-none a (sym e))
 read_at (x ∷ xs) zero a d e = some-injective x a e
 read_at (x ∷ xs) (suc i) a d e = read_at xs i a d e
 
--- ---- a seat that comes and names nobody
-pub arrives : (f : Profile) (slots i : ℕ) → Enters (Holds f) slots i (λ n w. NamesNobody (w, []))
-arrives f slots i s h len fits = (Listed [], record { whole = h.whole; legal = h.legal; words_are = h.words_are; own = h.own; one_order = h.one_order; seat_number = h.seat_number; named = named }, refl)
+-- ---- a seat that comes, names nobody and saw nothing
+pub arrives : (f : Profile) (slots i : ℕ) → Enters (Holds f) slots i (λ n w. SawNothing (w, []))
+arrives f slots i s h len fits = (
+  Settled [] [],
+  record {
+    whole = h.whole;
+    legal = h.legal;
+    words_are = h.words_are;
+    own = h.own;
+    one_order = h.one_order;
+    seat_number = h.seat_number;
+    named = named;
+    apart = know_end Apart s.views (Settled [] []) h.apart tt;
+    seen = know_end (SawOf h.whole) s.views (Settled [] []) h.seen (nothing_seen h.whole);
+  },
+  refl,
+)
   where
-    nobody : (u : Roster) (i k : ℕ) (v : View) → Listed [] ≡ u → Names u k v → (h.seat_number k ≡ i) × (h.own k ≡ v)
+    nobody : (u : Roster) (i k : ℕ) (v : View) → Settled [] [] ≡ u → Names u k v → (h.seat_number k ≡ i) × (h.own k ≡ v)
     nobody u i k v e its = absurd (subst (λ (y : Roster). Names y k v) (sym e) its)
 
-    named : AreNamed h.own h.seat_number (s.views ++ Listed [] ∷ [])
-    named j u k v e its = ⊎_elim (λ was. h.named j u k v was its) (λ (t : (j ≡ length s.views) × (Listed [] ≡ u)). nobody u j k v t.1 its) (at_end s.views (Listed []) u j e)
+    named : AreNamed h.own h.seat_number (s.views ++ Settled [] [] ∷ [])
+    named j u k v e its = ⊎_elim (λ was. h.named j u k v was its) (λ (t : (j ≡ length s.views) × (Settled [] [] ≡ u)). nobody u j k v t.1 its) (at_end s.views (Settled [] []) u j e)
+
+-- ==== A ledger: it takes actors in, looks at all steps so far, and gives the actors their seats back.
+
+-- ---- all actors of a seat get another
+pub splits_all : (f : Profile) (id : ℕ) (u : Roster) → Splits (Holds f) id u (Listed []) u
+splits_all f id u s h there = record {
+  whole = h.whole;
+  legal = h.legal;
+  words_are = h.words_are;
+  own = h.own;
+  one_order = h.one_order;
+  seat_number = seat_number;
+  named = all_named;
+  apart = know_split Apart s.views id (Listed []) u h.apart tt (h.apart id u there);
+  seen = know_split (SawOf h.whole) s.views id (Listed []) u h.seen (nothing_seen h.whole) (h.seen id u there);
+}
+  where
+    k : ℕ
+    k = length (set s.views id (Listed []))
+
+    seat_number : ℕ → ℕ
+    seat_number b = (if eqb (h.seat_number b) id then k else h.seat_number b)
+
+    moved : (b : ℕ) → h.seat_number b ≡ id → seat_number b ≡ k
+    moved b e = ap (λ c. if c then k else h.seat_number b) (eq-eqb (h.seat_number b) id e)
+
+    as_was : (b i : ℕ) → i ≢ id → h.seat_number b ≡ i → seat_number b ≡ i
+    as_was b i ne e = ap (λ c. if c then k else h.seat_number b) (ne_eqb (h.seat_number b) id (λ z. ne (sym e ∙ z))) ∙ e
+
+    kept : (i : ℕ) (y : Roster) (b : ℕ) (x : View) → Names y b x → ((i ≡ id) × (Listed [] ≡ y)) ⊎ ((i ≢ id) × (get_elem? s.views i ≡ some y)) → (seat_number b ≡ i) × (h.own b ≡ x)
+    kept i y b x named (inl t) = absurd (subst (λ (z : Roster). Names z b x) (sym t.1) named)
+    kept i y b x named (inr t) = let old = h.named i y b x t.1 named in (as_was b i t.0 old.0, old.1)
+
+    new : (i b : ℕ) (x : View) → i ≡ k → Names u b x → (seat_number b ≡ i) × (h.own b ≡ x)
+    new i b x z named = let old = h.named id u b x there named in (moved b old.0 ∙ sym z, old.1)
+
+    all_named : AreNamed h.own seat_number (set s.views id (Listed []) ++ u ∷ [])
+    all_named i y b x e named = ⊎_elim
+        (λ was. kept i y b x named (at_set s.views id i (Listed []) y was))
+        (λ (t : (i ≡ k) × (u ≡ y)). new i b x t.0 (subst (λ (z : Roster). Names z b x) (sym t.1) named))
+        (at_end (set s.views id (Listed [])) u y i e)
+
+-- ---- the actor that was taken in last gets one
+pub splits_last : (f : Profile) (id : ℕ) (es : List Entry) (p : Part) (ps : List Part) → Splits (Holds f) id (Settled es (p ∷ ps)) (Settled es ps) (Listed (p ∷ []))
+splits_last f id es p ps s h there = record {
+  whole = h.whole;
+  legal = h.legal;
+  words_are = h.words_are;
+  own = h.own;
+  one_order = h.one_order;
+  seat_number = seat_number;
+  named = all_named;
+  apart = know_split Apart s.views id (Settled es ps) (Listed (p ∷ [])) h.apart (h.apart id (Settled es (p ∷ ps)) there).1 ((λ x none. none), tt);
+  seen = know_split (SawOf h.whole) s.views id (Settled es ps) (Listed (p ∷ [])) h.seen (h.seen id (Settled es (p ∷ ps)) there) (nothing_seen h.whole);
+}
+  where
+    k : ℕ
+    k = length (set s.views id (Settled es ps))
+
+    seat_number : ℕ → ℕ
+    seat_number b = (if eqb b p.actor then k else h.seat_number b)
+
+    as_was : (b i : ℕ) → b ≢ p.actor → h.seat_number b ≡ i → seat_number b ≡ i
+    as_was b i ne e = ap (λ c. if c then k else h.seat_number b) (ne_eqb b p.actor ne) ∙ e
+
+    mine_now : (b : ℕ) → p.actor ≡ b → seat_number b ≡ k
+    mine_now b e = ap (λ c. if c then k else h.seat_number b) (eq-eqb b p.actor (sym e))
+
+    own : (h.seat_number p.actor ≡ id) × (h.own p.actor ≡ p.made)
+    own = h.named id (Settled es (p ∷ ps)) p.actor p.made there (inl (refl, refl))
+
+    kept : (i : ℕ) (y : Roster) (b : ℕ) (x : View) → Names y b x → ((i ≡ id) × (Settled es ps ≡ y)) ⊎ ((i ≢ id) × (get_elem? s.views i ≡ some y)) → (seat_number b ≡ i) × (h.own b ≡ x)
+    kept i y b x named (inl t) =
+        let has : HasPart ps b x = subst (λ (z : Roster). Names z b x) (sym t.1) named in
+        let old = h.named id (Settled es (p ∷ ps)) b x there (inr has) in
+        (as_was b i (λ e. (h.apart id (Settled es (p ∷ ps)) there).0 x (subst (λ (c : ℕ). HasPart ps c x) e has)) (old.0 ∙ sym t.0), old.1)
+    kept i y b x named (inr t) =
+        let old = h.named i y b x t.1 named in
+        (as_was b i (λ e. t.0 (sym old.0 ∙ (ap h.seat_number e ∙ own.0))) old.0, old.1)
+
+    new : (i b : ℕ) (x : View) → i ≡ k → Names (Listed (p ∷ [])) b x → (seat_number b ≡ i) × (h.own b ≡ x)
+    new i b x z (inl q) = (mine_now b q.0 ∙ sym z, subst (λ (c : ℕ). h.own c ≡ x) q.0 (own.1 ∙ q.1))
+    new i b x z (inr q) = absurd q
+
+    all_named : AreNamed h.own seat_number (set s.views id (Settled es ps) ++ Listed (p ∷ []) ∷ [])
+    all_named i y b x e named = ⊎_elim
+        (λ was. kept i y b x named (at_set s.views id i (Settled es ps) y was))
+        (λ (t : (i ≡ k) × (Listed (p ∷ []) ≡ y)). new i b x t.0 (subst (λ (z : Roster). Names z b x) (sym t.1) named))
+        (at_end (set s.views id (Settled es ps)) (Listed (p ∷ [])) y i e)
+
+-- ---- a look
+pub looks : (f : Profile) (slots id i : ℕ) (es : List Entry) (ps : List Part) → Allows (Holds f) slots id (Settled es ps, []) i (λ n. n) (λ n me. SeesAll (Settled es ps, []) me)
+looks f slots id i es ps s h len there fits = (
+  now,
+  keeps,
+  tt,
+  record {
+    whole = h.whole;
+    legal = h.legal;
+    words_are = subst (λ (ws : List ℕ). AreWordsAfter f ws h.whole) (sym (set-get_or s.words i 0)) h.words_are;
+    own = h.own;
+    one_order = h.one_order;
+    seat_number = h.seat_number;
+    named = named;
+    apart = know_set Apart s.views id now h.apart (h.apart id (Settled es ps) there);
+    seen = know_set (SawOf h.whole) s.views id now h.seen ([], sym (entries_same h.whole));
+  },
+  record {
+    entries = entries_for h.whole;
+    after_is = refl;
+    earlier = subst (λ (l : Whole). IsEarlier (steps_of es) l) (sym (entries_same h.whole)) (h.seen id (Settled es ps) there);
+    all = λ k v has. ap (λ (l : Whole). part k l) (entries_same h.whole) ∙ (h.one_order k ∙ (h.named id (Settled es ps) k v there has).1);
+  },
+)
+  where
+    now : Roster
+    now = Settled (entries_for h.whole) ps
+
+    named : AreNamed h.own h.seat_number (set s.views id now)
+    named j u k v e its = ⊎_elim
+        (λ (t : (j ≡ id) × (now ≡ u)). let old = h.named id (Settled es ps) k v there (subst (λ (y : Roster). Names y k v) (sym t.1) its) in (old.0 ∙ sym t.0, old.1))
+        (λ (t : (j ≢ id) × (get_elem? s.views j ≡ some u)). h.named j u k v t.1 its)
+        (at_set s.views id j now u e)

@@ -1,3 +1,4 @@
 pub mod Ruled
 pub mod Passes
 pub mod Kept
+pub mod Ledgers

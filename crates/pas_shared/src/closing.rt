@@ -1,24 +1,17 @@
 //! The words of a region whose actors have all risen.
 ghost use Rattle.std.specs.Prelude.{◌≡◌, ◌<◌, [], length, All};
 ghost use Rattle.std.specs.Slots.{slots_items, slots_len, IsFull};
-ghost use Rattle.pas_shared.specs.Ruled.{joined};
-ghost use Rattle.pas_shared.specs.declared.rule.Roster.TheVariants.{Listed};
+ghost use Rattle.pas_shared.specs.Ruled.{joined, seen_in};
 ghost use Rattle.pas_shared.specs.Passes.{IsPassOf, IsNamed, EndsWith};
+ghost use Rattle.pas_shared.specs.Ledgers.{IsLedgerOf, so_far, EndsAfter};
 
+use crate::ledger::Ledger;
 use crate::pass::{ActorSeat, SharedPass};
 use crate::region::SharedRegion;
-use crate::rule::{Arrives, JoinsBoth, TableSeat, TableWords};
+use crate::rule::{JoinsBoth, TableSeat, TableWords};
 use atomic_table::Closed;
 use pas_steps::State;
 use std::alloc::Global;
-
-/// A new seat, which names no actor.
-fn nobody(words: &TableWords) -> TableSeat
-    requires { 0 < words.now.table_id.words }
-    ensures { (result.table_id ≡ words.now.table_id) × (result.me ≡ (Listed [], [])) }
-{
-    words.load_new_seat::<Arrives>(0).1
-}
 
 /// The seat takes in the actor of the pass.
 fn join(words: &TableWords, seat: &mut TableSeat, pass: SharedPass)
@@ -42,6 +35,7 @@ fn join_all(words: &TableWords, seat: &mut TableSeat, mut passes: Vec<SharedPass
     requires { (seat.old.table_id ≡ words.now.table_id) × (seat.old.me.1 ≡ []) × (0 < words.now.table_id.words) × All (λ p. p.place.seat.table_id ≡ words.now.table_id) passes.items }
     ensures seat { seat.new.table_id ≡ words.now.table_id }
     ensures passes { All (IsNamed seat.new.me.0) passes.items }
+    ensures seen { seen_in seat.new.me.0 ≡ seen_in seat.old.me.0 }
 {
     while let Some(pass) = passes.pop() {
         join(words, seat, pass);
@@ -65,13 +59,23 @@ pub fn close(region: SharedRegion, passes: Vec<SharedPass>) -> State
     requires { All (IsPassOf region) passes.items }
     ensures { EndsWith region.profile passes.items result }
 {
+    let ledger = Ledger::open(&region);
+    close_settled(region, ledger, passes)
+}
+
+/// The same, and that list begins with all steps that stand in the ledger.
+pub fn close_settled(region: SharedRegion, ledger: Ledger, passes: Vec<SharedPass>) -> State
+    requires ledger { IsLedgerOf region ledger }
+    requires passes { All (IsPassOf region) passes.items }
+    ensures { EndsAfter region.profile (so_far ledger) passes.items result }
+{
     let SharedRegion {
         table,
         profile,
         layout: _,
         closed_words: mut words,
     } = region;
-    let mut seat = nobody(&table.shared);
+    let Ledger { mut seat } = ledger;
     join_all(&table.shared, &mut seat, passes);
     let closed = table.close_with(seat);
     copy(&closed, &mut words);

@@ -8,12 +8,14 @@ pub mod closing;
 pub mod desk;
 mod exchange;
 pub mod laws;
+pub mod ledger;
 pub mod opening;
 pub mod pass;
 pub mod region;
 pub mod rule;
 
-pub use closing::close;
+pub use closing::{close, close_settled};
 pub use desk::SharedDesk;
+pub use ledger::{Ledger, Rest};
 pub use pass::SharedPass;
 pub use region::{Opening, SharedRegion};

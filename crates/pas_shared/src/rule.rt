@@ -12,10 +12,25 @@ pub struct Part {
     pub made: LinkedList<Made>,
 }
 
-/// The actors that a seat names: all from one on, none of which made a step, or those of a list. No value of it is made.
+/// A step in the list of all steps. No value of it is made.
+pub struct Entry {
+    pub actor: u64,
+    pub made: Made,
+}
+
+/// The actors that a seat names: all from one on, none of which made a step, or those of a list. A ledger's seat saw the first steps of the list of all, too, the newest
+/// of them first. No value of it is made.
 pub enum Roster {
-    Unused { from: u64 },
-    Listed { parts: LinkedList<Part> },
+    Unused {
+        from: u64,
+    },
+    Listed {
+        parts: LinkedList<Part>,
+    },
+    Settled {
+        seen: LinkedList<Entry>,
+        parts: LinkedList<Part>,
+    },
 }
 
 /// The words are those after one legal list, and what the seats know is the own list of each actor.
@@ -109,11 +124,43 @@ impl Join<Roster> for JoinsBoth {
     ghost spent = { Listed [] };
 }
 
-/// A new seat, which names nobody.
+/// A new seat, which names nobody and saw nothing.
 pub(crate) struct Arrives;
 
 impl Play<(), Roster> for Arrives {
-    ghost use Rattle.pas_shared.specs.Ruled.{NamesNobody};
+    ghost use Rattle.pas_shared.specs.Ruled.{SawNothing};
 
-    ghost then = { λ _ _ _ me. NamesNobody me };
+    ghost then = { λ _ _ _ me. SawNothing me };
+}
+
+/// All actors of a seat get a seat of their own, and the first one names nobody.
+pub(crate) struct SplitsAll;
+
+impl Split<Roster> for SplitsAll {
+    ghost use Rattle.std.specs.Prelude.{[]};
+    ghost use Rattle.pas_shared.specs.declared.rule.Roster.TheVariants.{Listed};
+
+    ghost left = { λ _. Listed [] };
+
+    ghost right = { λ u. u };
+}
+
+/// The actor that a ledger took in last gets a seat of its own.
+pub(crate) struct SplitsLast;
+
+impl Split<Roster> for SplitsLast {
+    ghost use Rattle.pas_shared.specs.Ruled.{all_but_last, last_alone};
+
+    ghost left = { all_but_last };
+
+    ghost right = { last_alone };
+}
+
+/// A look of a ledger at all steps so far.
+pub(crate) struct Looks;
+
+impl Play<(), Roster> for Looks {
+    ghost use Rattle.pas_shared.specs.Ruled.{SeesAll};
+
+    ghost then = { λ _ before _ after. SeesAll before after };
 }

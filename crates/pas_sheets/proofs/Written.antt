@@ -1,5 +1,5 @@
 -- Texts that are written one after the other.
-use Rattle.std.proofs.Common.{◌≡◌, ℕ, ◌+◌, ◌<◌, List, [], ◌++◌, Option, None, Some, refl, ap, sym, ◌∙◌, append_assoc, append-nil, length, get_or, drop}
+use Rattle.std.proofs.Common.{◌≡◌, ℕ, ◌+◌, ◌<◌, List, [], ◌++◌, Option, None, Some, ap, sym, ◌∙◌, append_assoc, append-nil, length, get_or, drop}
 use Rattle.std.proofs.lemmas.List.{at_drop_more}
 use Rattle.pas_sheets.specs.declared.sheets.Sheet.{Sheet}
 use Rattle.pas_io.specs.Told.{Writes, WritesFront}
@@ -8,7 +8,7 @@ use Rattle.pas_sheets.specs.Texts.{texts_of}
 
 -- nothing was written
 pub writes_none : (held : Option (List ℕ)) → Writes held held []
-writes_none None = refl
+writes_none None = tt
 writes_none (Some held) = ap Some (sym (append-nil held))
 
 -- the front of a piece, after all that came before it

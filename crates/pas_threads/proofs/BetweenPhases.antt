@@ -3,7 +3,7 @@ use Rattle.std.proofs.Common.{◌≡◌, ◌≢◌, ℕ, ◌+◌, inl, inr, List
 use Rattle.std.proofs.lemmas.List.{append-nil, append_cancel_left, drop_more}
 use Rattle.pas_profile.specs.declared.profile.Profile.{Profile}
 use Rattle.pas_steps.specs.Clear.{HasNothing}
-use Rattle.pas_steps.specs.Lists.{part}
+use Rattle.pas_steps.specs.Lists.{Whole, part}
 use Rattle.pas_steps.specs.Views.{View}
 use Rattle.pas_trace.specs.Acts.{Ends, Lowers, numbers_from, Act, phase_acts, acts_of}
 use Rattle.pas_trace.specs.EveryPlan.{all_ops, own_records}
@@ -14,6 +14,7 @@ use Rattle.pas_report.specs.Rooms.{records_in, room_of, Records}
 use Rattle.pas_report.specs.declared.record.Record.{Record}
 use Rattle.pas_cache.specs.Caches.{Cached, cached}
 use Rattle.pas_cache.specs.declared.cache.ThreadCache.{ThreadCache}
+use Rattle.pas_shared.specs.Ruled.{IsEarlier}
 use Rattle.pas_shared.specs.declared.region.SharedRegion.{SharedRegion}
 use Rattle.pas_answers.specs.Answers.{Books, Caches, Named, Progress, with_records}
 use Rattle.pas_answers.specs.Calls.{Tells, AreKnown, OnlyAsked, owed_events}
@@ -30,13 +31,16 @@ use Rattle.pas_acts.specs.declared.names.NameBook.{NameBook}
 use Rattle.pas_acts.proofs.Alone.{rests_still}
 use Rattle.pas_threads.specs.Hands.{standing_of_pass}
 use Rattle.pas_threads.specs.Pairs.{no_more, KeeperRests, said_by_keeper, owed_kept, keeper_at, owed_by_keepers, AreGuarded, IsLow, MayLower, LoweredAll}
-use Rattle.pas_threads.specs.Sessions.{planned, Session, evenly, WorkerHas, ScavengerRests, TeamAt, HasPlaces, HasRoom, AreMarked, AreWritten, AreResting, CloseDone, owed_by, PhaseAt, PhaseDone, HasReplayed}
+use Rattle.pas_threads.specs.Sessions.{planned, Session, evenly, WorkerHas, ScavengerRests, TeamAt, HasPlaces, HasRoom, AreMarked, AreWritten, AreResting, CloseDone, owed_by, PhaseAt, PhaseDone, HasReplayed, IsOfActors}
+use Rattle.pas_answers.specs.Phases.{AreInPhases}
+use Rattle.pas_threads.specs.Settling.{TeamStandsIn, IsSameTeam}
 use Rattle.pas_threads.specs.Turns.{StoppedAll, said_own, said_by_all, said_kept, said_by_keepers, HasSaid, IsGathered, IsKeptGathered}
 use Rattle.pas_threads.specs.declared.keeper.Keeper.{Keeper}
 use Rattle.pas_threads.specs.declared.phases.Team.{Team}
 use Rattle.pas_threads.specs.declared.scavenger.Scavenger.{Scavenger}
 use Rattle.pas_threads.specs.declared.workers.Worker.{Worker}
 use Rattle.pas_threads.proofs.Dealt.{some_worker}
+use Rattle.pas_threads.proofs.InPhases.{in_both, unmarked, phase_unmarked, close_unmarked, earlier_both, all_stand, stand_first, same_team}
 use Rattle.pas_threads.proofs.Keepers.{keeper_is, owed_still, waits_gathered, of_gathered, silent_gathered, low_gathered}
 use Rattle.pas_threads.proofs.KeptPhases.{alike_same, alike_pushed, alike_said, alike_both, guarded_alike, kept_still, said_then}
 use Rattle.pas_threads.proofs.PhaseSums.{owed_less, kept_less, own_all, all_paid, said_in_order, kept_in_order, kept_few, by_all}
@@ -410,49 +414,56 @@ module _ {region : SharedRegion} {s : Session} {team : Team} {p : Progress} (sto
               low = then.low;
             }
 
--- what follows these acts from p on is a replay of all
-abbrev pub Leads : Session → List (List Op) → List Act → Progress → Type 0
-Leads s all acts p = (q : Progress) → Reaches s.profile acts p q → Reaches s.profile (acts_of s.threads s.keepers all) at_start q
+-- What follows these acts from p on is a replay of all. A list of these actors that begins with these steps is in phases, if it is in what follows.
+pub record Leads (s : Session) (all : List (List Op)) (acts : List Act) (p : Progress) (so_far : Whole) : Type 0 where
+  pub reaches : (q : Progress) → Reaches s.profile acts p q → Reaches s.profile (acts_of s.threads s.keepers all) at_start q
+  pub in_phases : (whole : Whole) → IsEarlier so_far whole → IsOfActors s whole → (q : Progress) (is : Reaches s.profile acts p q) → AreInPhases s.profile acts p q is whole → AreInPhases s.profile (acts_of s.threads s.keepers all) at_start q (reaches q is) whole
+
+-- the list has of each of the actors the same part as the pieces so far
+abbrev pub StandSo : Session → Whole → Progress → Type 0
+StandSo s so_far p = (k : ℕ) → k ≤ s.threads + s.keepers → part k so_far ≡ part k p.list
 
 -- After n phases of all: these are left. There is room for a mark before each of them, and for that of the close. Before the first phase there is no
--- record.
-pub record AfterPhases (region : SharedRegion) (s : Session) (all : List (List Op)) (n : ℕ) (left : List (List Op)) (team : Team) (out : Records) : Type 0 where
+-- record. The steps so far stand in the ledger.
+pub record AfterPhases (region : SharedRegion) (s : Session) (all : List (List Op)) (n : ℕ) (left : List (List Op)) (team : Team) (so_far : Whole) (out : Records) : Type 0 where
   pub p : Progress
   pub team_at : TeamAt region s left team p
   pub written : AreWritten s p.records (records_in out)
   pub room : HasRoom s left (length left + 1) team.threads.items out p
   pub none : n ≡ 0 → (p.records ≡ []) × (records_in out ≡ [])
-  pub leads : Leads s all (acts_left s.threads s.keepers n left) p
+  pub leads : Leads s all (acts_left s.threads s.keepers n left) p so_far
+  pub stand : StandSo s so_far p
 
-pub no_phase : {region : SharedRegion} {s : Session} {all : List (List Op)} {team : Team} {out : Records} {marks : ℕ} → records_in out ≡ [] → marks ≡ length all + 1 → TeamAt region s all team at_start → HasRoom s all marks team.threads.items out at_start
-    → AfterPhases region s all 0 all team out
-no_phase {region} {s} {all} {team} {out} {marks} empty is at room = record {
+pub no_phase : {region : SharedRegion} {s : Session} {all : List (List Op)} {team : Team} {so_far : Whole} {out : Records} {marks : ℕ} → so_far ≡ [] → records_in out ≡ [] → marks ≡ length all + 1 → TeamAt region s all team at_start → HasRoom s all marks team.threads.items out at_start
+    → AfterPhases region s all 0 all team so_far out
+no_phase {region} {s} {all} {team} {so_far} {out} {marks} nothing empty is at room = record {
   p = at_start;
   team_at = at;
   written = none_written s refl empty;
   room = subst (λ (m : ℕ). HasRoom s all m team.threads.items out at_start) is room;
   none = λ zero. (refl, empty);
-  leads = λ q reaches. reaches;
+  leads = record { reaches = λ q reaches. reaches; in_phases = λ whole first of q is so. so };
+  stand = λ k le. ap (λ (l : Whole). part k l) nothing;
 }
 
 -- what is left begins with the next phase, or is nothing
-pub as_next : {region : SharedRegion} {s : Session} {all : List (List Op)} {team : Team} {out : Records} (phases : List Phase) (i : ℕ) (item : Phase) (ops : List Op) → i < length phases → item ≡ slice_index_or phases i item → ops ≡ ops_of item
-    → AfterPhases region s all i (map ops_of (drop i phases)) team out → AfterPhases region s all i (ops ∷ map ops_of (drop (i + 1) phases)) team out
-as_next {region} {s} {all} {team} {out} phases i item ops lt is same so =
+pub as_next : {region : SharedRegion} {s : Session} {all : List (List Op)} {team : Team} {so_far : Whole} {out : Records} (phases : List Phase) (i : ℕ) (item : Phase) (ops : List Op) → i < length phases → item ≡ slice_index_or phases i item → ops ≡ ops_of item
+    → AfterPhases region s all i (map ops_of (drop i phases)) team so_far out → AfterPhases region s all i (ops ∷ map ops_of (drop (i + 1) phases)) team so_far out
+as_next {region} {s} {all} {team} {so_far} {out} phases i item ops lt is same so =
     let first : ops_of (slice_index_or phases i item) ≡ ops = ap ops_of (sym is) ∙ sym same in
-    subst (λ (left : List (List Op)). AfterPhases region s all i left team out) (ap (λ (ps : List Phase). map ops_of ps) (drop_more phases i item lt) ∙ ap (λ (os : List Op). os ∷ map ops_of (drop (i + 1) phases)) first) so
+    subst (λ (left : List (List Op)). AfterPhases region s all i left team so_far out) (ap (λ (ps : List Phase). map ops_of ps) (drop_more phases i item lt) ∙ ap (λ (os : List Op). os ∷ map ops_of (drop (i + 1) phases)) first) so
 
-pub as_last : {region : SharedRegion} {s : Session} {all : List (List Op)} {team : Team} {out : Records} (phases : List Phase) (i : ℕ) → length phases ≤ i → AfterPhases region s all i (map ops_of (drop i phases)) team out → AfterPhases region s all i [] team out
-as_last {region} {s} {all} {team} {out} phases i le so = subst (λ (left : List (List Op)). AfterPhases region s all i left team out) (ap (λ (ps : List Phase). map ops_of ps) (drop_of_length-le phases le)) so
+pub as_last : {region : SharedRegion} {s : Session} {all : List (List Op)} {team : Team} {so_far : Whole} {out : Records} (phases : List Phase) (i : ℕ) → length phases ≤ i → AfterPhases region s all i (map ops_of (drop i phases)) team so_far out → AfterPhases region s all i [] team so_far out
+as_last {region} {s} {all} {team} {so_far} {out} phases i le so = subst (λ (left : List (List Op)). AfterPhases region s all i left team so_far out) (ap (λ (ps : List Phase). map ops_of ps) (drop_of_length-le phases le)) so
 
 -- ---- a phase
 -- its mark was written, where it has one
-pub record BeforePhase (region : SharedRegion) (s : Session) (all : List (List Op)) (n : ℕ) (ops : List Op) (rest : List (List Op)) (team : Team) (out : Records) : Type 0 where
+pub record BeforePhase (region : SharedRegion) (s : Session) (all : List (List Op)) (n : ℕ) (ops : List Op) (rest : List (List Op)) (team : Team) (so_far : Whole) (out : Records) : Type 0 where
   pub p : Progress
   pub at : PhaseAt region s ops rest (length rest + 1) team out p
-  pub leads : Leads s all (phase_acts s.threads ops ++ acts_left s.threads s.keepers (n + 1) rest) p
+  pub leads : Leads s all (phase_acts s.threads ops ++ acts_left s.threads s.keepers (n + 1) rest) p so_far
 
-module _ {region : SharedRegion} {s : Session} {all : List (List Op)} {n : ℕ} {ops : List Op} {rest : List (List Op)} {team : Team} {out : Records} (so : AfterPhases region s all n (ops ∷ rest) team out) where
+module _ {region : SharedRegion} {s : Session} {all : List (List Op)} {n : ℕ} {ops : List Op} {rest : List (List Op)} {team : Team} {so_far : Whole} {out : Records} (so : AfterPhases region s all n (ops ∷ rest) team so_far out) where
   one_more : (out' : Records) (q : Progress) → HasRoom s (ops ∷ rest) (length (ops ∷ rest) + 1) team.threads.items out' q → HasRoom s (ops ∷ rest) (length rest + 1 + 1) team.threads.items out' q
   one_more out' q room = subst (λ (m : ℕ). HasRoom s (ops ∷ rest) m team.threads.items out' q) (let e : length (ops ∷ rest) + 1 ≡ length rest + 1 + 1 = omega arith in e) room
 
@@ -460,15 +471,17 @@ module _ {region : SharedRegion} {s : Session} {all : List (List Op)} {n : ℕ} 
   pub spare_for_mark : length (records_in out) < room_of out
   spare_for_mark = let room = so.room in omega (arith, room)
 
-  pub first_begins : n ≡ 0 → BeforePhase region s all n ops rest team out
+  pub first_begins : n ≡ 0 → BeforePhase region s all n ops rest team so_far out
   first_begins is = record {
     p = so.p;
     at = record { team_at = so.team_at; marked = are_none s (so.none is).0 (so.none is).1; room = room_without_mark s (ops ∷ rest) (length rest + 1) team.threads.items out so.p (one_more out so.p so.room) };
-    leads = subst (λ (acts : List Act). Leads s all acts so.p) (first_phase s.threads s.keepers n ops rest is) so.leads;
+    leads = subst (λ (acts : List Act). Leads s all acts so.p so_far) (first_phase s.threads s.keepers n ops rest is) so.leads;
   }
 
-  pub other_begins : {out' : Records} → 1 ≤ n → records_in out' ≡ records_in out ++ Record.Phase (n + 1) ∷ [] → room_of out' ≡ room_of out → BeforePhase region s all n ops rest team out'
+  pub other_begins : {out' : Records} → 1 ≤ n → records_in out' ≡ records_in out ++ Record.Phase (n + 1) ∷ [] → room_of out' ≡ room_of out → BeforePhase region s all n ops rest team so_far out'
   other_begins {out'} some pushed size =
+      let after = with_records so.p (Record.Phase (n + 1) ∷ []) in
+      let all_led = subst (λ (acts : List Act). Leads s all acts so.p so_far) (other_phase s.threads s.keepers n ops rest some) so.leads in
       record {
         p = with_records so.p (Record.Phase (n + 1) ∷ []);
         at = record {
@@ -476,46 +489,61 @@ module _ {region : SharedRegion} {s : Session} {all : List (List Op)} {n : ℕ} 
           marked = as_marked s (so.p.records ++ Record.Phase (n + 1) ∷ []) pushed (phase_marked (n + 1) so.written);
           room = room_after_mark s (ops ∷ rest) (length rest + 1) team.threads.items out out' so.p (Record.Phase (n + 1)) pushed size (one_more out so.p so.room);
         };
-        leads = λ q reaches. (subst (λ (acts : List Act). Leads s all acts so.p) (other_phase s.threads s.keepers n ops rest some) so.leads) q (with_records so.p (Record.Phase (n + 1) ∷ []), refl, reaches);
+        leads = record {
+          reaches = λ q reaches. all_led.reaches q (after, refl, reaches);
+          in_phases = λ whole first of q is then. all_led.in_phases whole first of q (after, refl, is) (stand_first so.team_at so_far whole so.stand first of, then);
+        };
       }
 
-pub phase_ends : {region : SharedRegion} {s : Session} {all : List (List Op)} {n : ℕ} {ops : List Op} {rest : List (List Op)} {team team' : Team} {out out' : Records} (so : BeforePhase region s all n ops rest team out)
-    → PhaseDone region s ops rest (length rest + 1) team' out out' so.p → AfterPhases region s all (n + 1) rest team' out'
-phase_ends {region} {s} {all} {n} {ops} {rest} {team} {team'} {out} {out'} so did = record {
+pub phase_ends : {region : SharedRegion} {s : Session} {all : List (List Op)} {n : ℕ} {ops : List Op} {rest : List (List Op)} {team team' team'' : Team} {so_far so_far' : Whole} {out out' : Records} (so : BeforePhase region s all n ops rest team so_far out)
+    → PhaseDone region s ops rest (length rest + 1) team' out out' so.p → IsSameTeam team' team'' → IsEarlier so_far so_far' → TeamStandsIn so_far' team' → AfterPhases region s all (n + 1) rest team'' so_far' out'
+phase_ends {region} {s} {all} {n} {ops} {rest} {team} {team'} {team''} {so_far} {so_far'} {out} {out'} so did same earlier stands = record {
   p = did.reached;
-  team_at = did.team_at;
+  team_at = same_team same did.team_at;
   written = did.written;
-  room = did.room;
+  room = subst (λ (ws : List Worker). HasRoom s rest (length rest + 1) ws out' did.reached) (sym same.threads) did.room;
   none = λ zero. absurd (omega (arith, zero));
-  leads = λ q reaches. so.leads q (reach_both s.profile (phase_acts s.threads ops) (acts_left s.threads s.keepers (n + 1) rest) so.p did.reached q did.reaches reaches);
+  leads = record {
+    reaches = λ q reaches. so.leads.reaches q (reach_both s.profile (phase_acts s.threads ops) (acts_left s.threads s.keepers (n + 1) rest) so.p did.reached q did.reaches reaches);
+    in_phases = λ whole first of q is then.
+        so.leads.in_phases whole (earlier_both earlier first) of q (reach_both s.profile (phase_acts s.threads ops) (acts_left s.threads s.keepers (n + 1) rest) so.p did.reached q did.reaches is)
+        (in_both s.profile (phase_acts s.threads ops) (acts_left s.threads s.keepers (n + 1) rest) so.p did.reached q did.reaches is whole
+        (unmarked s.profile (phase_acts s.threads ops) so.p did.reached did.reaches whole (phase_unmarked s.threads ops)) then);
+  };
+  stand = all_stand did.team_at so_far' stands;
 }
 
 -- ---- the close
 -- its mark was written
-pub record BeforeClose (region : SharedRegion) (s : Session) (all : List (List Op)) (team : Team) (out : Records) : Type 0 where
+pub record BeforeClose (region : SharedRegion) (s : Session) (all : List (List Op)) (team : Team) (so_far : Whole) (out : Records) : Type 0 where
   pub p : Progress
   pub team_at : TeamAt region s [] team p
   pub marked : AreMarked s p.records (records_in out)
   pub room : HasRoom s [] 0 team.threads.items out p
-  pub leads : Leads s all (map Ends (numbers_from 1 s.threads) ++ map Lowers (numbers_from (s.threads + 1) s.keepers)) p
+  pub leads : Leads s all (map Ends (numbers_from 1 s.threads) ++ map Lowers (numbers_from (s.threads + 1) s.keepers)) p so_far
 
-module _ {region : SharedRegion} {s : Session} {all : List (List Op)} {n : ℕ} {team : Team} {out : Records} (so : AfterPhases region s all n [] team out) where
+module _ {region : SharedRegion} {s : Session} {all : List (List Op)} {n : ℕ} {team : Team} {so_far : Whole} {out : Records} (so : AfterPhases region s all n [] team so_far out) where
   pub spare_for_close : length (records_in out) < room_of out
   spare_for_close = let room = so.room in omega (arith, room)
 
-  pub close_begins : {out' : Records} → records_in out' ≡ records_in out ++ Record.Close ∷ [] → room_of out' ≡ room_of out → BeforeClose region s all team out'
-  close_begins {out'} pushed size = record {
+  pub close_begins : {out' : Records} → records_in out' ≡ records_in out ++ Record.Close ∷ [] → room_of out' ≡ room_of out → BeforeClose region s all team so_far out'
+  close_begins {out'} pushed size = let after = with_records so.p (Record.Close ∷ []) in let all_led = subst (λ (acts : List Act). Leads s all acts so.p so_far) (close_left s.threads s.keepers n) so.leads in record {
     p = with_records so.p (Record.Close ∷ []);
     team_at = team_at_records (Record.Close ∷ []) so.team_at;
     marked = as_marked s (so.p.records ++ Record.Close ∷ []) pushed (close_marked so.written);
     room = room_after_mark s [] 0 team.threads.items out out' so.p Record.Close pushed size so.room;
-    leads = λ q reaches. (subst (λ (acts : List Act). Leads s all acts so.p) (close_left s.threads s.keepers n) so.leads) q (with_records so.p (Record.Close ∷ []), refl, reaches);
+    leads = record {
+      reaches = λ q reaches. all_led.reaches q (after, refl, reaches);
+      in_phases = λ whole first of q is then. all_led.in_phases whole first of q (after, refl, is) (stand_first so.team_at so_far whole so.stand first of, then);
+    };
   }
 
-pub close_ends : {region : SharedRegion} {s : Session} {all : List (List Op)} {team team' : Team} {out : Records} {written : List Record} (so : BeforeClose region s all team out) → CloseDone region s team' written so.p → HasReplayed region s all team' written
-close_ends {region} {s} {all} {team} {team'} {out} {written} so did = record {
+pub close_ends : {region : SharedRegion} {s : Session} {all : List (List Op)} {team team' : Team} {so_far : Whole} {out : Records} {written : List Record} (so : BeforeClose region s all team so_far out) → CloseDone region s team' written so.p → HasReplayed region s all so_far team' written
+close_ends {region} {s} {all} {team} {team'} {so_far} {out} {written} so did = record {
   end = did.reached;
-  answers = so.leads did.reached did.reaches;
+  answers = so.leads.reaches did.reached did.reaches;
+  in_phases = λ whole first of. so.leads.in_phases whole first of did.reached did.reaches
+      (unmarked s.profile (map Ends (numbers_from 1 s.threads) ++ map Lowers (numbers_from (s.threads + 1) s.keepers)) so.p did.reached did.reaches whole (close_unmarked s.threads s.keepers));
   stands = did.team_at;
   written_are = written_whole did.written_so;
   empty = did.empty;

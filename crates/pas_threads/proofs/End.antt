@@ -18,7 +18,8 @@ use Rattle.pas_report.specs.declared.record.Record.{Record}
 use Rattle.pas_guard.specs.Books.{is_outer}
 use Rattle.pas_guard.specs.declared.book.Guard.{Guard}
 use Rattle.pas_cache.specs.Caches.{cached}
-use Rattle.pas_shared.specs.Passes.{seat_of, view_of, IsPassOf, EndsWith}
+use Rattle.pas_shared.specs.Ledgers.{EndsAfter}
+use Rattle.pas_shared.specs.Passes.{seat_of, view_of, IsPassOf}
 use Rattle.pas_shared.specs.declared.pass.SharedPass.{SharedPass}
 use Rattle.pas_shared.specs.declared.region.SharedRegion.{SharedRegion}
 use Rattle.pas_answers.specs.Answers.{Progress}
@@ -236,22 +237,22 @@ module _ {region : SharedRegion} {s : Session} {team : Team} {end : Progress} (s
     ]
   ]
 
-pub shows : {plan : Plan} {region : SharedRegion} {team : Team} (passes : List SharedPass) {written : List Record} {state : State} → IsValid (region_of plan) → AreOfThreads (threads_of plan) (acts_of_plan plan) → region.profile ≡ region_of plan
-    → HasReplayed region (session_of plan) (phases_of plan) team written → map (λ (pass : SharedPass). Some pass) passes ≡ slots_of team → EndsWith region.profile passes state → Shows OnThreads plan written state
-shows {plan} {region} {team} passes {written} {state} valid threads of_profile replayed back ends =
-    let closed = subst (λ (f : Profile). EndsWith f passes state) of_profile ends in
-    let after = closed.after in
+pub shows : {plan : Plan} {region : SharedRegion} {so_far : Whole} {team : Team} (passes : List SharedPass) {written : List Record} {state : State} → IsValid (region_of plan) → AreOfThreads (threads_of plan) (acts_of_plan plan) → region.profile ≡ region_of plan
+    → HasReplayed region (session_of plan) (phases_of plan) so_far team written → map (λ (pass : SharedPass). Some pass) passes ≡ slots_of team → EndsAfter region.profile so_far passes state → Shows OnThreads plan written state
+shows {plan} {region} {so_far} {team} passes {written} {state} valid threads of_profile replayed back ends =
+    let closed = subst (λ (f : Profile). EndsAfter f so_far passes state) of_profile ends in
+    let after = closed.ends.after in
     let actors = plan_actors plan in
     let same = same_parts replayed.stands passes back after.whole (omega (arith, actors)) after.legal after.parts in
     record {
       whole = after.whole;
-      replay = replays OnThreads plan replayed.end after.whole written valid replayed.answers same replayed.written_are after.legal
+      replay = replays OnThreads plan replayed.end after.whole written valid replayed.answers same (replayed.in_phases after.whole closed.begins (λ k past. same k ∙ replayed.stands.nobody k past)) replayed.written_are after.legal
           (λ k. subst HasNothing (sym (same k)) (bare_at replayed.stands replayed.empty replayed.low k)) tt tt threads;
-      profile = closed.profile;
+      profile = closed.ends.profile;
       words = after.words;
     }
 
 -- the plan as the replay was handed it
-pub replayed_so : (plan : Plan) {region : SharedRegion} {team : Team} {written : List Record} (slice : List Phase) → slice ≡ the_phases plan.phases → HasReplayed region (session_of plan) (map ops_of slice) team written
-    → HasReplayed region (session_of plan) (phases_of plan) team written
-replayed_so plan {region} {team} {written} slice is replayed = subst (λ (ps : List Phase). HasReplayed region (session_of plan) (map ops_of ps) team written) is replayed
+pub replayed_so : (plan : Plan) {region : SharedRegion} {so_far : Whole} {team : Team} {written : List Record} (slice : List Phase) → slice ≡ the_phases plan.phases → HasReplayed region (session_of plan) (map ops_of slice) so_far team written
+    → HasReplayed region (session_of plan) (phases_of plan) so_far team written
+replayed_so plan {region} {so_far} {team} {written} slice is replayed = subst (λ (ps : List Phase). HasReplayed region (session_of plan) (map ops_of ps) so_far team written) is replayed

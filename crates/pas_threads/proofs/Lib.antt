@@ -7,6 +7,8 @@ mod PhaseTeams
 mod Start
 mod MakingKeepers
 mod Performed
+mod SettledTeams
+mod InPhases
 mod BetweenPhases
 mod Keepers
 mod PhaseSums

@@ -6,6 +6,7 @@ pub mod Scavengers
 pub mod Acting
 pub mod Dealing
 pub mod Sessions
+pub mod Settling
 pub mod Turns
 pub mod Performing
 pub mod Kits

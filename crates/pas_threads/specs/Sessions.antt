@@ -1,7 +1,7 @@
 -- What stands between two phases of a replay on threads.
 use Rattle.std.specs.Prelude.{ℕ, zero, suc, ◌+◌, ◌<◌, ◌≤◌, ◌≡◌, ◌^◌, true, List, [], ◌∷◌, ◌++◌, map, length, get_or, vec_capacity}
 use Rattle.pas_profile.specs.declared.profile.Profile.{Profile}
-use Rattle.pas_steps.specs.Lists.{part}
+use Rattle.pas_steps.specs.Lists.{Whole, part}
 use Rattle.pas_trace.specs.EveryPlan.{all_ops, own_records, records_of_ops}
 use Rattle.pas_trace.specs.EveryPhase.{FreeTheirOwn}
 use Rattle.pas_trace.specs.declared.plan.Op.{Op}
@@ -9,6 +9,7 @@ use Rattle.pas_report.specs.Rooms.{records_in, room_of, Records}
 use Rattle.pas_report.specs.declared.record.Record.{Record}
 use Rattle.pas_utility.specs.Outcomes.{places_of}
 use Rattle.pas_cache.specs.Caches.{cached}
+use Rattle.pas_shared.specs.Ruled.{IsEarlier}
 use Rattle.pas_shared.specs.declared.region.SharedRegion.{SharedRegion}
 use Rattle.pas_trace.specs.Acts.{Ends, Lowers, is_active, numbers_from, own_acts, acts_of, phase_acts}
 use Rattle.pas_answers.specs.Replays.{at_start}
@@ -22,6 +23,7 @@ use Rattle.pas_acts.specs.Turns.{RestsAt}
 use Rattle.pas_threads.specs.Hands.{standing_of_pass, HasPass, ScavengerAt}
 use Rattle.pas_threads.specs.Pairs.{KeeperRests, AreGuarded, owed_by_keepers, IsLow}
 use Rattle.pas_acts.specs.NameBooks.{NamesAt, requests_in, room_for}
+use Rattle.pas_answers.specs.Phases.{AreInPhases}
 use Rattle.pas_threads.specs.declared.workers.Worker.{Worker}
 use Rattle.pas_threads.specs.declared.scavenger.Scavenger.{Scavenger}
 use Rattle.pas_threads.specs.declared.phases.Team.{Team}
@@ -143,12 +145,17 @@ pub record CloseDone (region : SharedRegion) (s : Session) (team : Team) (writte
   pub low : (i : ℕ) (d : Worker) → i < length team.threads.items → IsLow (get_or team.threads.items i d).keeper
 
 -- ---- the whole replay
+-- nobody but the threads, the keepers and the scavenger has a part in the list
+abbrev pub IsOfActors : Session → Whole → Type 0
+IsOfActors s whole = (k : ℕ) → s.threads + s.keepers < k → part k whole ≡ []
+
 -- All phases and the close were replayed: their acts are answered, the records are written phase by phase and actor by actor, the team stands at the end, and
--- no cache has a local allocator.
-pub record HasReplayed (region : SharedRegion) (s : Session) (phases : List (List Op)) (team : Team) (written : List Record) : Type 0 where
+-- no cache has a local allocator. Each list of these actors that begins with these steps is in phases.
+pub record HasReplayed (region : SharedRegion) (s : Session) (phases : List (List Op)) (so_far : Whole) (team : Team) (written : List Record) : Type 0 where
   pub end : Progress
   pub answers : Reaches s.profile (acts_of s.threads s.keepers phases) at_start end
   pub stands : TeamAt region s [] team end
+  pub in_phases : (whole : Whole) → IsEarlier so_far whole → IsOfActors s whole → AreInPhases s.profile (acts_of s.threads s.keepers phases) at_start end answers whole
   pub written_are : written ≡ arranged OnThreads s.profile.threads end.records
   pub empty : (i : ℕ) (d : Worker) → i < length team.threads.items → (cached (get_or team.threads.items i d).cache).locals ≡ []
   pub low : (i : ℕ) (d : Worker) → i < length team.threads.items → IsLow (get_or team.threads.items i d).keeper

@@ -12,6 +12,7 @@ mod lending;
 mod making;
 mod phases;
 mod scavenger;
+mod settling;
 mod turns;
 mod whole;
 mod workers;

@@ -10,11 +10,13 @@ ghost use Rattle.pas_answers.specs.Answers.{Progress};
 ghost use Rattle.pas_acts.specs.Works.{Later};
 ghost use Rattle.pas_acts.specs.Keepers.{LaterKept};
 ghost use Rattle.pas_threads.specs.Performing.{round, IsReady, IsDone};
+ghost use Rattle.pas_shared.specs.Ledgers.{IsLedgerOf, so_far};
 ghost use Rattle.pas_threads.specs.Sessions.{Session, AreMarked, CloseDone, PhaseAt, PhaseDone, TeamAt, HasRoom, HasReplayed};
 
 use crate::dealing::{deal, take_back};
 use crate::hands::{Hand, act_with};
 use crate::scavenger::Scavenger;
+use crate::settling::settle;
 use crate::turns::{gather, gather_kept, lower_all, stop_all, wake_all};
 use crate::workers::{Worker, take_all};
 use pas_acts::at_desk::SCAVENGER;
@@ -25,7 +27,7 @@ use pas_bits::Mask4;
 use pas_large_index::LargeIndex;
 use pas_plans::active;
 use pas_report::{Record, Records};
-use pas_shared::SharedRegion;
+use pas_shared::{Ledger, SharedRegion};
 use pas_trace::{Op, Phase};
 use std::sync::{Mutex, Wait};
 use std::thread::Threads;
@@ -124,22 +126,26 @@ fn finish(region: &SharedRegion, team: Team, out: &mut Records) -> Team
 }
 
 /// Performs the phases in order, with a mark before each from the second on, and closes: a mark, the stop of each thread, and the last sweep of each keeper. The
-/// operations of a phase are performed by as many threads as have one, all at once; the records of each phase come actor by actor. Takes no memory.
+/// operations of a phase are performed by as many threads as have one, all at once; the records of each phase come actor by actor. After each phase the ledger is
+/// settled. Takes no memory.
 pub(crate) fn replay<R: Threads + Wait + Sync, G: Gate + Sync, M: Remake + Sync>(
     rt: &R,
     region: &SharedRegion,
     indexes: &[Mutex<LargeIndex>],
+    ledger: &mut Ledger,
     team: Team,
     phases: &[Phase],
     gate: &G,
     remaker: &M,
     out: &mut Records,
 ) -> Team
+    requires ledger { IsLedgerOf region.now ledger.old × (so_far ledger.old ≡ []) }
     requires phases { length phases.now < 2 ^ 32 }
     requires empty { records_in out.old ≡ [] }
     requires stands { (s : Session) × TeamAt region.now s (map ops_of phases.now) team at_start × HasRoom s (map ops_of phases.now) (length phases.now + 1) team.threads.items out.old at_start }
     ensures replayed { (s : Session) → TeamAt region.now s (map ops_of phases.now) team at_start → HasRoom s (map ops_of phases.now) (length phases.now + 1) team.threads.items out.old at_start
-        → HasReplayed region.now s (map ops_of phases.now) result (records_in out.new) }
+        → HasReplayed region.now s (map ops_of phases.now) (so_far ledger.new) result (records_in out.new) }
+    ensures ledger { IsLedgerOf region.now ledger.new }
 {
     let mut team = team;
     let mut number = 0;
@@ -158,6 +164,7 @@ pub(crate) fn replay<R: Threads + Wait + Sync, G: Gate + Sync, M: Remake + Sync>
             remaker,
             out,
         );
+        team = settle(region, ledger, team);
     }
     out.push(Record::Close);
     finish(region, team, out)

@@ -14,7 +14,7 @@ use crate::workers::Worker;
 use pas_acts::gate::Gate;
 use pas_answers::Remake;
 use pas_report::Records;
-use pas_shared::{SharedPass, close};
+use pas_shared::{Ledger, SharedPass, close_settled};
 use pas_steps::State;
 use pas_trace::Plan;
 use std::sync::Wait;
@@ -109,10 +109,12 @@ pub fn on_threads_with_rooms<R: Threads + Wait + Sync, G: Gate + Sync, M: Remake
         team,
         passes,
     } = kit;
+    let mut ledger = Ledger::open(&region);
     let mut team = replay(
         rt,
         &region,
         &indexes,
+        &mut ledger,
         team,
         plan.phases.as_slice(),
         gate,
@@ -120,7 +122,10 @@ pub fn on_threads_with_rooms<R: Threads + Wait + Sync, G: Gate + Sync, M: Remake
         out,
     );
     let passes = passes_of(&mut team, passes);
-    (close(region, passes), Rooms { _team: team })
+    (
+        close_settled(region, ledger, passes),
+        Rooms { _team: team },
+    )
 }
 
 /// Replays the plan. In each phase the operations of each thread that has one are performed in a thread of the system, all at once, and those of the

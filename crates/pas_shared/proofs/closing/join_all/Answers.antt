@@ -1,7 +1,7 @@
 use Rattle.std.proofs.Common.{◌≡◌, List, [], ◌∷◌, ◌++◌, ap, sym, ◌∙◌, append_assoc}
-use Rattle.pas_shared.specs.Ruled.{joined}
+use Rattle.pas_shared.specs.Ruled.{joined, seen_in, view_in}
 use Rattle.pas_shared.specs.declared.pass.SharedPass.{SharedPass}
-use Rattle.pas_shared.proofs.Ruling.{takes_in}
+use Rattle.pas_shared.proofs.Ruling.{takes_in, seen_still}
 use Rattle.pas_shared.proofs.Pops.{last_is}
 use Rattle.pas_shared.proofs.closing.join_all.Goals as goal
 
@@ -15,9 +15,10 @@ loop-pass-preserved c =
       c.join.ensures.0,
       ap (λ m. m.1) c.join.ensures.1 ∙ i.1,
       of_table.0,
+      ap (λ m. seen_in m.0) c.join.ensures.1 ∙ ap (λ m. seen_in (joined seat m.0)) pass.place.named ∙ seen_still seat pass.place.actor (view_in pass.place.seat.me.0) ∙ i.3,
       (
-        pass ∷ i.3.0,
-        sym (append_assoc c.pop.new.self.items (pass ∷ []) i.3.0) ∙ ap (λ (l : List SharedPass). l ++ i.3.0) (sym c.in-Some.ensures.items) ∙ i.3.1,
-        takes_in seat c.join.new.seat.me pass i.3.0 (c.join.ensures.1 ∙ ap (λ t. (joined seat pass.place.seat.me.0, t)) i.1) i.3.2,
+        pass ∷ i.4.0,
+        sym (append_assoc c.pop.new.self.items (pass ∷ []) i.4.0) ∙ ap (λ (l : List SharedPass). l ++ i.4.0) (sym c.in-Some.ensures.items) ∙ i.4.1,
+        takes_in seat c.join.new.seat.me pass i.4.0 (c.join.ensures.1 ∙ ap (λ t. (joined seat pass.place.seat.me.0, t)) i.1) i.4.2,
       ),
     )

@@ -6,6 +6,7 @@ use Rattle.pas_trace.specs.declared.plan.Op.{Op}
 use Rattle.pas_report.specs.Rooms.{records_in}
 use Rattle.pas_report.specs.declared.record.Record.{Record}
 use Rattle.pas_answers.specs.Replays.{at_start}
+use Rattle.pas_shared.specs.Ledgers.{so_far}
 use Rattle.pas_threads.specs.Sessions.{Session, TeamAt, HasRoom}
 use Rattle.pas_threads.proofs.BetweenPhases.{AfterPhases, BeforePhase, BeforeClose, no_phase, as_next, as_last, spare_for_mark, first_begins, other_begins, phase_ends, spare_for_close, close_begins, close_ends}
 use Rattle.pas_threads.proofs.phases.replay.Goals as goal
@@ -14,7 +15,8 @@ use Rattle.pas_threads.proofs.phases.replay.Goals.{then-number-gt-UNMARKED, else
 
 pub loop-phase-init : goal.loop-phase-init
 loop-phase-init g c = record {
-  far = λ s at room. no_phase c.requires.empty (ap (λ (n : ℕ). n + 1) (sym (length-map c.args.phases.now ops_of))) at room;
+  far = λ s at room. no_phase c.requires.ledger.1 c.requires.empty (ap (λ (n : ℕ). n + 1) (sym (length-map c.args.phases.now ops_of))) at room;
+  ledger = c.requires.ledger.0;
   count = refl;
 }
 
@@ -29,10 +31,10 @@ module _ (g : Over) (c : After-as_slice g) (s : Session) (at : TeamAt c.args.reg
   abbrev rest : List (List Op)
   rest = map ops_of (drop (c.loop-phase.phase-index + 1) c.args.phases.now)
 
-  next : AfterPhases c.args.region.now s (map ops_of c.args.phases.now) c.loop-phase.phase-index (c.as_slice.result.now ∷ rest) c.loop-phase.team c.loop-phase.out
+  next : AfterPhases c.args.region.now s (map ops_of c.args.phases.now) c.loop-phase.phase-index (c.as_slice.result.now ∷ rest) c.loop-phase.team (so_far c.loop-phase.ledger) c.loop-phase.out
   next = as_next c.args.phases.now c.loop-phase.phase-index c.phase-item.result c.as_slice.result.now c.loop-phase-test.true c.phase-item.is c.as_slice.ensures (c.loop-phase.invariant.far s at room)
 
-  begun : BeforePhase c.args.region.now s (map ops_of c.args.phases.now) c.loop-phase.phase-index c.as_slice.result.now rest c.loop-phase.team c.if-number-gt-UNMARKED.out
+  begun : BeforePhase c.args.region.now s (map ops_of c.args.phases.now) c.loop-phase.phase-index c.as_slice.result.now rest c.loop-phase.team (so_far c.loop-phase.ledger) c.if-number-gt-UNMARKED.out
   begun =
       let count = c.loop-phase.invariant.count in
       elim c.if-number-gt-UNMARKED.branch [
@@ -57,9 +59,21 @@ loop-phase-preserved g c =
     record {
       far = λ s at room.
           let before = begun g d s at room in
-          phase_ends before (c.perform_phase-team.ensures.done s (rest g d s at room) (length (rest g d s at room) + 1) before.p before.at);
+          phase_ends before (c.perform_phase-team.ensures.done s (rest g d s at room) (length (rest g d s at room) + 1) before.p before.at) c.settle-team.ensures.same c.settle-team.ensures.settled.earlier c.settle-team.ensures.stand;
+      ledger = c.settle-team.ensures.settled.table ∙ c.loop-phase.invariant.ledger;
       count = ap (λ (n : ℕ). n + 1) c.loop-phase.invariant.count;
     }
+
+pub settle-team-requires-clause-of : goal.settle-team-requires-clause-of
+settle-team-requires-clause-of g c = c.loop-phase.invariant.ledger
+
+pub settle-team-requires-clause-stands : goal.settle-team-requires-clause-stands
+settle-team-requires-clause-stands g c =
+    let st = c.requires.stands in
+    let d = (goal.at.settle-team-requires-clause-stands g c).After-as_slice in
+    let before = begun g d st.0 st.1 st.2 in
+    let did = c.perform_phase-team.ensures.done st.0 (rest g d st.0 st.1 st.2) (length (rest g d st.0 st.1 st.2) + 1) before.p before.at in
+    (st.0, rest g d st.0 st.1 st.2, did.reached, did.team_at)
 
 pub push-requires-2 : goal.push-requires-2
 push-requires-2 g c =
@@ -68,7 +82,7 @@ push-requires-2 g c =
 
 -- before the stops: the mark of the close was written
 closing : (g : Over) (c : After-push-2 g) (s : Session) → TeamAt c.args.region.now s (map ops_of c.args.phases.now) c.args.team at_start → HasRoom s (map ops_of c.args.phases.now) (length c.args.phases.now + 1) c.args.team.threads.items c.args.out.now at_start
-    → BeforeClose c.args.region.now s (map ops_of c.args.phases.now) c.loop-phase.team c.push-2.new.self
+    → BeforeClose c.args.region.now s (map ops_of c.args.phases.now) c.loop-phase.team (so_far c.loop-phase.ledger) c.push-2.new.self
 closing g c s at room = close_begins (as_last c.args.phases.now c.loop-phase.phase-index c.loop-phase-test.false (c.loop-phase.invariant.far s at room)) c.push-2.ensures.added c.push-2.ensures.size
 
 pub finish-requires : goal.finish-requires
@@ -82,4 +96,5 @@ returns g c = record {
   replayed = λ s at room.
       let before = closing g (goal.at.returns g c).After-push-2 s at room in
       close_ends before (c.finish.ensures.done s before.p before.team_at before.marked before.room);
+  ledger = c.loop-phase.invariant.ledger;
 }

@@ -34,8 +34,8 @@ passes_of-passes-requires-clause-back g c =
     let start = handed c.args.out.now c.as_slice.result.now c.requires.plan.2 c.requires.kit c.as_slice.ensures c.requires.empty c.requires.room in
     all_back (c.replay-team.ensures.replayed (session_of c.args.plan.now) start.0 start.1).stands
 
-pub close-requires : goal.close-requires
-close-requires g c =
+pub close_settled-requires-clause-passes : goal.close_settled-requires-clause-passes
+close_settled-requires-clause-passes g c =
     let start = handed c.args.out.now c.as_slice.result.now c.requires.plan.2 c.requires.kit c.as_slice.ensures c.requires.empty c.requires.room in
     all_of_region (c.replay-team.ensures.replayed (session_of c.args.plan.now) start.0 start.1).stands c.passes_of-passes.result.items c.passes_of-passes.ensures
 
@@ -43,4 +43,4 @@ pub returns : goal.returns
 returns g c =
     let start = handed c.args.out.now c.as_slice.result.now c.requires.plan.2 c.requires.kit c.as_slice.ensures c.requires.empty c.requires.room in
     let replayed = replayed_so c.args.plan.now c.as_slice.result.now c.as_slice.ensures (c.replay-team.ensures.replayed (session_of c.args.plan.now) start.0 start.1) in
-    shows {plan = c.args.plan.now} c.passes_of-passes.result.items (plan_valid c.requires.plan.2) (plan_operate c.requires.plan.2) c.requires.kit.profile replayed c.passes_of-passes.ensures c.close.ensures
+    shows {plan = c.args.plan.now} c.passes_of-passes.result.items (plan_valid c.requires.plan.2) (plan_operate c.requires.plan.2) c.requires.kit.profile replayed c.passes_of-passes.ensures c.close_settled.ensures

@@ -1,0 +1,32 @@
+-- A ledger's seat, and a pass whose actor it took in.
+use Rattle.std.proofs.Common.{◌≡◌, ℕ, ◌+◌, ◌<◌, List, [], ◌∷◌, refl, sym, ap, ◌∙◌, subst, arith}
+use mathlib.Core.HLevel.{is_prop→PathP}
+use Rattle.atomic_table.specs.Table.{Me, Splits, Allows}
+use Rattle.pas_profile.specs.Layouts.{words_of}
+use Rattle.pas_profile.specs.declared.profile.Profile.{Profile}
+use Rattle.pas_steps.specs.Views.{View}
+use Rattle.pas_shared.specs.declared.rule.Entry.{Entry}
+use Rattle.pas_shared.specs.declared.rule.Part.{Part}
+use Rattle.pas_shared.specs.declared.rule.Roster.{Roster}
+use Rattle.pas_shared.specs.declared.rule.Roster.TheVariants.{Listed, Settled}
+use Rattle.pas_shared.specs.declared.region.SharedRegion.{SharedRegion}
+use Rattle.pas_shared.specs.Ruled.{Holds, alone, entries_in, parts_in, all_but_last, last_alone, SeesAll}
+use Rattle.pas_shared.proofs.Ruling.{splits_last, looks}
+
+-- there is a first word
+pub some_word : (region : SharedRegion) → 0 < region.table.shared.table_id.words
+some_word region = let many = region.keyed.1 in omega (arith, many)
+
+-- ---- the seat of a ledger
+pub settled_is : (me : Me (Unit {0}) Roster) (es : List Entry) (ps : List Part) → me ≡ (Settled es ps, []) → me ≡ (Settled (entries_in me.0) (parts_in me.0), [])
+settled_is me es ps is = subst (λ (m : Me (Unit {0}) Roster). m ≡ (Settled (entries_in m.0) (parts_in m.0), [])) (sym is) refl
+
+pub splits_last_as : (f : Profile) (id : ℕ) (me : Me (Unit {0}) Roster) (es : List Entry) (p : Part) (ps : List Part) → me ≡ (Settled es (p ∷ ps), []) → Splits (Holds f) id me.0 (all_but_last me.0) (last_alone me.0)
+splits_last_as f id me es p ps is = subst (λ (m : Me (Unit {0}) Roster). Splits (Holds f) id m.0 (all_but_last m.0) (last_alone m.0)) (sym is) (splits_last f id es p ps)
+
+pub looks_as : (f : Profile) (slots id i : ℕ) (me : Me (Unit {0}) Roster) (es : List Entry) (ps : List Part) → me ≡ (Settled es ps, []) → Allows (Holds f) slots id me i (λ n. n) (λ n after. SeesAll me after)
+looks_as f slots id i me es ps is = subst (λ (m : Me (Unit {0}) Roster). Allows (Holds f) slots id m i (λ n. n) (λ n after. SeesAll m after)) (sym is) (looks f slots id i es ps)
+
+-- it took this actor in last
+pub took_last : (me : Me (Unit {0}) Roster) (p : Part) (ps : List Part) → me ≡ (Settled (entries_in me.0) (parts_in me.0), []) → parts_in me.0 ≡ p ∷ ps → me ≡ (Settled (entries_in me.0) (p ∷ ps), [])
+took_last me p ps is last = is ∙ ap (λ (qs : List Part). (Settled (entries_in me.0) qs, [])) last

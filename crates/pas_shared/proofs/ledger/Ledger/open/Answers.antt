@@ -1,0 +1,6 @@
+use Rattle.pas_shared.proofs.Ruling.{arrives}
+use Rattle.pas_shared.proofs.GivingBack.{some_word}
+use Rattle.pas_shared.proofs.ledger.Ledger.open.Goals as goal
+
+pub load_new_seat-requires : goal.load_new_seat-requires
+load_new_seat-requires c = (some_word c.args.region.now, arrives _ _ _)

@@ -1,0 +1,54 @@
+use Rattle.std.proofs.Common.{◌≡◌, ◌<◌, ◌≤◌, ◌+◌, ℕ, length, get_or, Option, Some, sym, ap, ◌∙◌, subst, arith, length-set, get_or-set_other}
+use Rattle.std.proofs.lemmas.List.{get_or_default}
+use Rattle.std.proofs.lemmas.Option.{same_Some}
+use Rattle.pas_shared.specs.Passes.{IsPassOf}
+use Rattle.pas_shared.specs.Ledgers.{so_far, actors_in}
+use Rattle.pas_shared.specs.declared.pass.SharedPass.{SharedPass}
+use Rattle.pas_threads.specs.Kits.{with_keeper}
+use Rattle.pas_threads.specs.Pairs.{IsKeeperOf}
+use Rattle.pas_threads.specs.Settling.{Settled, StandsIn}
+use Rattle.pas_threads.specs.declared.keeper.Keeper.{Keeper}
+use Rattle.pas_threads.specs.declared.workers.Worker.{Worker}
+use Rattle.pas_threads.proofs.SettledTeams.{gives, settled_with, stands_still, keeper_back, here_or_later}
+use Rattle.pas_threads.proofs.settling.+settle_keepers.Goals as goal
+
+pub give_back-pass-requires-clause-last : goal.give_back-pass-requires-clause-last
+give_back-pass-requires-clause-last t c =
+    let e = c.index-workers-at.result in
+    let lt = c.if-at-workers.false in
+    let of = subst (λ (o : Option Keeper). IsKeeperOf c.args.region.now o) (sym c.take.ensures.value ∙ c.in-Some.is) (c.requires.keepers c.args.at e (omega (arith, lt))) in
+    gives c.args.region.now c.in-Some.keeper.pass c.take_in-rest.result c.args.ledger.now c.take_in-rest.new.self c.settle_keepers.new.ledger of c.take_in-rest.ensures.rest c.take_in-rest.ensures.taken c.settle_keepers.ensures.settled
+
+pub returns-in-Some-clause-same : goal.returns-in-Some-clause-same
+returns-in-Some-clause-same t c =
+    let e = c.index-workers-at.result in
+    let lt = c.if-at-workers.false in
+    let keeper = c.in-Some.keeper in
+    let of = subst (λ (o : Option Keeper). IsKeeperOf c.args.region.now o) (sym c.take.ensures.value ∙ c.in-Some.is) (c.requires.keepers c.args.at e (omega (arith, lt))) in
+    let back = c.give_back-pass.ensures.back keeper.pass (actors_in c.args.ledger.now) of c.take_in-rest.ensures.rest (c.settle_keepers.ensures.settled.actors ∙ c.take_in-rest.ensures.taken) in
+    keeper_back c.args.workers.now c.settle_keepers.new.workers c.args.at e c.index-workers-at-in-Some.result c.take.new.self _ (omega (arith, lt)) c.settle_keepers.ensures.same
+    (ap (λ (p : SharedPass). Some (record { pass = p; book = keeper.book; out = keeper.out })) back.0 ∙ sym c.in-Some.is ∙ c.take.ensures.value)
+
+pub returns-in-Some-clause-settled : goal.returns-in-Some-clause-settled
+returns-in-Some-clause-settled t c =
+    let e = c.index-workers-at.result in
+    let lt = c.if-at-workers.false in
+    let of = subst (λ (o : Option Keeper). IsKeeperOf c.args.region.now o) (sym c.take.ensures.value ∙ c.in-Some.is) (c.requires.keepers c.args.at e (omega (arith, lt))) in
+    let back = c.give_back-pass.ensures.back c.in-Some.keeper.pass (actors_in c.args.ledger.now) of c.take_in-rest.ensures.rest (c.settle_keepers.ensures.settled.actors ∙ c.take_in-rest.ensures.taken) in
+    (settled_with c.in-Some.keeper.pass c.args.ledger.now c.take_in-rest.new.self c.settle_keepers.new.ledger c.give_back-pass.new.self c.take_in-rest.ensures.same c.take_in-rest.ensures.taken c.settle_keepers.ensures.settled c.give_back-pass.ensures.same back.1).0
+
+pub returns-in-Some-clause-stand : goal.returns-in-Some-clause-stand
+returns-in-Some-clause-stand t c = λ i d keeper le less is.
+    let e = c.index-workers-at.result in
+    let lt = c.if-at-workers.false in
+    let ws = c.args.workers.now in
+    let at = c.args.at in
+    let there : at < length ws = omega (arith, lt) in
+    let mid = with_keeper (get_or ws at e) c.take.new.self in
+    let of = subst (λ (o : Option Keeper). IsKeeperOf c.args.region.now o) (sym c.take.ensures.value ∙ c.in-Some.is) (c.requires.keepers at e there) in
+    let back = c.give_back-pass.ensures.back c.in-Some.keeper.pass (actors_in c.args.ledger.now) of c.take_in-rest.ensures.rest (c.settle_keepers.ensures.settled.actors ∙ c.take_in-rest.ensures.taken) in
+    let own = (settled_with c.in-Some.keeper.pass c.args.ledger.now c.take_in-rest.new.self c.settle_keepers.new.ledger c.give_back-pass.new.self c.take_in-rest.ensures.same c.take_in-rest.ensures.taken c.settle_keepers.ensures.settled c.give_back-pass.ensures.same back.1).1 in
+    (here_or_later at i le (λ j. (get_or ws j d).keeper ≡ Some keeper → j < length ws → StandsIn (so_far c.give_back-pass.new.self) keeper.pass)
+    (λ has below. subst (λ (k : Keeper). StandsIn (so_far c.give_back-pass.new.self) k.pass) (same_Some c.in-Some.keeper keeper (sym c.in-Some.is ∙ c.take.ensures.value ∙ ap (λ (w : Worker). w.keeper) (get_or_default ws at e d there) ∙ has)) own)
+    (λ more has below. stands_still c.settle_keepers.new.ledger c.give_back-pass.new.self keeper.pass c.give_back-pass.ensures.same
+    (c.settle_keepers.ensures.stand i d keeper more (let size = length-set ws at mid in omega (arith, size, below)) (ap (λ (w : Worker). w.keeper) (get_or-set_other ws at i mid d (λ same. omega (arith, same, more))) ∙ has)))) is less

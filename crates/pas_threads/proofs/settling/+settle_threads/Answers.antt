@@ -1,0 +1,83 @@
+use Rattle.std.proofs.Common.{◌≡◌, ◌<◌, ◌≤◌, ◌+◌, ℕ, length, get_or, Option, Some, refl, sym, ap, ◌∙◌, subst, arith, length-set, get_or-set_other}
+use Rattle.std.proofs.lemmas.List.{get_or_default}
+use Rattle.std.proofs.lemmas.Option.{same_Some}
+use Rattle.pas_shared.specs.Passes.{IsPassOf}
+use Rattle.pas_shared.specs.Ledgers.{so_far, actors_in}
+use Rattle.pas_shared.specs.declared.pass.SharedPass.{SharedPass}
+use Rattle.pas_threads.specs.Pairs.{IsKeeperOf}
+use Rattle.pas_threads.specs.Settling.{Settled, StandsIn}
+use Rattle.pas_threads.specs.declared.keeper.Keeper.{Keeper}
+use Rattle.pas_threads.specs.declared.workers.Worker.{Worker}
+use Rattle.pas_threads.proofs.SettledTeams.{gives, settled_with, stands_still, with_pass, pass_back, kept_at, passes_at, here_or_later}
+use Rattle.pas_threads.proofs.settling.+settle_threads.Goals as goal
+
+pub settle_threads-requires : goal.settle_threads-requires
+settle_threads-requires t c =
+    let e = c.index-workers-at.result in
+    let lt = c.if-at-workers.false in
+    let ws = c.args.workers.now in
+    let at = c.args.at in
+    let there : at < length ws = omega (arith, lt) in
+    let mid = with_pass (get_or ws at e) c.take.new.self in
+    let size = length-set ws at mid in
+    let measure = c.decreases in (
+      omega (arith, size, measure, there),
+      (c.take_in-rest.ensures.same.table ∙ c.requires.of,
+      (passes_at ws at mid c.requires.threads,
+      λ i d less. subst (λ (o : Option Keeper). IsKeeperOf c.args.region.now o) (sym (kept_at ws at i mid e d there refl (omega (arith, less, size)))) (c.requires.keepers i d (omega (arith, less, size))))),
+    )
+
+pub give_back-pass-requires-clause-last : goal.give_back-pass-requires-clause-last
+give_back-pass-requires-clause-last t c =
+    let e = c.index-workers-at.result in
+    let lt = c.if-at-workers.false in
+    let has = c.requires.threads c.args.at e (omega arith) (omega (arith, lt)) in
+    let of = subst (λ (p : SharedPass). IsPassOf c.args.region.now p) (same_Some has.pass c.in-Some.pass (sym has.present ∙ sym c.take.ensures.value ∙ c.in-Some.is)) has.of in
+    gives c.args.region.now c.in-Some.pass c.take_in-rest.result c.args.ledger.now c.take_in-rest.new.self c.settle_threads.new.ledger of c.take_in-rest.ensures.rest c.take_in-rest.ensures.taken c.settle_threads.ensures.settled
+
+pub returns-clause-same : goal.returns-clause-same
+returns-clause-same t c =
+    let e = c.index-workers-at.result in
+    let lt = c.if-at-workers.false in
+    let has = c.requires.threads c.args.at e (omega arith) (omega (arith, lt)) in
+    let of = subst (λ (p : SharedPass). IsPassOf c.args.region.now p) (same_Some has.pass c.in-Some.pass (sym has.present ∙ sym c.take.ensures.value ∙ c.in-Some.is)) has.of in
+    let back = c.give_back-pass.ensures.back c.in-Some.pass (actors_in c.args.ledger.now) of c.take_in-rest.ensures.rest (c.settle_threads.ensures.settled.actors ∙ c.take_in-rest.ensures.taken) in
+    pass_back c.args.workers.now c.settle_threads.new.workers c.args.at e c.index-workers-at-2.result c.take.new.self _ (omega (arith, lt)) c.settle_threads.ensures.same
+    (ap (λ (p : SharedPass). Some p) back.0 ∙ sym c.in-Some.is ∙ c.take.ensures.value)
+
+pub returns-clause-settled : goal.returns-clause-settled
+returns-clause-settled t c =
+    let e = c.index-workers-at.result in
+    let lt = c.if-at-workers.false in
+    let has = c.requires.threads c.args.at e (omega arith) (omega (arith, lt)) in
+    let of = subst (λ (p : SharedPass). IsPassOf c.args.region.now p) (same_Some has.pass c.in-Some.pass (sym has.present ∙ sym c.take.ensures.value ∙ c.in-Some.is)) has.of in
+    let back = c.give_back-pass.ensures.back c.in-Some.pass (actors_in c.args.ledger.now) of c.take_in-rest.ensures.rest (c.settle_threads.ensures.settled.actors ∙ c.take_in-rest.ensures.taken) in
+    (settled_with c.in-Some.pass c.args.ledger.now c.take_in-rest.new.self c.settle_threads.new.ledger c.give_back-pass.new.self c.take_in-rest.ensures.same c.take_in-rest.ensures.taken c.settle_threads.ensures.settled c.give_back-pass.ensures.same back.1).0
+
+pub returns-clause-stand : goal.returns-clause-stand
+returns-clause-stand t c = λ i d pass le less is.
+    let e = c.index-workers-at.result in
+    let lt = c.if-at-workers.false in
+    let ws = c.args.workers.now in
+    let at = c.args.at in
+    let there : at < length ws = omega (arith, lt) in
+    let mid = with_pass (get_or ws at e) c.take.new.self in
+    let has = c.requires.threads at e (omega arith) there in
+    let of = subst (λ (p : SharedPass). IsPassOf c.args.region.now p) (same_Some has.pass c.in-Some.pass (sym has.present ∙ sym c.take.ensures.value ∙ c.in-Some.is)) has.of in
+    let back = c.give_back-pass.ensures.back c.in-Some.pass (actors_in c.args.ledger.now) of c.take_in-rest.ensures.rest (c.settle_threads.ensures.settled.actors ∙ c.take_in-rest.ensures.taken) in
+    let own = (settled_with c.in-Some.pass c.args.ledger.now c.take_in-rest.new.self c.settle_threads.new.ledger c.give_back-pass.new.self c.take_in-rest.ensures.same c.take_in-rest.ensures.taken c.settle_threads.ensures.settled c.give_back-pass.ensures.same back.1).1 in
+    (here_or_later at i le (λ j. (get_or ws j d).pass ≡ Some pass → j < length ws → StandsIn (so_far c.give_back-pass.new.self) pass)
+    (λ so below. subst (λ (p : SharedPass). StandsIn (so_far c.give_back-pass.new.self) p) (same_Some c.in-Some.pass pass (sym c.in-Some.is ∙ c.take.ensures.value ∙ ap (λ (w : Worker). w.pass) (get_or_default ws at e d there) ∙ so)) own)
+    (λ more so below. stands_still c.settle_threads.new.ledger c.give_back-pass.new.self pass c.give_back-pass.ensures.same
+    (c.settle_threads.ensures.stand i d pass more (let size = length-set ws at mid in omega (arith, size, below)) (ap (λ (w : Worker). w.pass) (get_or-set_other ws at i mid d (λ same. omega (arith, same, more))) ∙ so)))) is less
+
+pub returns-clause-keepers : goal.returns-clause-keepers
+returns-clause-keepers t c = λ i d keeper less is.
+    let e = c.index-workers-at.result in
+    let lt = c.if-at-workers.false in
+    let ws = c.args.workers.now in
+    let at = c.args.at in
+    let there : at < length ws = omega (arith, lt) in
+    let mid = with_pass (get_or ws at e) c.take.new.self in
+    stands_still c.settle_threads.new.ledger c.give_back-pass.new.self keeper.pass c.give_back-pass.ensures.same
+    (c.settle_threads.ensures.keepers i d keeper (let size = length-set ws at mid in omega (arith, size, less)) (kept_at ws at i mid e d there refl less ∙ is))
