@@ -6,6 +6,7 @@ the orders, whether what is still ahead lets it come now (`standing`). `find_ord
 tests/transcripts.py and has no program of its own."""
 
 from collections import Counter, defaultdict
+from typing import NamedTuple
 
 PAGE, GRAIN = 4096, 16
 GRAINS = PAGE // GRAIN
@@ -61,6 +62,7 @@ class Ahead:
         self.reads, self.unborn, self.differing = Counter(), Counter(), Counter()
         self.backs, self.backs_by, self.gives_on = Counter(), Counter(), Counter()
         self.raises, self.raises_by, self.unbacks, self.standing_blocks = Counter(), Counter(), Counter(), Counter()
+        self.ends, self.ends_by, self.sweeps = Counter(), Counter(), Counter()
         self.watches = defaultdict(list)
         self.passing = defaultdict(lambda: defaultdict(list))
 
@@ -207,12 +209,19 @@ class End(Event):
     def __init__(self, address, turn, room, epoch):
         self.address, self.turn, self.room, self.epoch = address, turn, room, epoch
 
+    def note(self, ahead, by):
+        ahead.ends[self.address, self.turn] += by
+        ahead.ends_by[(self.address, self.turn), self.course] += by
+
     def fits(self, machine):
         block = machine.live.get(self.address)
         return block is not None and block.turn == self.turn and self.room in (None, block.room)
 
     def standing(self, machine, ahead):
-        return TOO_EARLY if ahead.differing[self.address, self.turn] or ahead.standing_blocks[self.address, self.turn] else SAFE
+        name = self.address, self.turn
+        if ahead.differing[name] or ahead.standing_blocks[name]:
+            return TOO_EARLY
+        return RISKY if ahead.sweeps[name] else SAFE
 
     def do(self, machine):
         block = machine.live[self.address]
@@ -315,29 +324,29 @@ class Refused(Event):
 
 
 class RefusedAlone(Refused):
-    """.. and nobody else acts meanwhile, so nothing else could serve it, and it names the lowest page that somebody holds: of whole
-    pages one beside a guard that is up, of bit-fit pages none. What caches hold isn't told, so of other pages nothing is asked."""
+    """.. and nobody else acts meanwhile, so where it is for whole pages or a bit-fit one no page is in another actor's hands, and
+    none could serve. What caches hold isn't told, so of other requests nothing more is asked."""
 
     def __init__(self, directory, pages, page, room, align):
         super().__init__(directory, pages, page)
         self.room, self.align = room, align
 
     def fits(self, machine):
-        return super().fits(machine) and {"large": self.has_no_run, "bitfit": self.has_no_place}.get(self.directory[1], bool)(machine)
+        serves = {"large": self.has_run, "bitfit": self.has_place}.get(self.directory[1])
+        return super().fits(machine) and (serves is None or (self.page is None and not serves(machine)))
 
-    def has_no_run(self, machine):
-        held = min((page for page in machine.guarded if machine.deeds[page] == self.directory), default=None)
+    def has_run(self, machine):
         run = 0
         for page in range(1, machine.pages + 1):
-            is_of_heap = machine.deeds.get(page, self.directory) == self.directory
-            run = run + 1 if is_of_heap and not machine.lives_on[page] and page not in machine.guarded else 0
+            is_usable = machine.deeds.get(page, self.directory) == self.directory and not machine.lives_on[page] and page not in machine.guarded
+            run = run + 1 if is_usable else 0
             if run == self.pages:
-                return False
-        return self.page == held
+                return True
+        return False
 
-    def has_no_place(self, machine):
+    def has_place(self, machine):
         pages = [page for page, directory in machine.deeds.items() if directory == self.directory]
-        return self.page is None and not any(has_place(machine, page, self.room, self.align) for page in pages)
+        return any(has_place(machine, page, self.room, self.align) for page in pages)
 
 
 def has_place(machine, page, room, align):
@@ -377,13 +386,13 @@ class Raised(Event):
 
 
 class Lowered(Event):
-    """A guard that is up is lowered, once its block has ended, if one is named."""
+    """A guard that is up is lowered, whether its block has ended or not."""
 
-    def __init__(self, low, high, block=None):
-        self.outer, self.block = (low, high), block
+    def __init__(self, low, high):
+        self.outer = (low, high)
 
     def fits(self, machine):
-        return machine.guarded.issuperset(self.outer) and (self.block is None or machine.ends[self.block[0]] > self.block[1])
+        return machine.guarded.issuperset(self.outer)
 
     def do(self, machine):
         machine.guarded.difference_update(self.outer)
@@ -392,17 +401,77 @@ class Lowered(Event):
         machine.guarded.update(self.outer)
 
 
-class StaysUp(Event):
-    """A keeper sees that the block of a guard hasn't ended."""
+class Guard(NamedTuple):
+    """The pages beside a block that a keeper gave, and its name."""
 
-    def __init__(self, address, turn):
-        self.address, self.turn = address, turn
+    low: int
+    high: int
+    address: int
+    turn: int
+
+    @property
+    def name(self):
+        return self.address, self.turn
+
+    @property
+    def outer(self):
+        return self.low, self.high
+
+
+class Sweeps:
+    """Sweeps of a keeper between which no guard goes up. Its lines tell which guards they lower, one after the other, and not which
+    sweep lowers which."""
+
+    def __init__(self, up):
+        self.up, self.lowered, self.done, self.last = up, [], 0, None
+
+    def staying(self):
+        return [guard for guard in self.up if guard not in self.lowered]
+
+    def left(self):
+        return self.lowered[self.done:]
+
+
+class Sweep(Event):
+    """A keeper lowers those of its guards whose blocks have ended, in the order in which they went up, and no others."""
+
+    def __init__(self, sweeps):
+        self.sweeps = sweeps
+        sweeps.last = self
 
     def note(self, ahead, by):
-        ahead.standing_blocks[self.address, self.turn] += by
+        for guard in self.sweeps.staying():
+            ahead.standing_blocks[guard.name] += by
+        for guard in self.sweeps.lowered if self is not self.sweeps.last else ():
+            ahead.sweeps[guard.name] += by
+
+    def ended(self, machine):
+        """Those that are up and whose blocks have ended."""
+        return [guard for guard in self.sweeps.left() if machine.ends[guard.address] > guard.turn]
 
     def fits(self, machine):
-        return machine.ends[self.address] <= self.turn
+        """The last one leaves none of those that the lines tell."""
+        left, ended = self.sweeps.left(), self.ended(machine)
+        raised = sorted(ended, key=self.sweeps.up.index)
+        return (ended == raised == left[:len(ended)] and (self is not self.sweeps.last or ended == left)
+                and not any(machine.ends[guard.address] > guard.turn for guard in self.sweeps.staying()))
+
+    def standing(self, machine, ahead):
+        """Where another course may end a block before it, either may be first."""
+        waits = (ahead.ends[guard.name] > ahead.ends_by[guard.name, self.course] for guard in self.sweeps.left())
+        return RISKY if self is not self.sweeps.last and any(waits) else SAFE
+
+    def do(self, machine):
+        memory, ended = self.sweeps.done, self.ended(machine)
+        for guard in ended:
+            machine.guarded.difference_update(guard.outer)
+        self.sweeps.done += len(ended)
+        return memory
+
+    def undo(self, machine, memory):
+        for guard in self.sweeps.lowered[memory:self.sweeps.done]:
+            machine.guarded.update(guard.outer)
+        self.sweeps.done = memory
 
 
 class Watch(Event):
@@ -488,6 +557,11 @@ class NotOffered(Event):
         return self.page in machine.deeds
 
 
+def outers_of(event):
+    """The pages of the guards that the event may lower."""
+    return [guard.outer for guard in event.sweeps.lowered] if isinstance(event, Sweep) else [event.outer] if isinstance(event, Lowered) else []
+
+
 class Search:
     """Goes through the orders of the events of some courses."""
 
@@ -512,7 +586,7 @@ class Search:
                 if isinstance(event, Give):
                     event.end = ends.get((event.address, event.turn))
                 if isinstance(event, Raised):
-                    event.is_lowered = any(isinstance(other, Lowered) and other.outer == event.outer for other in events[event.at:])
+                    event.is_lowered = any(event.outer in outers_of(other) for other in events[event.at:])
                 event.note(self.ahead, 1)
 
     def heads(self):
@@ -553,7 +627,7 @@ class Search:
 
     def options(self):
         """What may come next, though something ahead may mind, the best last. None where this place was seen before."""
-        key = tuple(self.places)
+        key = (*self.places, frozenset(self.machine.guarded))
         if key in self.seen:
             return []
         self.seen.add(key)

@@ -13,8 +13,8 @@ import sys
 from collections import Counter
 from typing import NamedTuple
 
-from orders import (GRAIN, GRAINS, PAGE, Back, Bare, Deed, End, Ended, Give, InUse, Lowered, Machine, NoBlock, NotOffered, Raised, Read, Refused,
-                    RefusedAlone, SizeDiffers, StaysUp, Tick, Unback, Undecided, Young, find_order)
+from orders import (GRAIN, GRAINS, PAGE, Back, Bare, Deed, End, Ended, Give, Guard, InUse, Lowered, Machine, NoBlock, NotOffered, Raised, Read, Refused,
+                    RefusedAlone, SizeDiffers, Sweep, Sweeps, Tick, Unback, Undecided, Young, find_order)
 
 CLASSES = [16, 32, 48, 64, 80, 96, 112, 128, 160, 192, 224, 256, 320, 384, 448, 512, 640, 768, 896, 1024]
 # How many of them traces of a version have.
@@ -251,7 +251,7 @@ class Accounts:
         self.epoch = 0
         self.guarded = trace.guarded()
         self.up = {thread: [] for thread in self.logs}
-        self.is_alone, self.hinted = False, set()
+        self.is_alone, self.hinted, self.sweeps = False, set(), {}
 
     def phase(self, phase, lines, machine):
         """The events of each course of a phase, before which the machine stands so."""
@@ -259,6 +259,7 @@ class Accounts:
         self.is_alone, self.hinted = len(acting) == 1, empty_pages(machine)
         self.since.update(dict.fromkeys(acting - {0}, self.epoch))
         idle = [thread for thread in self.logs if thread not in acting]
+        self.sweeps = dict.fromkeys(self.logs)
         courses = [self.scavenged([each for each in operations if each[0] in CHORES], idle, lines)]
         for thread in sorted(acting - {0}):
             course = []
@@ -292,42 +293,41 @@ class Accounts:
             return self.freed(thread, address, turn, sizing, lines)
         return self.flushed(thread, lines)
 
-    def swept(self, thread, lines):
-        """A keeper lowers those of its guards whose blocks have ended, in the order in which they went up."""
-        events, left = [], []
-        for guard in self.up[thread]:
-            low, high, *block = guard
-            if lines.peek() == "lowered" and lines.lines[lines.at].values == (low, high):
-                lines.take("", "lowered")
-                events.append(Lowered(low, high, block))
-            else:
-                left.append(guard)
-                events.append(StaysUp(*block))
-        self.up[thread] = left
-        return events
-
     def lowered(self, thread, lines):
         """A keeper lowers all its guards, in the order in which they went up."""
-        for low, high, *_ in self.up[thread]:
-            lines.take_exactly(f"the keeper of thread {thread} leaves a guard up", "lowered", low, high)
-        return [Lowered(low, high) for low, high, *_ in self.up[thread]]
+        for guard in self.up[thread]:
+            lines.take_exactly(f"the keeper of thread {thread} leaves a guard up", "lowered", *guard.outer)
+        return [Lowered(*guard.outer) for guard in self.up[thread]]
 
     def tried(self, thread, values, lines):
         """What a keeper does for a guarded request: guards are lowered; then deeds and backs, a block between two pages and
-        the line that says so, or deeds alone. The guard stands from before the first back on."""
+        the line that says so, or deeds alone. The guard stands from before the first back on. Where no guard goes up, lines of
+        the next tries are taken for those of this one: which sweep lowers what is looked for, and deeds may come early."""
         wanted = self.trace.wanted(*values)
-        events = self.swept(thread, lines)
-        if not any(line.word == "guarded" and line.values[2] == wanted.name for line in lines.lines[lines.at:]):
-            while lines.peek() == "deed" and lines.lines[lines.at].values[1:] == wanted.directory:
-                events.append(Deed(lines.take("", "deed").values[0], wanted.directory))
+        self.sweeps[thread] = self.sweeps[thread] or Sweeps(list(self.up[thread]))
+        events = [Sweep(self.sweeps[thread])]
+        is_raised = any(line.word == "guarded" and line.values[2] == wanted.name for line in lines.lines[lines.at:])
+        while lines.peek() in (["lowered"] if is_raised else ["lowered", "deed"]):
+            line = lines.lines[lines.at]
+            guard = next((guard for guard in self.up[thread] if line.word == "lowered" and guard.outer == line.values), None)
+            if guard:
+                self.up[thread].remove(guard)
+                self.sweeps[thread].lowered.append(guard)
+            elif line.word == "deed" and line.values[1:] == wanted.directory:
+                events.append(Deed(line.values[0], wanted.directory))
+            else:
+                break
+            lines.at += 1
+        if not is_raised:
             return events
+        self.sweeps[thread] = None
         made = self.requested(wanted, lines)
         if not isinstance(made[-1], Give):
             raise Wrong(f"no block of the keeper for name {wanted.name}")
         give = made[-1]
         low, high = give.pages[0] - 1, give.pages[-1] + 1
         lines.take_exactly(f"the block of name {wanted.name} stands between pages {low} and {high}", "guarded", low, high, wanted.name)
-        self.up[thread].append((low, high, give.address, give.turn))
+        self.up[thread].append(Guard(low, high, give.address, give.turn))
         deeds = [event for event in made if isinstance(event, Deed)]
         return events + deeds + [Raised(low, high, wanted.directory[0])] + made[len(deeds):]
 

@@ -124,6 +124,48 @@ page 6 heap 0 large live 0 free 256 stamp 0 marks offered
 total deeds 6 backed 2 live 1 given 2 ended 1
 """
 
+# No guard fits for the second request; the first guard is lowered when the third comes, as its block has ended then.
+SILENT = """pas 4 pages 4 threads 1 heaps 1 age 2
+guard 1
+a 1 1 0 4096 16
+a 1 2 0 4096 16
+f 1 1
+flush 1
+a 1 3 0 8192 16
+"""
+SILENT_KEEPER = """2 deed page 1 heap 0 large
+2 deed page 2 heap 0 large
+2 deed page 3 heap 0 large
+2 back page 2
+2 give 0x00002000 turn 0 room 4096 heap 0
+2 guarded 1 3 name 1
+2 lowered 1 3
+close
+report
+"""
+SILENT_RIGHT = """1 deed page 4 heap 0 large
+1 back page 4
+1 give 0x00004000 turn 0 room 4096 heap 0
+1 freed 0x00002000 turn 0 epoch 0
+1 back page 1
+1 give 0x00001000 turn 0 room 8192 heap 0
+""" + SILENT_KEEPER + """page 1 heap 0 large live 1 free 0 stamp 0 marks backed+parked
+page 2 heap 0 large live 0 free 0 stamp 0 marks backed+parked+hinted
+page 3 heap 0 large live 0 free 256 stamp 0 marks offered
+page 4 heap 0 large live 1 free 0 stamp 0 marks backed+parked
+total deeds 4 backed 3 live 2 given 3 ended 1
+"""
+SILENT_WRONG = """1 back page 1
+1 give 0x00001000 turn 0 room 4096 heap 0
+1 freed 0x00002000 turn 0 epoch 0
+1 back page 3
+1 give 0x00002000 turn 1 room 8192 heap 0
+""" + SILENT_KEEPER + """page 1 heap 0 large live 1 free 0 stamp 0 marks backed+parked
+page 2 heap 0 large live 1 free 0 stamp 0 marks backed+parked+hinted
+page 3 heap 0 large live 0 free 0 stamp 0 marks backed+parked
+total deeds 3 backed 3 live 2 given 3 ended 1
+"""
+
 # The scavenger ticks, stops an idle thread that freed its block, and makes a pass.
 LENT = """pas 1 pages 4 threads 1 heaps 1 age 1
 a 1 1 0 512 16
@@ -336,6 +378,7 @@ total deeds 1 backed 1 live 1 given 1 ended 0
 PAIRS = [
     Pair("a free of the block that the thread's keeper gave before finds none", OWN_GUARDED, OWN_GUARDED_RIGHT, OWN_GUARDED_WRONG),
     Pair("a guard stays up whose block ended before", SWEPT, SWEPT_RIGHT, SWEPT_WRONG),
+    Pair("a page beside a guarded block has memory before the guard goes down", SILENT, SILENT_RIGHT, SILENT_WRONG),
     Pair("a free that is flushed after a tick has the epoch before it", LENT, LENT_RIGHT, LENT_LATE),
     Pair("a page is given back by an end that the tick was before", LENT, LENT_RIGHT, LENT_UNBACKED),
     Pair("a free of a block of an earlier phase finds none", HANDED, HANDED_RIGHT, HANDED_WRONG),
