@@ -4,7 +4,9 @@
 //! the piece. Trusted, and only tested by `tests/pipes_and_files.py`: what is said at the two types.
 ghost use Rattle.std.specs.Prelude.{◌≡◌, ◌≤◌};
 ghost use Rattle.pas_io.specs.Told.{Rose};
+ghost use Rattle.pas_io.specs.declared.reach.Reach.TheVariants as Reach;
 
+use crate::reach::Reach;
 use crate::{Failed, Sink, Source};
 use std::io::{Read, Write};
 
@@ -16,14 +18,20 @@ use std::io::{Read, Write};
 pub struct RealSource<R> {
     reader: R,
     faults: u64,
+    reach: Reach,
 }
 
 impl<R: Read> RealSource<R> {
     pub fn new(reader: R) -> RealSource<R>
         ensures reader { result.reader ≡ reader }
         ensures faults { result.faults ≡ 0 }
+        ensures reach { result.reach ≡ Reach.Within }
     {
-        RealSource { reader, faults: 0 }
+        RealSource {
+            reader,
+            faults: 0,
+            reach: Reach::Within,
+        }
     }
 }
 
@@ -32,10 +40,17 @@ impl<R: Read> Source for RealSource<R> {
 
     ghost faults = { λ s. s.faults };
 
+    ghost reach = { λ s. s.reach };
+
     fn read(&mut self, buffer: &mut [u8]) -> Result<usize, Failed> {
+        let has_place = !buffer.is_empty();
         match self.reader.read(buffer) {
-            Ok(count) => Ok(count),
+            Ok(count) => {
+                self.reach = self.reach.after(has_place && count == 0);
+                Ok(count)
+            }
             Err(_) => {
+                self.reach = self.reach.after(false);
                 self.faults = self.faults.saturating_add(1);
                 Err(Failed)
             }
