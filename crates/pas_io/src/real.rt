@@ -1,7 +1,8 @@
-//! A source and a sink of the system. They tell nothing, since no contract can say what the system gives or takes.
+//! A source over any reader and a sink over any writer. They tell the bytes that these tell.
 //!
-//! Proved: each error of the system is a fault and is counted once, and no other call is; no number is above the length of the buffer or of
-//! the piece. Trusted, and only tested by `tests/pipes_and_files.py`: what is said at the two types.
+//! Proved for all of them: each error is a fault and is counted once, and no other call is; no number is above the length of the buffer or of the piece; where the
+//! reader tells what remains, a read moves its next bytes, and where the writer tells what it contains, a write adds those that it answers for. Standard input and
+//! output tell nothing: that they do what is said at the two types is trusted, and tested by `tests/pipes_and_files.py`.
 ghost use Rattle.std.specs.Prelude.{◌≡◌, ◌≤◌};
 ghost use Rattle.pas_io.specs.Told.{Rose};
 ghost use Rattle.pas_io.specs.declared.reach.Reach.TheVariants as Reach;
@@ -12,8 +13,8 @@ use std::io::{Read, Write};
 
 /// What a reader gives. Each of its errors is a failure, and is counted.
 ///
-/// Trusted: a read answers as the reader's one read does, with its next bytes in the front of the buffer and their number, be it a single
-/// byte; no byte is lost between two reads; 0 for a buffer that isn't empty is the end of the input.
+/// Trusted of a reader that tells nothing: its read answers the next bytes, in the front of the buffer, and their number, be it a single byte; no byte is lost between
+/// two reads; 0 for a buffer that isn't empty is the end of the input.
 #[derive(Drop)]
 pub struct RealSource<R> {
     reader: R,
@@ -60,8 +61,8 @@ impl<R: Read> Source for RealSource<R> {
 
 /// Where a writer puts bytes. Each of its errors is a failure, and so is a write that takes no byte of a piece that isn't empty. Each is counted.
 ///
-/// Trusted: a write answers as the writer's one write does, with the number of bytes that it took from the front of the piece, and these come
-/// after those of the writes before; the writer holds no byte back that it answered for.
+/// Trusted of a writer that tells nothing: its write answers the number of bytes that it took from the front of the piece, these come after those of the writes before,
+/// and it holds no byte back that it answered for.
 #[derive(Drop)]
 pub struct RealSink<W> {
     writer: W,

@@ -47,8 +47,8 @@ use std::thread::Threads;
 /// its end where the status is 0, 1 or 8. No read is made after one that met the end, and at most 16,777,217 bytes are taken. Nothing is written before the replay or
 /// the check has ended.
 ///
-/// A replay takes time at most in proportion to the operations times the pages. Of the function's own calls `replayed_on_threads` alone may wait, so with other words than
-/// `run` each of them returns.
+/// Of its calls `replayed_on_threads` alone may wait, so with other words than `run` each of them returns. Time, of which no clause speaks, is at most in proportion to
+/// operations times pages, beside the bytes that come in and go out.
 pub fn pas_main<R: Threads + Wait + Sync, S: Source, K: Sink>(
     rt: &R,
     alloc: Global,
