@@ -1,8 +1,6 @@
 -- A ledger's seat, and a pass whose actor it took in.
-use Rattle.std.proofs.Common.{◌≡◌, ℕ, ◌+◌, ◌<◌, List, [], ◌∷◌, refl, sym, ap, ◌∙◌, subst, arith}
-use mathlib.Core.HLevel.{is_prop→PathP}
+use Rattle.std.proofs.Common.{◌≡◌, ℕ, ◌<◌, List, [], ◌∷◌, refl, sym, ap, ◌∙◌, subst, arith}
 use Rattle.atomic_table.specs.Table.{Me, Splits, Allows}
-use Rattle.pas_profile.specs.Layouts.{words_of}
 use Rattle.pas_profile.specs.declared.profile.Profile.{Profile}
 use Rattle.pas_steps.specs.Views.{View}
 use Rattle.pas_shared.specs.declared.rule.Entry.{Entry}
@@ -10,7 +8,6 @@ use Rattle.pas_shared.specs.declared.rule.Part.{Part}
 use Rattle.pas_shared.specs.declared.rule.Roster.{Roster}
 use Rattle.pas_shared.specs.declared.rule.Roster.TheVariants.{Unused, Listed, Settled}
 use Rattle.pas_shared.specs.declared.region.SharedRegion.{SharedRegion}
-use Rattle.pas_steps.specs.Lists.{Whole}
 use Rattle.pas_shared.specs.Ruled.{Holds, alone, joined, looks_in, parts_in, seen_in, all_but_last, last_alone, AreEarlier, SeesAll}
 use Rattle.pas_shared.proofs.Ruling.{splits_last, looks}
 

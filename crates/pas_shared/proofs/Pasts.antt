@@ -1,14 +1,14 @@
 -- Two pasts that become one, and what stands behind a past.
-use Rattle.std.proofs.Common.{◌≡◌, ℕ, ◌==◌, if◌then◌else◌, cond_ap, Bool, true, false, List, [], ◌∷◌, ◌++◌, refl, sym, ap, ◌∙◌, subst}
+use Rattle.std.proofs.Common.{◌≡◌, ℕ, ◌==◌, if◌then◌else◌, Bool, true, false, List, [], ◌∷◌, ◌++◌, refl, sym, ap, ◌∙◌, subst}
+use Rattle.std.proofs.lemmas.List.{append_cancel_right}
 use Rattle.atomic_table.specs.Table.{Me}
 use Rattle.pas_steps.specs.Views.{View}
-use Rattle.pas_steps.specs.Lists.{Triple, Whole, part}
+use Rattle.pas_steps.specs.Lists.{Whole, part}
 use Rattle.pas_steps.specs.declared.step.Made.{Made}
 use Rattle.pas_shared.specs.declared.rule.Entry.{Entry}
-use Rattle.pas_shared.specs.declared.rule.Part.{Part}
 use Rattle.pas_shared.specs.declared.rule.Roster.{Roster}
 use Rattle.pas_shared.specs.declared.rule.Roster.TheVariants.{Settled}
-use Rattle.pas_shared.specs.Ruled.{joined, looks_in, parts_in, seen_in, first_look, IsEarlier, AreEarlier}
+use Rattle.pas_shared.specs.Ruled.{joined, looks_in, parts_in, seen_in, IsEarlier, AreEarlier}
 use Rattle.pas_shared.specs.Pasts.{HasOwn, StandsAfter}
 use Rattle.pas_shared.proofs.Ruling.{first_earlier}
 
@@ -29,3 +29,18 @@ both_earlier one other both l one_is other_is new seen =
     let all = subst (λ (looks : List (List Entry)). AreEarlier looks l) looks seen in
     (first_earlier (looks_in one.0) l (earlier_left (looks_in one.0) (looks_in other.0) l all), first_earlier (looks_in other.0) l (earlier_right (looks_in one.0) (looks_in other.0) l all))
 
+-- ---- what stands behind a past
+one_more : (b : Bool) (m : Made) (v w x : View) → x ≡ v ++ w → (if b then m ∷ x else x) ≡ (if b then m ∷ v else v) ++ w
+one_more true m v w x is = ap (λ (y : View). m ∷ y) is
+one_more false m v w x is = is
+
+pub part_both : (k : ℕ) (l m : Whole) → part k (l ++ m) ≡ part k l ++ part k m
+part_both k [] m = refl
+part_both k (t ∷ l) m = one_more (t.actor == k) t.made (part k l) (part k m) (part k (l ++ m)) (part_both k l m)
+
+pub stands_after : (first whole : Whole) (k : ℕ) (v since : View) → IsEarlier first whole → HasOwn k v first → part k whole ≡ since ++ v → StandsAfter first k since whole
+stands_after first whole k v since earlier own now = record {
+  later = earlier.0;
+  whole_is = earlier.1;
+  own = append_cancel_right (part k earlier.0) since v (ap (λ (x : View). part k earlier.0 ++ x) (sym own) ∙ (sym (part_both k earlier.0 first) ∙ (ap (part k) (sym earlier.1) ∙ now)));
+}

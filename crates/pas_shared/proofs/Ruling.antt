@@ -38,7 +38,7 @@ use Rattle.pas_shared.specs.declared.rule.Entry.{Entry}
 use Rattle.pas_shared.specs.declared.rule.Part.{Part}
 use Rattle.pas_shared.specs.declared.rule.Roster.{Roster}
 use Rattle.pas_shared.specs.declared.rule.Roster.TheVariants.{Unused, Listed, Settled}
-use Rattle.pas_shared.specs.Ruled.{HasPart, Names, alone, first_alone, all_but_first, joined, AreNamed, AreAfterOneList, Holds, changed, IsAskedOf, IsAdded, Makes, IsAddedIfKept, parts_in, looks_in, first_look, steps_of, seen_in, all_but_last, last_alone, SawNothing, IsEarlier, AreEarlier, AreApart, AllKnow, HasAllOf, SeesAll}
+use Rattle.pas_shared.specs.Ruled.{HasPart, Names, alone, first_alone, all_but_first, joined, AreNamed, AreAfterOneList, Holds, changed, IsAskedOf, IsAdded, Makes, IsAddedIfKept, parts_in, looks_in, first_look, steps_of, seen_in, SawNothing, IsEarlier, AreEarlier, AreApart, AllKnow, SeesAll}
 use Rattle.std.specs.List.{All}
 use Rattle.std.proofs.lemmas.List.Elements.{All-cons, All-weaker}
 use Rattle.pas_shared.specs.declared.pass.SharedPass.{SharedPass}

@@ -1,8 +1,7 @@
 -- What a past tells, and what stands behind it.
-use Rattle.std.specs.Prelude.{◌≡◌, ℕ, List, [], ◌∷◌, ◌++◌}
+use Rattle.std.specs.Prelude.{◌≡◌, ℕ, ◌++◌}
 use Rattle.pas_steps.specs.Views.{View}
 use Rattle.pas_steps.specs.Lists.{Whole, part}
-use Rattle.pas_shared.specs.Ruled.{IsEarlier}
 use Rattle.pas_shared.specs.Ledgers.{so_far, IsLedgerOf}
 use Rattle.pas_shared.specs.declared.region.SharedRegion.{SharedRegion}
 use Rattle.pas_shared.specs.declared.past.Past.{Past}

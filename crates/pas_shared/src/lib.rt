@@ -12,6 +12,7 @@ pub mod ledger;
 pub mod opening;
 pub mod pass;
 pub mod past;
+pub mod past_laws;
 pub mod region;
 pub mod rule;
 

@@ -1,4 +1,4 @@
-use Rattle.std.proofs.Common.{◌≡◌, List, [], ◌∷◌, inl, refl, sym, ap, ◌∙◌, subst}
+use Rattle.std.proofs.Common.{List, [], inl, refl, sym, ap, ◌∙◌, subst}
 use Rattle.pas_steps.specs.Lists.{part}
 use Rattle.pas_shared.specs.Ruled.{HasPart, parts_in, seen_in, view_in}
 use Rattle.pas_shared.specs.declared.rule.Part.{Part}

@@ -1,4 +1,4 @@
-use Rattle.std.proofs.Common.{ap, ◌∙◌}
+use Rattle.std.proofs.Common.{ap}
 use Rattle.pas_shared.proofs.Ruling.{joins}
 use Rattle.pas_shared.proofs.GivingBack.{some_word}
 use Rattle.pas_shared.proofs.Pasts.{both_earlier}
