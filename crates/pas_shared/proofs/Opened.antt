@@ -32,7 +32,7 @@ begins f words sized values = record {
   seat_number = λ _. 0;
   named = named;
   apart = know_one Apart (Unused 0) tt;
-  seen = know_one (SawOf []) (Unused 0) ([], refl);
+  seen = know_one (SawOf []) (Unused 0) tt;
 }
   where
     none : (u : Roster) (k : ℕ) (v : View) → Unused 0 ≡ u → Names u k v → [] ≡ v

@@ -38,7 +38,7 @@ use Rattle.pas_shared.specs.declared.rule.Entry.{Entry}
 use Rattle.pas_shared.specs.declared.rule.Part.{Part}
 use Rattle.pas_shared.specs.declared.rule.Roster.{Roster}
 use Rattle.pas_shared.specs.declared.rule.Roster.TheVariants.{Unused, Listed, Settled}
-use Rattle.pas_shared.specs.Ruled.{HasPart, Names, alone, first_alone, all_but_first, joined, AreNamed, AreAfterOneList, Holds, changed, IsAskedOf, IsAdded, Makes, IsAddedIfKept, parts_in, entries_in, steps_of, seen_in, all_but_last, last_alone, SawNothing, IsEarlier, AreApart, AllKnow, HasAllOf, SeesAll}
+use Rattle.pas_shared.specs.Ruled.{HasPart, Names, alone, first_alone, all_but_first, joined, AreNamed, AreAfterOneList, Holds, changed, IsAskedOf, IsAdded, Makes, IsAddedIfKept, parts_in, looks_in, first_look, steps_of, seen_in, SawNothing, IsEarlier, AreEarlier, AreApart, AllKnow, SeesAll}
 use Rattle.std.specs.List.{All}
 use Rattle.std.proofs.lemmas.List.Elements.{All-cons, All-weaker}
 use Rattle.pas_shared.specs.declared.pass.SharedPass.{SharedPass}
@@ -100,13 +100,23 @@ abbrev pub Apart : Roster → Type 0
 Apart u = AreApart (parts_in u)
 
 abbrev pub SawOf : Whole → Roster → Type 0
-SawOf l u = IsEarlier (seen_in u) l
+SawOf l u = AreEarlier (looks_in u) l
 
-pub nothing_seen : (l : Whole) → IsEarlier [] l
-nothing_seen l = (l, sym (append-nil l))
+pub nothing_seen : (l : Whole) → AreEarlier [] l
+nothing_seen l = tt
 
-seen_longer : (s l : Whole) (t : Triple) → IsEarlier s l → IsEarlier s (t ∷ l)
-seen_longer s l t seen = (t ∷ seen.0, ap (λ (m : Whole). t ∷ m) seen.1)
+-- what was seen at the first look
+pub first_earlier : (looks : List (List Entry)) (l : Whole) → AreEarlier looks l → IsEarlier (first_look looks) l
+first_earlier [] l seen = (l, sym (append-nil l))
+first_earlier (es ∷ looks) l seen = seen.0
+
+seen_longer : (looks : List (List Entry)) (l : Whole) (t : Triple) → AreEarlier looks l → AreEarlier looks (t ∷ l)
+seen_longer [] l t seen = tt
+seen_longer (es ∷ looks) l t seen = ((t ∷ seen.0.0, ap (λ (m : Whole). t ∷ m) seen.0.1), seen_longer looks l t seen.1)
+
+seen_both : (looks more : List (List Entry)) (l : Whole) → AreEarlier looks l → AreEarlier more l → AreEarlier (looks ++ more) l
+seen_both [] more l one other = other
+seen_both (es ∷ looks) more l one other = (one.0, seen_both looks more l one.1 other)
 
 -- the list as a seat sees it
 abbrev pub entries_for : Whole → List Entry
@@ -141,7 +151,7 @@ adds f slots id k v s i g asked at same t h len there fits =
         seat_number = h.seat_number;
         named = grows h.own h.seat_number t.views id k v (made s n) h.named here.0 here.1;
         apart = know_set Apart t.views id (alone k (made s n ∷ v)) h.apart ((λ x none. none), tt);
-        seen = know_set (SawOf (triple k (made s n) ∷ l)) t.views id (alone k (made s n ∷ v)) (λ j u e. seen_longer (seen_in u) l (triple k (made s n)) (h.seen j u e)) (nothing_seen (triple k (made s n) ∷ l));
+        seen = know_set (SawOf (triple k (made s n) ∷ l)) t.views id (alone k (made s n ∷ v)) (λ j u e. seen_longer (looks_in u) l (triple k (made s n)) (h.seen j u e)) (nothing_seen (triple k (made s n) ∷ l));
       },
       (refl, agrees_next f l k v s n asked.valid h.legal its_part asked.of_region read),
     )
@@ -324,7 +334,7 @@ seen_joined (Listed ps) (Unused n) l one other = one
 seen_joined (Listed ps) (Settled es qs) l one other = one
 seen_joined (Settled es ps) (Listed qs) l one other = one
 seen_joined (Settled es ps) (Unused n) l one other = one
-seen_joined (Settled es ps) (Settled ds qs) l one other = one
+seen_joined (Settled es ps) (Settled ds qs) l one other = seen_both es ds l one other
 seen_joined (Unused n) (Listed qs) l one other = other
 seen_joined (Unused n) (Unused m) l one other = other
 seen_joined (Unused n) (Settled es qs) l one other = other
@@ -416,7 +426,7 @@ ends f key id u words slots passes known (s, h, words_are, homes, there) named =
     parts = All-weaker (IsNamed u) (λ (p : SharedPass). part (seat_of p).actor h.0.whole ≡ view_of p) (λ p has. h.0.one_order p.place.actor ∙ (h.0.named id u p.place.actor (view_of p) h.1 (names_shown u _ _ has)).1) passes named;
     words = λ w hw. ap (λ (ws : List ℕ). slice_index ws (index_of key.pages w)) (sym words_are) ∙ h.0.words_are.values w hw;
   },
-  h.0.seen id u h.1,
+  first_earlier (looks_in u) h.0.whole (h.0.seen id u h.1),
 )
 
 pub read_at : (xs : List ℕ) (i a d : ℕ) → get_elem? xs i ≡ some a → get_or xs i d ≡ a
@@ -490,7 +500,7 @@ splits_all f id u s h there = record {
         (at_end (set s.views id (Listed [])) u y i e)
 
 -- ---- the actor that was taken in last gets one
-pub splits_last : (f : Profile) (id : ℕ) (es : List Entry) (p : Part) (ps : List Part) → Splits (Holds f) id (Settled es (p ∷ ps)) (Settled es ps) (Listed (p ∷ []))
+pub splits_last : (f : Profile) (id : ℕ) (es : List (List Entry)) (p : Part) (ps : List Part) → Splits (Holds f) id (Settled es (p ∷ ps)) (Settled es ps) (Listed (p ∷ []))
 splits_last f id es p ps s h there = record {
   whole = h.whole;
   legal = h.legal;
@@ -538,7 +548,7 @@ splits_last f id es p ps s h there = record {
         (at_end (set s.views id (Settled es ps)) (Listed (p ∷ [])) y i e)
 
 -- ---- a look
-pub looks : (f : Profile) (slots id i : ℕ) (es : List Entry) (ps : List Part) → Allows (Holds f) slots id (Settled es ps, []) i (λ n. n) (λ n me. SeesAll (Settled es ps, []) me)
+pub looks : (f : Profile) (slots id i : ℕ) (es : List (List Entry)) (ps : List Part) → Allows (Holds f) slots id (Settled es ps, []) i (λ n. n) (λ n me. SeesAll (Settled es ps, []) me)
 looks f slots id i es ps s h len there fits = (
   now,
   keeps,
@@ -552,18 +562,18 @@ looks f slots id i es ps s h len there fits = (
     seat_number = h.seat_number;
     named = named;
     apart = know_set Apart s.views id now h.apart (h.apart id (Settled es ps) there);
-    seen = know_set (SawOf h.whole) s.views id now h.seen ([], sym (entries_same h.whole));
+    seen = know_set (SawOf h.whole) s.views id now h.seen (([], sym (entries_same h.whole)), tt);
   },
   record {
     entries = entries_for h.whole;
     after_is = refl;
-    earlier = subst (λ (l : Whole). IsEarlier (steps_of es) l) (sym (entries_same h.whole)) (h.seen id (Settled es ps) there);
+    earlier = subst (λ (l : Whole). AreEarlier es l) (sym (entries_same h.whole)) (h.seen id (Settled es ps) there);
     all = λ k v has. ap (λ (l : Whole). part k l) (entries_same h.whole) ∙ (h.one_order k ∙ (h.named id (Settled es ps) k v there has).1);
   },
 )
   where
     now : Roster
-    now = Settled (entries_for h.whole) ps
+    now = Settled (entries_for h.whole ∷ []) ps
 
     named : AreNamed h.own h.seat_number (set s.views id now)
     named j u k v e its = ⊎_elim

@@ -2,3 +2,4 @@ pub mod Ruled
 pub mod Passes
 pub mod Kept
 pub mod Ledgers
+pub mod Pasts

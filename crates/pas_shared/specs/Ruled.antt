@@ -48,14 +48,14 @@ all_but_first (Unused n) = Unused (n + 1)
 all_but_first (Listed ps) = Listed ps
 all_but_first (Settled es ps) = Settled es ps
 
--- the actors of both, where both are lists. Of those without a step, which nobody joins, one side is enough. What the first seat saw stays
+-- the actors of both, where both are lists. Of those without a step, which nobody joins, one side is enough. What ledgers' seats saw stays
 abbrev pub joined : Roster → Roster → Roster
 joined (Listed ps) (Listed qs) = Listed (qs ++ ps)
 joined (Listed ps) (Unused n) = Listed ps
 joined (Listed ps) (Settled es qs) = Listed (qs ++ ps)
 joined (Settled es ps) (Listed qs) = Settled es (qs ++ ps)
 joined (Settled es ps) (Unused n) = Settled es ps
-joined (Settled es ps) (Settled ds qs) = Settled es (qs ++ ps)
+joined (Settled es ps) (Settled ds qs) = Settled (es ++ ds) (qs ++ ps)
 joined (Unused n) u = u
 
 -- all actors of a ledger's seat but the one that it took in last, and that one
@@ -76,18 +76,23 @@ parts_in (Unused n) = []
 parts_in (Listed ps) = ps
 parts_in (Settled es ps) = ps
 
--- the steps that a seat saw: the first ones of the list of all
+-- the steps that a seat saw at a look: the first ones of the list of all
 abbrev pub steps_of : List Entry → Whole
 steps_of [] = []
 steps_of (e ∷ es) = triple e.actor e.made ∷ steps_of es
 
-abbrev pub entries_in : Roster → List Entry
-entries_in (Unused n) = []
-entries_in (Listed ps) = []
-entries_in (Settled es ps) = es
+-- what it saw at each of its looks
+abbrev pub looks_in : Roster → List (List Entry)
+looks_in (Unused n) = []
+looks_in (Listed ps) = []
+looks_in (Settled es ps) = es
+
+abbrev pub first_look : List (List Entry) → Whole
+first_look [] = []
+first_look (es ∷ looks) = steps_of es
 
 abbrev pub seen_in : Roster → Whole
-seen_in u = steps_of (entries_in u)
+seen_in u = first_look (looks_in u)
 
 -- the steps and the number of the first actor in the list
 abbrev pub view_in : Roster → View
@@ -115,6 +120,11 @@ AreNamed own seat_number rosters = (i : ℕ) (u : Roster) (k : ℕ) (v : View) �
 abbrev pub IsEarlier : Whole → Whole → Type 0
 IsEarlier so_far l = (since : Whole) × (l ≡ since ++ so_far)
 
+-- so are those of each look
+abbrev pub AreEarlier : List (List Entry) → Whole → Type 0
+AreEarlier [] l = Unit {0}
+AreEarlier (es ∷ looks) l = IsEarlier (steps_of es) l × AreEarlier looks l
+
 -- no actor is twice in the list
 abbrev pub AreApart : List Part → Type 0
 AreApart [] = Unit {0}
@@ -134,7 +144,7 @@ pub record AreAfterOneList (f : Profile) (words : List ℕ) (rosters : List Rost
   pub seat_number : ℕ → ℕ
   pub named : AreNamed own seat_number rosters
   pub apart : AllKnow (λ u. AreApart (parts_in u)) rosters
-  pub seen : AllKnow (λ u. IsEarlier (seen_in u) whole) rosters
+  pub seen : AllKnow (λ u. AreEarlier (looks_in u) whole) rosters
 
 abbrev pub Holds : Profile → State (Unit {0}) Roster → Type 0
 Holds f s = AreAfterOneList f s.words s.views
@@ -175,6 +185,6 @@ HasAllOf ps l = (k : ℕ) (v : View) → HasPart ps k v → part k l ≡ v
 -- saw before are the first of them.
 pub record SeesAll (before after : Me (Unit {0}) Roster) : Type 0 where
   pub entries : List Entry
-  pub after_is : after ≡ (Settled entries (parts_in before.0), [])
-  pub earlier : IsEarlier (seen_in before.0) (steps_of entries)
+  pub after_is : after ≡ (Settled (entries ∷ []) (parts_in before.0), [])
+  pub earlier : AreEarlier (looks_in before.0) (steps_of entries)
   pub all : HasAllOf (parts_in before.0) (steps_of entries)

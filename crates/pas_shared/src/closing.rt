@@ -4,9 +4,11 @@ ghost use Rattle.std.specs.Slots.{slots_items, slots_len, IsFull};
 ghost use Rattle.pas_shared.specs.Ruled.{joined, seen_in};
 ghost use Rattle.pas_shared.specs.Passes.{IsPassOf, IsNamed, EndsWith};
 ghost use Rattle.pas_shared.specs.Ledgers.{IsLedgerOf, so_far, EndsAfter};
+ghost use Rattle.pas_shared.specs.Pasts.{IsPastOf, told};
 
 use crate::ledger::Ledger;
 use crate::pass::{ActorSeat, SharedPass};
+use crate::past::Past;
 use crate::region::SharedRegion;
 use crate::rule::{JoinsBoth, TableSeat, TableWords};
 use atomic_table::Closed;
@@ -60,6 +62,16 @@ pub fn close(region: SharedRegion, passes: Vec<SharedPass>) -> State
     ensures { EndsWith region.profile passes.items result }
 {
     let ledger = Ledger::open(&region);
+    close_settled(region, ledger, passes)
+}
+
+/// The same, and that list begins with all steps that stand in the past.
+pub fn close_after(region: SharedRegion, past: Past, passes: Vec<SharedPass>) -> State
+    requires past { IsPastOf region past }
+    requires passes { All (IsPassOf region) passes.items }
+    ensures { EndsAfter region.profile (told past) passes.items result }
+{
+    let Past { ledger } = past;
     close_settled(region, ledger, passes)
 }
 

@@ -11,11 +11,14 @@ pub mod laws;
 pub mod ledger;
 pub mod opening;
 pub mod pass;
+pub mod past;
+pub mod past_laws;
 pub mod region;
 pub mod rule;
 
-pub use closing::{close, close_settled};
+pub use closing::{close, close_after, close_settled};
 pub use desk::SharedDesk;
 pub use ledger::{Ledger, Rest};
 pub use pass::SharedPass;
+pub use past::Past;
 pub use region::{Opening, SharedRegion};

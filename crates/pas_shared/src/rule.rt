@@ -19,7 +19,7 @@ pub struct Entry {
 }
 
 /// The actors that a seat names: all from one on, none of which made a step, or those of a list. A ledger's seat saw the first steps of the list of all, too, the newest
-/// of them first. No value of it is made.
+/// of them first, at each of some looks. No value of it is made.
 pub enum Roster {
     Unused {
         from: u64,
@@ -28,7 +28,7 @@ pub enum Roster {
         parts: LinkedList<Part>,
     },
     Settled {
-        seen: LinkedList<Entry>,
+        seen: LinkedList<LinkedList<Entry>>,
         parts: LinkedList<Part>,
     },
 }
