@@ -4,18 +4,14 @@ from __future__ import annotations
 
 import heapq
 from collections import Counter
-from collections.abc import Iterable, Iterator
-from itertools import islice
+from collections.abc import Iterable
 from typing import NamedTuple
 
-import recorded
 from needed_pages import Held, NeededPages
-from progress import Progress
 from recorded import ENDS, FREE, MOVED, MOVES, REQUESTS, UNFINISHED, Record
 from trace_heaps import Heaps
-from trace_text import LEAST_ALIGN, MOST_PAGES, PAGE, Full, Room, Trace, Wanted, room_of
+from trace_text import LEAST_ALIGN, MOST_PAGES, NEVER, PAGE, Room, Trace, Wanted, room_of
 
-TELL_EACH = 20_000
 LOST = "calls that the log has no record of: they found no room, or the program was killed in them"
 REFUSED = "requests that the program was refused"
 UNSEEN_FREES = "frees of blocks that the log hasn't seen asked for"
@@ -114,13 +110,16 @@ class Conversion:
         self.names = 0
 
     def begin_with(self, start: Start) -> None:
-        """Asks for what lives at the start, the first thread for those that have ended; a phase later all may free it."""
+        """Asks for what lives at the start, the first thread for those that have ended; a phase later all may free it. The
+        scavenger has nothing to do so early."""
+        due, self.trace.next_due = self.trace.next_due, NEVER
         for record in start.blocks.values():
             self.blocks[record[0]] = self.asked(record, self.number_at(start, record))
         for thread, record in start.moving.items():
             self.moving[thread] = self.asked(record, self.number_at(start, record))
         if self.names:
             self.trace.begin_phase()
+        self.trace.next_due, self.trace.of_threads = due, 0
 
     def number_at(self, start: Start, record: Record) -> int:
         return 1 if record[5] in start.ended else self.numbers.number(record[5])

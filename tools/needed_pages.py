@@ -6,13 +6,15 @@ until its log is flushed; this is followed here as the program does it.
 
 from __future__ import annotations
 
-from collections import defaultdict
+from collections import Counter, defaultdict
 from collections.abc import Container
 from typing import NamedTuple
 
 from trace_text import LEAST_ALIGN, PAGE, Room
 
 MOST_LOGGED = 64
+# A thread takes so many slots of a shared page.
+SLOTS_AT_ONCE = 4
 BITFIT, WHOLE = 0, PAGE
 GRAINS = PAGE // LEAST_ALIGN
 # The region's pages are a multiple of this.
@@ -50,7 +52,7 @@ def pages_for(amount: int, in_page: int) -> int:
 
 
 def with_holes(pages: int) -> int:
-    return pages_for(5 * pages, 4)
+    return pages_for(3 * pages, 2)
 
 
 class NeededPages:
@@ -87,35 +89,34 @@ class NeededPages:
             directory.live -= amount
         self.logs[thread].clear()
 
-    def in_classes(self) -> dict[int, tuple[int, int]]:
-        """Of each heap the grains of its slots, if each class were at its most, and the threads that asked for one."""
-        found: dict[int, tuple[int, int]] = {}
+    def small(self, pages: int) -> list[int]:
+        """The heaps whose slots of classes would fit into so many pages, if each class were at its most."""
+        grains: Counter[int] = Counter()
         for (heap, kind), directory in self.directories.items():
             if kind not in (BITFIT, WHOLE):
-                grains, threads = found.get(heap, (0, 0))
-                found[heap] = grains + directory.most * kind // LEAST_ALIGN, threads | directory.threads
-        return found
-
-    def small(self, pages: int) -> list[int]:
-        """The heaps whose slots would fit into so many pages."""
-        return sorted(heap for heap, (grains, _) in self.in_classes().items() if grains <= pages * GRAINS)
+                grains[heap] += directory.most * kind // LEAST_ALIGN
+        return sorted(heap for heap in grains if grains[heap] <= pages * GRAINS)
 
     def need(self, shared: Container[int]) -> Need:
         """A page of a class is new only where each other page of the class is full or another thread's, so a directory of a
-        class has a page more for each other thread. Where blocks of several lengths share pages they leave holes: there it is
-        a quarter more."""
+        class has a page more for each other thread. Where blocks of several lengths share pages they leave holes, at first fit
+        about half as many as there are blocks: there it is half more. Guards stand on pages that never had memory, so that
+        their holes aren't filled: with them it is four times as many whole pages."""
         least = wanted = 0
-        for heap, (grains, threads) in self.in_classes().items():
-            if heap in shared:
-                least += pages_for(grains, GRAINS)
-                wanted += with_holes(pages_for(grains, GRAINS)) + threads.bit_count() - 1
+        filled, taken = Counter(), Counter()
         for (heap, kind), directory in self.directories.items():
+            most, threads = directory.most, directory.threads.bit_count()
             if kind == WHOLE:
-                least, wanted = least + directory.most, wanted + with_holes(directory.most)
+                least, wanted = least + most, wanted + (4 * most if self.guard else with_holes(most))
             elif kind == BITFIT:
-                least += (filled := pages_for(directory.most, GRAINS))
-                wanted += with_holes(filled) + directory.threads.bit_count() - 1
-            elif heap not in shared:
-                least += (filled := pages_for(directory.most, PAGE // kind))
-                wanted += filled + directory.threads.bit_count() - 1
+                pages = pages_for(most, GRAINS)
+                least, wanted = least + pages, wanted + with_holes(pages) + threads - 1
+            elif heap in shared:
+                filled[heap] += most * kind // LEAST_ALIGN
+                taken[heap] += (most + threads * (SLOTS_AT_ONCE - 1)) * kind // LEAST_ALIGN
+            else:
+                pages = pages_for(most, PAGE // kind)
+                least, wanted = least + pages, wanted + pages + threads - 1
+        least += sum(pages_for(grains, GRAINS) for grains in filled.values())
+        wanted += sum(with_holes(pages_for(grains, GRAINS)) for grains in taken.values())
         return Need(least, max(STEP, STEP * pages_for(wanted, STEP)))

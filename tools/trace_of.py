@@ -26,15 +26,16 @@ sys.dont_write_bytecode = True
 HERE = Path(__file__).resolve().parent
 sys.path[:0] = [str(HERE), str(HERE / "record")]
 import recorded
-from conversion import TELL_EACH, Conversion, after
+from conversion import Conversion, after
 from needed_pages import SMALL, Need
 from progress import Progress
 from trace_heaps import Heaps
-from trace_text import (LAST_VERSION, MOST_AGE, MOST_EPOCH, MOST_GUARDED, MOST_HEAPS, MOST_OPERATIONS, MOST_PAGES, MOST_THREADS,
+from trace_text import (LAST_VERSION, MOST_AGE, MOST_EPOCH, MOST_GUARDED, MOST_OPERATIONS, MOST_PAGES, MOST_THREADS,
                         Full, Wanted)
 from whole_file import write_whole
 
 INTERRUPTED, CUT = 130, 3
+TELL_EACH = 20_000
 NANOSECONDS = 1_000_000
 MOST_MILLISECONDS, MOST_RECORDS = 86_400_000, 1 << 40
 

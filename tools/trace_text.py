@@ -78,7 +78,8 @@ class Trace:
         # The times at which the scavenger has something to do. The clock begins with the first record that has a time.
         self.next_tick = self.next_pass = 0
         self.due_at = 1 if wanted.tick_nanoseconds or wanted.pass_nanoseconds else NEVER
-        # The operations of threads and the epoch at the last pass, and the epoch at the last operation before it.
+        # The operations of threads and the epoch at the last pass by the clock, and the epoch at the first one after as many
+        # operations.
         self.passed_at = (-1, 0, 0)
 
     def fixed_of(self, counts: tuple[int, int, int], pages: int) -> int:
@@ -145,26 +146,30 @@ class Trace:
             self.next_tick = nanoseconds + (wanted.tick_nanoseconds or NEVER)
             self.next_pass = nanoseconds + (wanted.pass_nanoseconds or NEVER)
         while self.next_pass <= nanoseconds:
-            self.tick_until(self.next_pass)
+            if self.is_pass_new(self.epoch + self.epochs_until(self.next_pass)):
+                self.tick_until(self.next_pass)
+                self.add("pass", 0, passes=1)
+                done, _, since = self.passed_at
+                self.passed_at = (self.of_threads, self.epoch, since if done == self.of_threads else self.epoch)
             self.next_pass += wanted.pass_nanoseconds
-            self.pass_if_new()
         self.tick_until(nanoseconds)
         self.due_at = min(self.next_tick, self.next_pass)
 
+    def epochs_until(self, nanoseconds: int) -> int:
+        """How many ticks are due."""
+        is_due = self.next_tick <= nanoseconds
+        return (nanoseconds - self.next_tick) // self.wanted.tick_nanoseconds + 1 if is_due else 0
+
     def tick_until(self, nanoseconds: int) -> None:
         """The ticks that are due, as one line."""
-        if self.next_tick <= nanoseconds:
-            epochs = (nanoseconds - self.next_tick) // self.wanted.tick_nanoseconds + 1
+        if epochs := self.epochs_until(nanoseconds):
             self.next_tick += epochs * self.wanted.tick_nanoseconds
             self.tick(epochs)
 
-    def pass_if_new(self) -> None:
-        """A pass, but where no operation came since the one before, and no page that was young then has come of age."""
+    def is_pass_new(self, epoch: int) -> bool:
+        """Not where nobody acted since the last pass, and no page that was too young then has come of age."""
         done, seen, since = self.passed_at
-        if done == self.of_threads and (self.epoch == seen or seen >= since + self.wanted.age):
-            return
-        self.add("pass", 0, passes=1)
-        self.passed_at = (self.of_threads, self.epoch, since if done == self.of_threads else self.epoch)
+        return done != self.of_threads or not (epoch == seen or seen >= since + self.wanted.age)
 
     def ask(self, thread: int, name: int, heap: int, size: int, align: int, room: Room) -> None:
         self.add_of_thread(f"a {thread} {name} {heap} {size} {align}", self.lines_of(room), thread, 1)
