@@ -3,6 +3,7 @@
 from __future__ import annotations
 
 import io
+import re
 from array import array
 from collections.abc import Iterable
 from itertools import islice
@@ -61,7 +62,7 @@ class Columns:
                 total.top = total.now
             self.is_open, self.next = True, last
         if history.line == last:
-            self.states.append(bytes(history.state[:self.pages]))
+            self.states.append(bytes(history.states()[:self.pages]))
             self.asking.append(history.asking)
             for column, total in zip(self.totals, totals):
                 column.append(total.top)
@@ -118,7 +119,8 @@ def replayed(trace: Path, transcript: Path, lines: Lines | None = None) -> tuple
     except Fault as fault:
         raise Fault(f"{transcript}: {fault}") from None
     deeds = sum(b" deed " in line for line in islice(io.BytesIO(text), shown.last))
-    history = History(asked, text.count(b" deed "))
+    names = re.findall(rb" guarded \d+ \d+ name (\d+)\n", text)
+    history = History(asked, text.count(b" deed "), set(map(int, names)))
     columns, progress = Columns(shown, deeds), Progress("lines", end)
     try:
         for at, line in enumerate(io.BytesIO(text)):

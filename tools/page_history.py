@@ -7,7 +7,7 @@ from collections import Counter
 from collections.abc import Callable
 from typing import NamedTuple
 
-from trace_requests import Fault, Request, Trace, shown
+from trace_requests import Fault, Requests, Trace, shown
 from trace_text import PAGE
 
 REFUSALS = (b"no-space", b"held", b"skipped")
@@ -18,6 +18,7 @@ MOST_LINES_KEPT = 6
 # How a page stands: without a deed; with one, but without memory so far; its memory went back; beside a guarded block;
 # empty; and FULL steps of how full it is.
 NO_DEED, NO_MEMORY, WENT_BACK, GUARD, EMPTY, FULL = 0, 1, 2, 3, 4, 16
+STATES = bytes(EMPTY - -live * FULL // PAGE for live in range(PAGE + 1))
 
 
 class Mark(NamedTuple):
@@ -64,7 +65,7 @@ class Page:
             return GUARD
         if self.backs <= self.unbacks:
             return WENT_BACK if self.backs else NO_MEMORY
-        return EMPTY + min(FULL, -(-self.live * FULL // PAGE)) if self.live > 0 else EMPTY
+        return STATES[max(0, min(self.live, PAGE))]
 
 
 class Peak(NamedTuple):
@@ -89,13 +90,13 @@ class History:
     In a transcript of `run` the lines of a phase stand by actor; so a block may end there before it is given, and be
     given before its page has a deed. All is counted so that the state is right again where the phase ends."""
 
-    def __init__(self, trace: Trace, deeds: int) -> None:
-        """Of a transcript with so many deeds."""
-        self.trace = trace
+    def __init__(self, trace: Trace, deeds: int, names_guarded: set[int]) -> None:
+        """Of a transcript with so many deeds, in which requests of these names were guarded."""
+        self.trace, self.names_guarded = trace, names_guarded
         self.pages: dict[int, Page] = {}
-        self.deeds, self.state = 0, bytearray(deeds)
+        self.deeds, self.state, self.changed = 0, bytearray(deeds), set()
         self.marks: list[Mark] = []
-        self.blocks: dict[tuple[bytes, bytes], tuple[int, int, int]] = {}
+        self.blocks: dict[tuple[bytes, bytes], tuple[int, int, list[int]]] = {}
         self.ended_early: set[tuple[bytes, bytes]] = set()
         self.backed, self.room, self.asked = Total(), Total(), Total()
         self.heaps = [[0, 0, 0, 0] for _ in range(trace.heaps)]
@@ -142,9 +143,13 @@ class History:
             self.pages[number] = Page()
         return self.pages[number]
 
-    def show(self, page: Page) -> None:
-        if page.place >= 0:
-            self.state[page.place] = page.state()
+    def states(self) -> bytearray:
+        """How the pages stand, in the order of their deeds."""
+        for page in self.changed:
+            if page.place >= 0:
+                self.state[page.place] = page.state()
+        self.changed.clear()
+        return self.state
 
     def deed(self, words: list[bytes]) -> None:
         page = self.page(int(words[3]))
@@ -154,7 +159,7 @@ class History:
         page.place, self.deeds = self.deeds, self.deeds + 1
         self.heaps[0][0] -= page.backs - page.unbacks
         self.heaps[page.heap][0] += page.backs - page.unbacks
-        self.show(page)
+        self.changed.add(page)
 
     def back(self, words: list[bytes]) -> None:
         page = self.page(int(words[3]))
@@ -163,7 +168,7 @@ class History:
         self.backed.add(1, self.line)
         self.heaps[page.heap][0] += 1
         self.see_peak()
-        self.show(page)
+        self.changed.add(page)
 
     def unback(self, words: list[bytes]) -> None:
         self.leave_peak()
@@ -172,54 +177,58 @@ class History:
         keep(page.unbacked, self.line)
         self.backed.add(-1, self.line)
         self.heaps[page.heap][0] -= 1
-        self.show(page)
+        self.changed.add(page)
 
     def give(self, words: list[bytes]) -> None:
-        request, heap = self.answered(int(words[0])), int(words[8])
-        block, room = (words[2], words[4]), int(words[6])
+        requests, at = self.answered(int(words[0]))
+        block, room, asked, of_heap = (words[2], words[4]), int(words[6]), requests.sizes[at], self.heaps[int(words[8])]
         if block in self.ended_early:
             self.ended_early.remove(block)
-        else:
-            self.blocks[block] = known = room, request.size, heap
-            self.count(block[0], known, 1)
-            self.see_peak()
+            return
+        self.blocks[block] = room, asked, of_heap
+        self.room.add(room, self.line)
+        self.asked.add(asked, self.line)
+        of_heap[1] += room
+        of_heap[2] += asked
+        of_heap[3] += 1
+        self.lies(block[0], room, 1)
+        self.see_peak()
 
     def freed(self, words: list[bytes]) -> None:
         self.leave_peak()
         block = words[2], words[4]
-        known = self.blocks.pop(block, None)
-        if known:
-            self.count(block[0], known, -1)
-        else:
+        if block not in self.blocks:
             self.ended_early.add(block)
+            return
+        room, asked, of_heap = self.blocks.pop(block)
+        self.room.now -= room
+        self.asked.now -= asked
+        of_heap[1] -= room
+        of_heap[2] -= asked
+        of_heap[3] -= 1
+        self.lies(block[0], room, -1)
 
     def kept(self, words: list[bytes]) -> None:
         """A block stands for another size from now on."""
         self.leave_peak()
-        request = self.answered(int(words[0]))
+        requests, at = self.answered(int(words[0]))
         block = words[2], words[4]
         if block in self.blocks:
-            room, asked, heap = self.blocks[block]
-            self.blocks[block] = room, request.size, heap
-            self.asked.add(request.size - asked, self.line)
-            self.heaps[heap][2] += request.size - asked
+            room, asked, of_heap = self.blocks[block]
+            more = requests.sizes[at] - asked
+            self.blocks[block] = room, asked + more, of_heap
+            self.asked.add(more, self.line)
+            of_heap[2] += more
 
-    def count(self, address: bytes, known: tuple[int, int, int], sign: int) -> None:
+    def lies(self, address: bytes, room: int, sign: int) -> None:
         """A block begins to live there, or ends."""
-        room, asked, heap = known
-        of_heap = self.heaps[heap]
-        self.room.add(sign * room, self.line)
-        self.asked.add(sign * asked, self.line)
-        of_heap[1] += sign * room
-        of_heap[2] += sign * asked
-        of_heap[3] += sign
-        first = int(address, 16) // PAGE
+        first, share = int(address, 16) // PAGE, sign * min(room, PAGE)
         for number in range(first, first + (room // PAGE or 1)):
-            page = self.page(number)
-            page.live += sign * (room if room < PAGE else PAGE)
-            if page.live > page.most:
-                page.most = page.live
-            self.show(page)
+            page = self.pages.get(number) or self.page(number)
+            live = page.live = page.live + share
+            if live > page.most:
+                page.most = live
+            self.changed.add(page)
 
     def guarded(self, words: list[bytes]) -> None:
         self.guards.append(self.line)
@@ -227,13 +236,13 @@ class History:
             page = self.page(int(word))
             page.is_guard, page.guards = True, page.guards + 1
             keep(page.guarded, self.line)
-            self.show(page)
+            self.changed.add(page)
 
     def lowered(self, words: list[bytes]) -> None:
         for word in words[2:4]:
             page = self.page(int(word))
             page.is_guard = False
-            self.show(page)
+            self.changed.add(page)
 
     def see_peak(self) -> None:
         """More pages have memory, or more bytes are in blocks."""
@@ -246,13 +255,22 @@ class History:
         if self.is_at_peak:
             self.peak, self.is_at_peak = self.peak._replace(heaps=[list(each) for each in self.heaps]), False
 
-    def answered(self, actor: int) -> Request:
-        """The thread's next request, which its line answers. The keeper of thread k is actor T + k."""
-        requests = self.trace.requests[actor if actor <= self.trace.threads else actor - self.trace.threads]
-        request = requests.next()
-        requests.answered += 1
-        self.asking = request.line
-        return request
+    def next_of(self, actor: int) -> tuple[Requests, bool, int]:
+        """Which request a line of this actor answers, by its place. Those that were guarded are answered by the thread's
+        keeper, which is actor T + k of thread k, and whose lines stand elsewhere in a transcript of `run`."""
+        is_keeper = actor > self.trace.threads
+        requests = self.trace.requests[actor - self.trace.threads if is_keeper else actor]
+        at, names = requests.answered[is_keeper], requests.names
+        if self.names_guarded:
+            while at < len(names) and (names[at] in self.names_guarded) != is_keeper:
+                at += 1
+        return requests, is_keeper, at
+
+    def answered(self, actor: int) -> tuple[Requests, int]:
+        requests, is_keeper, at = self.next_of(actor)
+        self.asking = requests.lines[at]
+        requests.answered[is_keeper] = at + 1
+        return requests, at
 
     def mark(self, words: list[bytes]) -> None:
         """A refusal answers a request; but what a free is skipped for was answered before."""
@@ -263,17 +281,17 @@ class History:
             self.skip(int(words[0]), int(words[3]))
         else:
             page = int(words[2]) if word == b"held" else 0
-            request = self.answered(int(words[0]))
-            if request.name != int(words[-1]):
-                raise KeyError(request.name)
-            more = f" (line {request.line} of the trace, {request.size} bytes)"
+            requests, at = self.answered(int(words[0]))
+            if requests.names[at] != int(words[-1]):
+                raise KeyError(at)
+            more = f" (line {requests.lines[at]} of the trace, {requests.sizes[at]} bytes)"
         text = b" ".join(words).decode(errors="replace") + more
         self.marks.append(Mark(self.line, page if page in self.pages else 0, word in REFUSALS, text))
 
     def skip(self, thread: int, name: int) -> None:
-        requests = self.trace.requests[thread]
-        if requests.answered < len(requests.names) and requests.next().name == name:
-            requests.answered += 1
+        requests, _, at = self.next_of(thread)
+        if at < len(requests.names) and requests.names[at] == name:
+            self.answered(thread)
 
     def outcome(self, words: list[bytes]) -> None:
         page = self.pages.get(int(words[3]))

@@ -8,9 +8,9 @@ const COLOURS = {
   class: [[200, 222, 252], [8, 62, 140]],
   shared: [[200, 238, 200], [10, 96, 40]],
   bitfit: [[255, 224, 176], [176, 82, 0]],
-  large: [[226, 200, 246], [92, 22, 132]],
+  large: [[236, 186, 246], [92, 22, 132]],
 };
-const NO_DEED = [255, 255, 255], NO_MEMORY = [222, 222, 222], WENT_BACK = [120, 120, 120], EMPTY = [255, 246, 130];
+const NO_DEED = [255, 255, 255], NO_MEMORY = [222, 222, 222], WENT_BACK = [135, 135, 135], EMPTY = [255, 246, 130];
 const GUARD = [240, 30, 140], REFUSAL = [208, 0, 0], WRONG = [0, 0, 0];
 const CURVES = [["free on pages with memory", [226, 226, 226]], ["waste: room minus asked", [240, 160, 80]], ["asked for", [60, 120, 180]]];
 const STRIP = [["phases", "#555"], ["ticks", "#287"], ["passes", "#36c"], ["guards", "rgb(240, 30, 140)"]];
@@ -247,7 +247,7 @@ class RunMap {
     this.drawAxis(context);
     this.strip.forEach(([name, colour], at) => this.drawStrip(context, name, colour, this.stripTop + at * ROW));
     if (this.isPageless) write(context, "refused, of no page", LEFT - 8, this.pagelessY + 4, "right");
-    this.drawMarks(context, mark => !mark[OF_PAGE], 0);
+    this.drawMarks(context, mark => !mark[OF_PAGE]);
   }
 
   /* What is free on pages with memory, waste and what was asked for, the greatest of each point's columns. */
@@ -284,7 +284,7 @@ class RunMap {
       context.fillRect(Math.min(Math.round(x), LEFT + width) - 1, bottom, 1, 5);
       write(context, spelled(line), within(x, LEFT, LEFT + width - 10), bottom + 16, "center");
     }
-    write(context, "line", LEFT - 8, bottom + 16, "right");
+    write(context, "line", LEFT - 36, bottom + 16, "right");
   }
 
   drawStrip(context, name, colour, y) {
@@ -311,7 +311,7 @@ class RunMap {
       if (group.end > top && group.y < bottom) this.drawGroup(context, group, columns, top, bottom, begin);
     for (const heading of this.headings)
       if (heading.end > top && heading.y < bottom) this.drawHeading(context, heading, begin);
-    this.drawMarks(context, mark => mark[OF_PAGE], 1, top, bottom);
+    this.drawMarks(context, mark => mark[OF_PAGE], top, bottom);
   }
 
   drawGroup(context, group, columns, top, bottom, begin) {
@@ -360,7 +360,7 @@ class RunMap {
     return [this.x(mark[COLUMN] + .5), mark[OF_PAGE] ? this.placeOfRow(this.rowOf.get(mark[OF_PAGE])) : this.pagelessY];
   }
 
-  drawMarks(context, isHere, _, top = 0, bottom = Infinity) {
+  drawMarks(context, isHere, top = -Infinity, bottom = Infinity) {
     context.strokeStyle = "#fff";
     context.lineWidth = .7;
     for (const mark of this.data.marks) {

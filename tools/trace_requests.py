@@ -19,29 +19,18 @@ class Fault(Exception):
     """Why a file can't be read, with the line."""
 
 
-class Request(NamedTuple):
-    """A line of the trace that asks for a block, or for another size of one."""
-
-    line: int
-    name: int
-    size: int
-
-
 class Requests:
-    """A thread's requests in order, small in memory."""
+    """A thread's requests of blocks, and of other sizes of blocks, in order: of each its line, name and size; and how
+    many the thread and its keeper have answered."""
 
     def __init__(self) -> None:
-        self.lines, self.names, self.sizes, self.whole_pages, self.answered = array("I"), array("I"), array("I"), 0, 0
+        self.lines, self.names, self.sizes = array("I"), array("I"), array("I")
+        self.whole_pages, self.answered = 0, [0, 0]
 
     def add(self, line: int, name: int, size: int) -> None:
         self.lines.append(line)
         self.names.append(name)
         self.sizes.append(size)
-
-    def next(self) -> Request:
-        """The request that is answered next."""
-        at = self.answered
-        return Request(self.lines[at], self.names[at], self.sizes[at])
 
 
 class Trace(NamedTuple):
