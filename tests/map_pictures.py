@@ -11,7 +11,7 @@ sys.path.insert(0, str(ROOT / "tools"))
 from page_section import page_of, section_of
 
 SIZE = 1200, 1200
-COLOURS = {"class": (8, 62, 140), "shared": (10, 96, 40), "bitfit": (176, 82, 0), "large": (92, 22, 132), "empty": (255, 246, 130), "went back": (135, 135, 135)}
+COLOURS = {"class": (8, 62, 140), "shared": (10, 96, 40), "bitfit": (176, 82, 0), "large": (92, 22, 132), "empty": (255, 246, 130), "went back": (120, 120, 120)}
 GUARD = 240, 30, 140
 LEAST_APART = 18
 DRAWN = "document.documentElement.dataset.drawn"
@@ -99,12 +99,12 @@ def column_shown(view, at, width):
 def test_cells(page, what):
     """Points of the picture have the colours of what stands there."""
     view, width, left = page.value(VIEW), page.value("runs[0].width"), page.value("runs[0].map.getBoundingClientRect().left + LEFT")
-    marks = [(x, y) for _, x, y in page.value(MARKS)]
+    marks, head = [(x, y) for _, x, y in page.value(MARKS)], page.value("runs[0].head.getBoundingClientRect().bottom")
     places, points, wanted = page.value(PLACES), [], []
     for row, told in enumerate(page.data["pages"]):
         y = places[str(told[0])][1]
         for at in range(row % 7, width, width // 40):
-            if page.value("runs[0].head.getBoundingClientRect().bottom") + 20 < y < SIZE[1] - 2 and not any(abs(x - left - at) < 9 and abs(mark - y) < 9 for x, mark in marks):
+            if head + 20 < y < SIZE[1] - 2 and not any(abs(x - left - at) < 9 and abs(mark - y) < 9 for x, mark in marks):
                 points.append((left + at + .5, y))
                 state = page.data["cells"][row * page.data["columns"] + column_shown(view, at, width)]
                 wanted.append((told[2], state))
@@ -176,7 +176,7 @@ def test_words(page):
     """The summary, the table and the legend say what the data say; no colour has the name of another."""
     data, told = page.data, page.value("document.querySelector('.summary').textContent")
     peak = data["peak"]
-    check(f"Peak: {peak['pages']} pages with memory" in told and f"at line {peak['line']:,}," in told, f"the peak: {told}")
+    check(f"Peak: {peak['pages']:,} page{'s' * (peak['pages'] != 1)} with memory" in told and f"at line {peak['line']:,}," in told, f"the peak: {told}")
     rows = page.value("[...document.querySelectorAll('tbody tr')].map(row => [...row.cells].map(cell => cell.textContent))")
     wanted = [[f"heap {heap}", data["named"].get(str(heap), ""), *(f"{each:,}" for each in (deeds, pages, blocks, room, asked))]
               for heap, deeds, pages, room, asked, blocks in data["heaps"]]
@@ -226,8 +226,7 @@ def test_colours(page):
     ramps |= {name: [page.value(name)] for name in ("NO_DEED", "NO_MEMORY", "WENT_BACK", "EMPTY", "GUARD")}
     for one in ramps:
         for other in ramps:
-            ends = [ramp if len(ramp) == 1 or "class" in (one, other) and {one, other} <= set(kinds) else ramp for ramp in (ramps[one], ramps[other])]
-            apart = min(sum((a - b) ** 2 for a, b in zip(lightness(first), lightness(second))) ** .5 for first in ends[0] for second in ends[1])
+            apart = min(sum((a - b) ** 2 for a, b in zip(lightness(first), lightness(second))) ** .5 for first in ramps[one] for second in ramps[other])
             check(one == other or apart >= LEAST_APART, f"{one} and {other} are only {apart:.0f} apart")
     return sum(colours.values())
 

@@ -35,6 +35,8 @@ from map_reading import EARLY, MOVES, PAGE, REFUSALS, WRONG_FREES, Reading, guar
 from storm import storm
 
 MOST_SECONDS, MOST_BYTES, MOST_COLUMNS = 300, 3_000_000, 4000
+# An interrupt that comes just before a read isn't seen by it, so another one is sent after so many seconds.
+BETWEEN = 10
 TOOL = ROOT / "tools/page_map.py"
 
 
@@ -212,16 +214,19 @@ def test_whole_files(room, case):
 
 
 def test_interrupt(room, case):
-    """An interrupt while it reads: nothing is said and nothing left."""
+    """An interrupt while it waits for its transcript: nothing is said and nothing left."""
     pipe, into = room / "pipe", room / "interrupted.html"
     os.mkfifo(pipe)
     child = subprocess.Popen([sys.executable, str(TOOL), str(case.trace), str(pipe), "-o", str(into)], stdout=subprocess.PIPE, stderr=subprocess.PIPE,
                              preexec_fn=lambda: signal.signal(signal.SIGINT, signal.SIG_DFL))
-    with pipe.open("wb") as end:
-        end.write(case.transcript.read_bytes())
-        end.flush()
-        child.send_signal(signal.SIGINT)
-        said = child.communicate(timeout=MOST_SECONDS)
+    with pipe.open("wb"):
+        while child.poll() is None:
+            child.send_signal(signal.SIGINT)
+            try:
+                child.wait(BETWEEN)
+            except subprocess.TimeoutExpired:
+                pass
+        said = child.communicate()
     check(child.returncode == 130 and said == (b"", b"") and not into.exists(), f"an interrupt: {child.returncode}, {said}")
     terminal = logs.told_on_terminal([sys.executable, str(TOOL), str(case.trace), str(case.transcript), "-o", str(into)])
     check("pages" in terminal.splitlines()[-1] and into.exists(), f"on a terminal: {terminal!r}")

@@ -10,7 +10,7 @@ const COLOURS = {
   bitfit: [[255, 224, 176], [176, 82, 0]],
   large: [[236, 186, 246], [92, 22, 132]],
 };
-const NO_DEED = [255, 255, 255], NO_MEMORY = [222, 222, 222], WENT_BACK = [135, 135, 135], EMPTY = [255, 246, 130];
+const NO_DEED = [255, 255, 255], NO_MEMORY = [196, 196, 196], WENT_BACK = [120, 120, 120], EMPTY = [255, 246, 130];
 const GUARD = [240, 30, 140], REFUSAL = [208, 0, 0], WRONG = [0, 0, 0];
 const CURVES = [["free on pages with memory", [226, 226, 226]], ["waste: room minus asked", [240, 160, 80]], ["asked for", [60, 120, 180]]];
 const STRIP = [["phases", "#555"], ["ticks", "#287"], ["passes", "#36c"], ["guards", "rgb(240, 30, 140)"]];
