@@ -2,19 +2,23 @@
 """tests/page_map.py PROGRAM [--into PICTURE] [--operations N]
 
 Tests tools/page_map.py with the program `pas`. The pages of HTML of all examples without a fault, of waves of requests and frees with refusals, wrong
-frees, ticks and passes, and of a storm of threads, say of each page and column what a second reading of the transcript says; at the end they agree
-with the report; each refusal and each wrong free is a mark. They fetch nothing, and for a trace of N operations (a million) stay below 5 MB. What is
-no trace or no transcript of it is refused, with its line. A real browser opens the pages, the largest in two seconds; a pointer over a page of the
-region reads that page's line of the report, and one over a mark the mark's; and the picture has the colours of each kind of page. With --into the
+frees, ticks and passes, of guarded blocks, and of a storm of threads, say of each page and column what a second reading of the transcript says: how
+the pages stand, the greatest totals of a column, the peak with its line and what each heap had then, the guards that were due and raised; at the end
+they agree with the report, and each refusal and each wrong free is a mark. A range of lines has the same pages in finer columns. They fetch nothing,
+and for a trace of N operations (a million) on more than 10,000 pages stay below 3 MB. What is no trace or no transcript of it is refused, with its line
+once; an interrupt ends quietly, and a full disk leaves no part of a file. A real browser opens the pages (tests/map_pictures.py); with --into the
 picture of the waves is kept. Without a browser that part is skipped, and said to be. Prints what was checked; the status is 1 where something was
 wrong."""
 
 import argparse
 import base64
 import json
+import os
 import pathlib
 import random
 import re
+import resource
+import signal
 import subprocess
 import sys
 import tempfile
@@ -23,112 +27,22 @@ import zlib
 from html.parser import HTMLParser
 
 sys.dont_write_bytecode = True
-from browser import Browser, BrowserFault, find_browser
+import logs
+import map_pictures
+from browser import BrowserFault, find_browser
+from logs import ROOT, check, end_checks
+from map_reading import EARLY, MOVES, PAGE, REFUSALS, WRONG_FREES, Reading, guarded, many, one_block, waves
 from storm import storm
 
-MOST_SECONDS, MOST_BYTES, MOST_OPENING = 100, 5_000_000, 2.0
-ROOT = pathlib.Path(__file__).resolve().parent.parent
+MOST_SECONDS, MOST_BYTES, MOST_COLUMNS = 300, 3_000_000, 4000
+# An interrupt that comes just before a read isn't seen by it, so another one is sent after so many seconds.
+BETWEEN = 10
 TOOL = ROOT / "tools/page_map.py"
-REFUSALS, WRONG_FREES = ("no-space", "held", "skipped"), ("ended", "no-block", "size-differs", "outside", "unaligned")
-COLOURS = {"class": (8, 62, 140), "shared": (10, 96, 40), "bitfit": (176, 82, 0), "large": (92, 22, 132), "empty": (255, 246, 150), "went back": (246, 190, 198)}
-SIZE = 1200, 1200
-
-checks, wrong = 0, []
 
 
-def check(is_right, what):
-    """Counts a check, and says what is wrong."""
-    global checks
-    checks += 1
-    if not is_right:
-        wrong.append(what)
-        print(f"WRONG: {what}", flush=True)
-
-
-def waves(rng):
-    """Requests of all kinds that come and go in five waves of two threads, on a region that is too small for the highest; after each, ticks and
-    passes. Some frees are wrong."""
-    lines, live, name, epoch = ["pas 1 pages 220 threads 2 heaps 3 age 2", "# heap 0: the first of three", "shared 2"], [], 0, 0
-    for height in (60, 420, 200, 900, 120):
-        for _ in range(height):
-            name += 1
-            size = rng.choice([24, 48, 64, 100, 200, 320, 512, 512, 700, 900, 1500, 2000, 5000, 9000])
-            lines.append(f"a {1 + name % 2} {name} {rng.randrange(2) if size > 512 else rng.randrange(3)} {size} {16 << (name % 3)}")
-            live.append(name)
-        lines.append("phase")
-        rng.shuffle(live)
-        while len(live) > height // 9:
-            lines.append(f"f {1 + len(live) % 2} {live.pop()}")
-        lines += ["r 1 0x00001000 0", "r 2 0x00001000 99", "r 1 0x00000010 0", "r 2 0x00001008 0", "stop 1", "stop 2"]
-        for _ in range(3):
-            epoch += 1
-            lines += [f"tick {epoch}", "pass"]
-        lines.append("phase")
-    return "\n".join(lines) + "\n"
-
-
-def many(rng, operations):
-    """A trace of one thread that keeps a few thousand blocks of all sizes, for a transcript that is long and pages that change often."""
-    lines, live, sizes = ["pas 1 pages 4096 threads 1 heaps 4 age 2"], [], [16, 40, 64, 130, 300, 512, 700, 1300, 2000]
-    for number in range(1, operations + 1):
-        if len(live) < 12000 and (not live or rng.random() < 0.52):
-            lines.append(f"a 1 {number} {number & 3} {rng.choice(sizes)} 16")
-            live.append(number)
-        else:
-            at = rng.randrange(len(live))
-            live[at], live[-1] = live[-1], live[at]
-            lines.append(f"f 1 {live.pop()}")
-    return "\n".join(lines) + "\n"
-
-
-# A transcript of `run` in which a block ends before it is given, and its page is given before it has a deed, by the order of its lines.
-EARLY = """pas 1 pages 2 threads 3 heaps 1 age 2
-a 2 1 0 24 16
-a 3 2 0 24 16
-r 1 0x00001020 0
-flush 1
-""", """1 freed 0x00001020 turn 0 epoch 0
-2 give 0x00001020 turn 0 room 32 heap 0
-3 deed page 1 heap 0 class 32
-3 back page 1
-3 give 0x00001000 turn 0 room 32 heap 0
-close
-report
-page 1 heap 0 class 32 live 1 free 254 stamp 0 marks backed+offered
-total deeds 1 backed 1 live 1 given 2 ended 1
-"""
-
-
-# Lines of version 4: a block that is kept for another size, one that moves, and two moves that are refused.
-MOVES = """pas 4 pages 2 threads 1 heaps 1 age 2
-a 1 1 0 24 16
-m 1 2 1 32 16
-m 1 3 2 33 16
-m 1 4 3 64 16
-m 1 5 4 16 16
-f 1 3
-""", """1 deed page 1 heap 0 class 32
-1 back page 1
-1 give 0x00001000 turn 0 room 32 heap 0
-1 kept 0x00001000 turn 0 name 2
-1 deed page 2 heap 0 class 48
-1 back page 2
-1 give 0x00002000 turn 0 room 48 heap 0
-1 no-space name 4
-1 skipped name 5
-close
-1 freed 0x00001000 turn 0 epoch 0
-1 freed 0x00002000 turn 0 epoch 0
-report
-page 1 heap 0 class 32 live 0 free 256 stamp 0 marks backed+offered+hinted
-page 2 heap 0 class 48 live 0 free 256 stamp 0 marks backed+offered+hinted
-total deeds 2 backed 2 live 0 given 2 ended 2
-"""
-
-
-def tool(*words):
+def tool(*words, **more):
     return subprocess.run([sys.executable, str(TOOL), *map(str, words)], stdin=subprocess.DEVNULL, stdout=subprocess.PIPE, stderr=subprocess.PIPE, text=True,
-                          timeout=MOST_SECONDS)
+                          timeout=MOST_SECONDS, **more)
 
 
 class Tags(HTMLParser):
@@ -143,81 +57,87 @@ class Tags(HTMLParser):
         self.fetched += [value for key, value in attributes if key in ("src", "href", "srcset", "data", "action")]
 
 
+def data_of(text):
+    """The data of each run on a page."""
+    found = [json.loads(each) for each in re.findall(r'<script type="application/json">(.*)</script>', text)]
+    for data in found:
+        data["cells"], much = (zlib.decompress(base64.b64decode(data[each])) for each in ("cells", "told"))
+        data.update(json.loads(much))
+    return found
+
+
 class Case:
     """A trace, its transcript, and the page of HTML that the tool made of them."""
 
-    def __init__(self, room, name, trace, transcript):
-        self.name, self.lines = name, transcript.splitlines()
+    def __init__(self, room, name, trace, transcript, *options):
+        self.name, self.lines, self.text = name, transcript.splitlines(), trace
         self.path, self.trace, self.transcript = room / f"{name}.html", room / f"{name}.trace", room / f"{name}.transcript"
         self.trace.write_text(trace)
         self.transcript.write_text(transcript)
-        made = tool(self.trace, self.transcript, "-o", self.path)
+        made = tool(self.trace, self.transcript, "-o", self.path, *options)
         check(made.returncode == 0, f"{name}: {made.stderr}")
         text = self.path.read_text()
         self.bytes = len(text.encode())
         tags = Tags()
         tags.feed(text)
-        check(tags.tags.count("script") == 1 and not tags.fetched and text.endswith("</html>\n"), f"{name}: {tags.fetched} or no whole page")
-        check(not re.search(r"https?://(?!www\.w3\.org/2000/svg)|@import|url\(", text), f"{name}: it names another place")
-        self.data = json.loads(re.search(r"^const data = (\{.*\});$", text, re.M)[1])
-        self.cells, told = (zlib.decompress(base64.b64decode(self.data[each])) for each in ("cells", "told"))
-        self.data |= json.loads(told)
+        check(tags.tags.count("script") == 2 and not tags.fetched and text.endswith("</html>\n"), f"{name}: {tags.fetched} or no whole page")
+        check(not re.search(r"https?://|@import|url\(", text), f"{name}: it names another place")
+        self.data, = data_of(text)
         self.end = len(self.lines) - 1 - self.lines[::-1].index("report")
 
-    def cell(self, row, column):
-        return self.cells[row * self.data["columns"] + column]
+    def cells(self, column):
+        """How the pages stand in this column."""
+        return list(self.data["cells"][column::self.data["columns"]])
 
 
-def state_of(events, page, blocks):
-    """How a page stands after these of its events and with these blocks: 0 without a deed, 1 without memory so far, 2 where it went back, 3 empty,
-    and then how many sixteenths are full, rounded up."""
-    live = sum(min(room, 4096) for address, room in blocks if address // 4096 <= page < address // 4096 + max(1, room // 4096))
-    if "deed" not in events:
-        return 0
-    if events[-1] != "back":
-        return 2 if "back" in events else 1
-    return 3 + min(16, -(-live * 16 // 4096))
-
-
-def blocks_after(lines):
-    """The blocks that live after these lines."""
-    blocks = {}
-    for words in map(str.split, lines):
-        if words[1:2] == ["give"]:
-            blocks[words[2], words[4]] = int(words[2], 16), int(words[6])
-        elif words[1:2] == ["freed"]:
-            del blocks[words[2], words[4]]
-    return list(blocks.values())
-
-
-def test_cells(case, columns):
-    """Each of the columns has what the lines up to it say, and so have its totals."""
-    data = case.data
-    for column in columns:
-        before = case.lines[:(column + 1) * data["lines"] // data["columns"]]
-        blocks, events = blocks_after(before), {page[0]: [] for page in data["pages"]}
-        for words in map(str.split, before):
-            if words[1:2] in (["deed"], ["back"], ["unback"]):
-                events[int(words[3])].append(words[1])
-        backed = sum(each[-1:] == ["back"] for each in events.values())
-        wanted = [state_of(events[page[0]], page[0], blocks) for page in data["pages"]]
-        check([case.cell(row, column) for row in range(len(wanted))] == wanted, f"{case.name}: column {column}")
-        check(data["totals"][column][:2] == [4096 * backed, sum(room for _, room in blocks)], f"{case.name}: totals of column {column}: {data['totals'][column]}")
+def test_columns(case, each):
+    """Columns have the pages after their last line and the greatest totals after a line of them; a part of the columns is read page by page. The peak
+    and the heaps of the peak are those of the second reading."""
+    data, reading, column, totals, peak, heaps = case.data, Reading(case.text), 0, [], (0, 0), []
+    first, last, greatest = data["first"], data["last"], [(0, 0)] * 3
+    for number, line in enumerate(case.lines[:case.end], 1):
+        reading.read(line)
+        now = reading.totals()
+        greatest = [max((total, -number), before) for total, before in zip(now, greatest)]
+        if now[:2] > peak:
+            peak, heaps = now[:2], [number, now[2], reading.heaps()]
+        if not first <= number <= last:
+            continue
+        totals.append(now)
+        if number == first - 1 + (column + 1) * (last - first + 1) // data["columns"]:
+            wanted = [max(total) for total in zip(*totals)]
+            check([total[column] for total in data["totals"]] == wanted, f"{case.name}: totals of column {column}, and not {wanted}")
+            if column % each == 0:
+                check(case.cells(column) == [reading.state(page[0]) for page in data["pages"]], f"{case.name}: column {column}")
+            column, totals = column + 1, []
+    check(column == data["columns"], f"{case.name}: {column} columns, and not {data['columns']}")
+    check(data["most"] == [[total, -line] for total, line in greatest], f"{case.name}: the greatest: {data['most']}, and not {greatest}")
+    told, had = data["peak"], {heap: rest for heap, *rest in heaps[2] if any(rest)}
+    check([told["line"], told["asked"]] == heaps[:2] and (told["pages"] * PAGE, told["room"]) == peak, f"{case.name}: peak {told}, and not {peak} {heaps}")
+    check({heap: rest for heap, _, *rest in data["heaps"] if any(rest)} == had, f"{case.name}: heaps {data['heaps']}, and not {had}")
+    check(data["guards"] == [reading.raised, reading.due], f"{case.name}: guards {data['guards']}, and not {reading.raised} of {reading.due}")
 
 
 def test_end(case):
     """The last column is what the report says; all pages, refusals and wrong frees are there."""
     data, report = case.data, [line.split() for line in case.lines[case.end + 1:-1]]
-    at = {page[0]: row for row, page in enumerate(data["pages"])}
+    at, cells = {page[0]: row for row, page in enumerate(data["pages"])}, case.cells(data["columns"] - 1)
     check(sorted(at) == [int(words[1]) for words in report], f"{case.name}: pages {sorted(at)}")
     for words in report:
-        page, state = data["pages"][at[int(words[1])]], case.cell(at[int(words[1])], data["columns"] - 1)
+        page, state = data["pages"][at[int(words[1])]], cells[at[int(words[1])]]
         live, free = int(words[words.index("live") + 1]), int(words[words.index("free") + 1])
-        is_right = (state >= 3) == ("backed" in words[-1]) and (live == 0 or state > 3) and (free < 256 or state <= 3)
+        is_right = (state >= 4) == ("backed" in words[-1]) and (live == 0 or state > 4) and (free < 256 or state <= 4)
         check(is_right and page[-1] == " ".join(words) and str(page[1]) == words[3] and page[2] == " ".join(words[4:words.index("live")]), f"{case.name}: state {state}, {page}")
+    deeds = {heap: sum(words[3] == str(heap) for words in report) for heap, *_ in data["heaps"]}
+    check(sum(deeds.values()) == len(report) and all(deeds[heap] == number > 0 for heap, number, *_ in data["heaps"]), f"{case.name}: deeds {data['heaps']}")
     total = case.lines[-1].split()
-    check(data["total"] == case.lines[-1] and data["totals"][-1][0] == 4096 * int(total[total.index("backed") + 1]), f"{case.name}: {data['total']}")
-    seconds = [line.split(" ", 2)[1] for line in case.lines[:case.end] if line != "close"]
+    check(data["total"] == case.lines[-1] and data["totals"][0][-1] >= PAGE * int(total[total.index("backed") + 1]), f"{case.name}: {data['total']}")
+    check(data["columns"] == min(case.end, MOST_COLUMNS, max(250, 5_000_000 // max(1, len(report)))), f"{case.name}: {data['columns']} columns")
+
+
+def test_marks(case):
+    """Each refusal and each wrong free is a mark, where they aren't too many; each mark has the text of its line."""
+    data, seconds = case.data, [line.split(" ", 2)[1] for line in case.lines[:case.end] if line != "close"]
     said = [sum(second in words for second in seconds) for words in (REFUSALS, WRONG_FREES)]
     check(data["allMarks"] == said and len(data["marks"]) == min(sum(said), len(data["marks"])), f"{case.name}: marks {data['allMarks']}, and not {said}")
     for line, column, _, _, count, text in data["marks"]:
@@ -226,109 +146,120 @@ def test_end(case):
         check(len(data["marks"]) == sum(said), f"{case.name}: {len(data['marks'])} marks")
 
 
-def test_waste(case):
-    """What was asked for, summed up by hand for a trace of one thread."""
-    sizes = [int(line.split()[4]) for line in case.trace.read_text().splitlines() if line.startswith("a ")]
-    asked, live, sizes = 0, {}, iter(sizes)
-    for words in map(str.split, case.lines[:case.end]):
-        if words[1:2] == ["freed"]:
-            asked -= live.pop((words[2], words[4]))
-        elif words[1:2] in (["give"], ["no-space"], ["held"]):
-            size = next(sizes)
-            if words[1] == "give":
-                live[words[2], words[4]] = size
-                asked += size
-    check(case.data["totals"][-1][2] == asked, f"{case.name}: asked for {case.data['totals'][-1][2]}, and not {asked}")
+def test_ranges(room, case):
+    """A part of a transcript: a column for each of its lines, with the same pages as in the whole, and those of the end without a bound."""
+    end, text = case.end, "\n".join(case.lines) + "\n"
+    for word, first, last in (("101..400", 101, 400), (f"{end - 50}..", end - 50, end), ("..7", 1, 7), (f"{end}..999999999", end, end)):
+        part = Case(room, f"{case.name} {first}", case.text, text, "--lines", word)
+        check([part.data[each] for each in ("first", "last", "columns", "lines")] == [first, last, last - first + 1, end], f"{word}: {part.data['first']}")
+        check(part.data["peak"] == case.data["peak"] and part.data["heaps"] == case.data["heaps"], f"{word}: another peak")
+        test_columns(part, 1)
+    for word, said in (("9..3", "ends before it begins"), ("3", "no range of lines"), ("..", "no range"), ("0..4", "no range"), ("a..b", "no range")):
+        made = tool(case.trace, case.transcript, "-o", room / "x.html", "--lines", word)
+        check(made.returncode == 2 and said in made.stderr and not (room / "x.html").exists(), f"--lines {word}: {made.stderr}")
+    made = tool(case.trace, case.transcript, "-o", room / "x.html", "--lines", f"{end + 1}..")
+    check(made.returncode == 1 and f"there is no line {end + 1:,}" in made.stderr and not (room / "x.html").exists(), f"beyond the end: {made.stderr}")
+    print("4 ranges of lines, 6 refused")
 
 
 def test_refusals(room):
     """What is no trace and no transcript."""
     (room / "t").write_text("pas 1 pages 4 threads 1 heaps 1 age 2\na 1 1 0 24 16\n")
     (room / "no").write_text("something\n")
+    (room / "bytes").write_bytes(b"close\nrep\xd0\x00rt\n")
     end = "close\nreport\ntotal deeds 0 backed 0 live 0 given 0 ended 0\n"
     transcripts = {
         "": "line 0: the transcript ends without a report", "line 2: BadSize\n": "the program found a fault in the trace: line 2: BadSize",
         "1 back page 1\n": "line 1: the transcript ends without a report", "1 jump page 1\n" + end: "line 1: no line of a transcript of this trace: 1 jump page 1",
         "1 back page 9\n" + end: "line 1: no line", "1 no-space name 2\n" + end: "line 1: no line", "1 no-space name 1\n1 no-space name 1\n" + end: "line 2: no line",
-        "close\nreport\npages\n": "line 3: no line of a report",
+        "1 deed page 1 heap 0 class 32\n" * 2 + end: "line 2: no line", "close\nreport\npages\n": "line 3: no line of a report: pages",
+        "close\nreport\n": "line 2: the report ends without its totals",
     }
     for text, said in transcripts.items():
         (room / "s").write_text(text)
         made = tool(room / "t", room / "s", "-o", room / "x.html")
-        check(made.returncode == 1 and said in made.stderr and not (room / "x.html").exists(), f"{text!r}: {made.stderr}")
-    for words, said in (((room / "no", room / "s"), "no: line 1: no header of a trace"), ((room / "none", room / "s"), "No such file"), ((room / "t", room / "none"), "No such file")):
-        made = tool(*words, "-o", room / "x.html")
-        check(made.returncode == 1 and said in made.stderr, f"{words}: {made.stderr}")
+        check(made.returncode == 1 and f"{room / 's'}: {said}" in made.stderr and not (room / "x.html").exists(), f"{text!r}: {made.stderr}")
+        check(len(re.findall(r"line \d", made.stderr)) == len(re.findall(r"line \d", said)), f"{text!r}: the line twice: {made.stderr}")
+    (room / "s").write_text(end)
+    files = (("no", "s", "no: line 1: no header of a trace"), ("none", "s", "none: No such file"), ("t", "none", "none: No such file"), (".", "s", ": Is a directory"),
+             ("t", ".", ": Is a directory"), ("bytes", "s", "bytes: line 1: no header"), ("t", "bytes", "bytes: line 2: it is no text"))
+    for trace, transcript, said in files:
+        made = tool(room / trace, room / transcript, "-o", room / "x.html")
+        check(made.returncode == 1 and said in made.stderr and made.stderr.count("\n") == 1 and not (room / "x.html").exists(), f"{trace}, {transcript}: {made.stderr}")
     check("usage:" in tool("--help").stdout, "no help")
-    print(f"{len(transcripts) + 3} refusals, one help")
+    print(f"{len(transcripts) + len(files)} refusals, one help")
 
 
-def test_in_browser(program, cases, into):
-    """Opens each page; points at its pages and marks; keeps the picture of the waves."""
-    with Browser(program, *SIZE) as browser:
-        for case in cases:
-            seconds = min(browser.open(case.path, "document.documentElement.dataset.drawn") for _ in range(2))
-            check(seconds < MOST_OPENING, f"{case.name}: {seconds:.2f} seconds to open")
-            check(not browser.faults(), f"{case.name}: {browser.faults()}")
-            if case is cases[-1]:
-                print(f"{case.name}: {case.bytes / 1e6:.2f} MB, open in {seconds:.2f} seconds")
-            point_at_pages(browser, case)
-            point_at_marks(browser, case)
-        case = next(case for case in cases if case.name == "waves")
-        browser.open(case.path, "document.documentElement.dataset.drawn")
-        point_at_pages(browser, case, [len(case.data["pages"]) // 3])
-        if into:
-            into.write_bytes(browser.picture())
-        colours = browser.value(COLOURS_OF % base64.b64encode(browser.picture(browser.value(BOX))).decode())
-    for what, colour in COLOURS.items():
-        points = colours.get(",".join(map(str, colour)), 0)
-        check(points > 200, f"the map's picture has {points} points of the colour of {what}")
-    print(f"{len(cases)} pages in a real browser; a picture of {sum(colours.values()):,} points" + (f"; the window's is kept as {into.name}" if into else ""))
+def test_whole_files(room, case):
+    """Where the disk is full no part of the page is left, and what stood there before is; a device is written as it is."""
+    def least():
+        resource.setrlimit(resource.RLIMIT_FSIZE, (20_000, 20_000))
+
+    into = room / "whole.html"
+    for before in (None, "as before"):
+        if before:
+            into.write_text(before)
+        made = tool(case.trace, case.transcript, "-o", into, preexec_fn=least)
+        check(made.returncode == 1 and "whole.html: File too large" in made.stderr, f"a full disk: {made.returncode} {made.stderr}")
+        check((into.read_text() if into.exists() else None) == before and not list(room.glob(".whole*")), f"a full disk leaves {list(room.glob('*whole*'))}")
+    into.chmod(0o640)
+    check(tool(case.trace, case.transcript, "-o", into).returncode == 0 and into.read_text() == case.path.read_text(), "another page the second time")
+    check(into.stat().st_mode & 0o777 == 0o640, "the file has other rights")
+    for device, status, said in (("/dev/null", 0, "pages"), ("/dev/full", 1, "No space left")):
+        made = tool(case.trace, case.transcript, "-o", device)
+        check(made.returncode == status and said in made.stderr and pathlib.Path(device).is_char_device(), f"{device}: {made.returncode} {made.stderr}")
+    made = tool(case.trace, case.transcript, "-o", room / "none" / "x.html")
+    check(made.returncode == 1 and "No such file" in made.stderr, f"a folder that isn't there: {made.stderr}")
+    print("full disks, devices")
 
 
-BOX = "(() => { const { x, y, width, height } = document.querySelector('canvas').getBoundingClientRect(); return { x, y, width, height, scale: 1 }; })()"
-COLOURS_OF = """(async () => {
-  const image = await createImageBitmap(await (await fetch("data:image/png;base64,%s")).blob()), colours = {};
-  const context = Object.assign(document.createElement("canvas"), { width: image.width, height: image.height }).getContext("2d");
-  context.drawImage(image, 0, 0);
-  const points = context.getImageData(0, 0, image.width, image.height).data;
-  for (let at = 0; at < points.length; at += 4) {
-    const colour = points.slice(at, at + 3).join();
-    colours[colour] = (colours[colour] || 0) + 1;
-  }
-  return colours;
-})()"""
-PLACES = """(() => {
-  const box = document.querySelector("canvas").getBoundingClientRect(), places = {};
-  for (const group of groupsOf().groups)
-    for (let row = 0; row < group.rows; row++)
-      places[data.pages[group.first + row][0]] = [box.left + box.width * 0.4, box.top + group.y + (row + .5) * group.height];
-  return places;
-})()"""
-MARKS = """data.marks.map(mark => {
-  const box = document.getElementById(mark.onStrip ? "strip" : "map").getBoundingClientRect();
-  return [mark[0], box.left + mark.x, box.top + mark.y];
-})"""
-TIP = "document.getElementById('tip').textContent"
+def test_interrupt(room, case):
+    """An interrupt while it waits for its transcript: nothing is said and nothing left."""
+    pipe, into = room / "pipe", room / "interrupted.html"
+    os.mkfifo(pipe)
+    child = subprocess.Popen([sys.executable, str(TOOL), str(case.trace), str(pipe), "-o", str(into)], stdout=subprocess.PIPE, stderr=subprocess.PIPE,
+                             preexec_fn=lambda: signal.signal(signal.SIGINT, signal.SIG_DFL))
+    with pipe.open("wb"):
+        while child.poll() is None:
+            child.send_signal(signal.SIGINT)
+            try:
+                child.wait(BETWEEN)
+            except subprocess.TimeoutExpired:
+                pass
+        said = child.communicate()
+    check(child.returncode == 130 and said == (b"", b"") and not into.exists(), f"an interrupt: {child.returncode}, {said}")
+    terminal = logs.told_on_terminal([sys.executable, str(TOOL), str(case.trace), str(case.transcript), "-o", str(into)])
+    check("pages" in terminal.splitlines()[-1] and into.exists(), f"on a terminal: {terminal!r}")
+    print("an interrupt, a terminal")
 
 
-def point_at_pages(browser, case, rows=None):
-    """The pointer over a page tells its line of the report."""
-    pages, places = case.data["pages"], browser.value(PLACES)
-    for row in rows or sorted({0, len(pages) // 2, len(pages) - 1} - {-1}):
-        x, y = places[str(pages[row][0])]
-        if y < SIZE[1] - 10:
-            browser.point_at(x, y)
-            check(f"report: {pages[row][-1]}" in browser.value(TIP), f"{case.name}: page {pages[row][0]}: {browser.value(TIP)}")
+def cases_of(room, program, rng, operations):
+    """All pages: of the examples, of waves, guards and storms, of transcripts written by hand, and of many operations."""
+    def replayed(word, text):
+        run = subprocess.run([program, word], input=text, stdout=subprocess.PIPE, text=True, timeout=MOST_SECONDS)
+        check(run.returncode == 0, f"{word}: status {run.returncode}: {run.stdout[:80]}")
+        return run.stdout
 
-
-def point_at_marks(browser, case):
-    """The pointer over a mark tells its line, if no more than four are as near."""
-    for line, x, y in browser.value(MARKS)[:6]:
-        if y < SIZE[1] - 10:
-            browser.point_at(x, y)
-            said = browser.value(TIP)
-            check(f"line {line}: {case.lines[line - 1]}" in said or said.count("line ") > 3, f"{case.name}: the mark of line {line}: {said}")
+    found = [(trace.stem, trace.read_text(), trace.with_suffix(".transcript").read_text()) for trace in sorted((ROOT / "examples").glob("*.trace"))]
+    cases = [Case(room, *each) for each in found if not each[2].startswith("line ")]
+    wave, guards, stormy, long, block = waves(rng), guarded(rng), storm(rng, 20000, 20), many(rng, operations), one_block(3000)
+    cases += [Case(room, name, text, replayed("order", text)) for name, text in (("waves", wave), ("guarded", guards), ("one-block", block))]
+    cases.append(Case(room, "moves", *MOVES))
+    for case in cases:
+        test_columns(case, 50 if case.data["columns"] > 1000 else 1)
+    print(f"{len(cases)} transcripts of `order`, column for column")
+    check(sum(case.data["guards"][0] for case in cases) > 30 and cases[-3].data["guards"][0] < cases[-3].data["guards"][1], "no guards, or none that finds no place")
+    early = Case(room, "early", *EARLY)
+    check([total[-1] for total in early.data["totals"]] == [PAGE, 32, 24] and early.cells(5) == [5], f"early: {early.data['totals']}")
+    check(early.data["heaps"] == [[1, 1, 1, 32, 24, 1]], f"early: heaps {early.data['heaps']}")
+    of_run = [Case(room, name, text, replayed("run", text)) for name, text in (("waves-of-run", wave), ("storm-of-run", stormy), ("guarded-of-run", guards))]
+    check([case.data["byActor"] for case in [*cases, early, *of_run]] == [False] * len(cases) + [True] * 4, "which of them are of `run`")
+    began = time.monotonic()
+    last = Case(room, "many", long, replayed("order", long))
+    check(last.bytes < MOST_BYTES, f"{last.bytes} bytes")
+    print(f"{operations:,} operations: {last.data['lines']:,} lines, {len(last.data['pages']):,} pages, {last.bytes / 1e6:.2f} MB of HTML, "
+          f"{time.monotonic() - began:.0f} seconds with its replay")
+    return [*cases, early, *of_run, last]
 
 
 def main():
@@ -337,53 +268,26 @@ def main():
     parser.add_argument("--into", type=pathlib.Path)
     parser.add_argument("--operations", type=int, default=1_000_000)
     options = parser.parse_args()
-    program, rng = str(pathlib.Path(options.program).resolve()), random.Random(7)
-
-    def replayed(word, text):
-        run = subprocess.run([program, word], input=text, stdout=subprocess.PIPE, text=True, timeout=MOST_SECONDS)
-        check(run.returncode == 0, f"{word}: status {run.returncode}: {run.stdout[:80]}")
-        return run.stdout
-
     with tempfile.TemporaryDirectory() as room:
         room = pathlib.Path(room)
-        cases = []
-        for trace in sorted((ROOT / "examples").glob("*.trace")):
-            transcript = trace.with_suffix(".transcript").read_text()
-            if not transcript.startswith("line "):
-                cases.append(Case(room, trace.stem, trace.read_text(), transcript))
-        for case in cases:
-            test_cells(case, range(case.data["columns"]))
-        wave = waves(rng)
-        cases.append(Case(room, "waves", wave, replayed("order", wave)))
-        test_cells(cases[-1], range(0, cases[-1].data["columns"], 50))
-        print(f"{len(cases)} transcripts of `order`, column for column")
-        stormy = storm(rng, 20000, 20)
-        cases += [Case(room, name, text, replayed("run", text)) for name, text in (("waves-of-run", wave), ("storm-of-run", stormy))]
-        cases.append(Case(room, "moves", *MOVES))
-        totals = [each[1:] for each in cases[-1].data["totals"]]
-        check(totals == [[0, 0], [0, 0], [32, 24], [32, 32], [32, 32], [32, 32], [80, 65], [80, 65], [80, 65], [80, 65], [48, 33], [0, 0]], f"moves: {totals}")
-        cases.append(Case(room, "early", *EARLY))
-        check([case.data["byActor"] for case in cases[-5:]] == [False, True, True, False, True], "which of them are of `run`")
-        check(cases[-1].data["totals"][-1] == [4096, 32, 24] and cases[-1].cell(0, 5) == 4, f"early: {cases[-1].data['totals']}")
-        began = time.monotonic()
-        text = many(rng, options.operations)
-        cases.append(Case(room, "many", text, replayed("order", text)))
-        check(cases[-1].bytes < MOST_BYTES and cases[-1].data["columns"] < cases[-1].data["lines"], f"{cases[-1].bytes} bytes")
-        test_waste(cases[-1])
-        print(f"{options.operations:,} operations: {cases[-1].data['lines']:,} lines, {len(cases[-1].data['pages']):,} pages, {cases[-1].bytes / 1e6:.2f} MB "
-              f"of HTML, {time.monotonic() - began:.0f} seconds with its replay")
+        cases = cases_of(room, str(pathlib.Path(options.program).resolve()), random.Random(7), options.operations)
+        by_name = {case.name: case for case in cases}
         for case in cases:
             test_end(case)
+            test_marks(case)
+        for name in ("waves", "guarded"):
+            test_ranges(room, by_name[name])
         test_refusals(room)
+        test_whole_files(room, by_name["waves"])
+        test_interrupt(room, by_name["waves"])
         if browser := find_browser():
             try:
-                test_in_browser(browser, cases, options.into)
+                map_pictures.test_pictures(browser, room, by_name, options.into)
             except BrowserFault as fault:
                 check(False, f"the browser: {fault}")
         else:
             print("SKIPPED: the browser part, for there is no browser (apt-get install chromium-headless-shell)")
-    print(f"{checks} checks, {len(wrong)} wrong")
-    sys.exit(1 if wrong else 0)
+    end_checks()
 
 
 if __name__ == "__main__":
