@@ -1,0 +1,120 @@
+"""The requests of a trace, as far as they are asked for. The format is that of docs/FORMAT.md."""
+
+from __future__ import annotations
+
+import re
+from array import array
+from collections import Counter
+from collections.abc import Callable, Iterator
+from pathlib import Path
+
+from page_history import Fault
+from trace_text import MOST_BITFIT, MOST_OPERATIONS
+
+HEADER = re.compile(rb" *pas +[1-9] +pages +(\d{1,6}) +threads +(\d{1,3}) +heaps +\d+ +age +\d+ *\n?")
+MOST_OF_HEADER, COMMENT, MOST_SHOWN = 1000, ord("#"), 60
+# How many words each line has.
+WORDS = {b"a": 6, b"m": 6, b"f": 3, b"fs": 5, b"r": 4, b"rs": 6, b"flush": 2, b"stop": 2, b"tick": 2, b"pass": 1,
+         b"idle": 2, b"phase": 1, b"shared": 2, b"guard": 2}
+NO_OPERATIONS = (b"phase", b"shared", b"guard")
+NAME_BITS, NAME = 20, (1 << 20) - 1
+
+
+def shown(line: bytes) -> str:
+    """A line in a message, and no more of it than one can read."""
+    text = line.strip().decode("ascii", "backslashreplace")
+    return text if len(text) <= MOST_SHOWN else text[:MOST_SHOWN] + ".."
+
+
+def names_of_guards(path: Path) -> bytearray:
+    """For each name whether the transcript has a guard of its request."""
+    raised = bytearray(MOST_OPERATIONS + 1)
+    with path.open("rb") as file:
+        for line in file:
+            if b" guarded " in line and (name := line.split()[-1]).isdigit() and int(name) <= MOST_OPERATIONS:
+                raised[int(name)] = 1
+    return raised
+
+
+class Waiting:
+    """Requests that are answered later, in their order."""
+
+    def __init__(self) -> None:
+        self.kept, self.at = array("Q"), 0
+
+    def next(self) -> int:
+        self.at += 1
+        return self.kept[self.at - 1]
+
+    def is_empty(self) -> bool:
+        if self.at == len(self.kept) and self.at:
+            self.__init__()
+        return not self.kept
+
+
+class Requests:
+    """The requests, each of the actor whose line answers it: its size and its name in one number."""
+
+    def __init__(self, path: Path, transcript: Path) -> None:
+        self.path, self.transcript, self.due = path, transcript, 0
+        self.counts: Counter[bytes] = Counter()
+        self.waiting: dict[bytes, Waiting] = {}
+        self.file = path.open("rb")
+        head = HEADER.fullmatch(self.file.readline(MOST_OF_HEADER))
+        if not head:
+            raise Fault(f"{path}: line 1: no header of a trace")
+        self.pages, self.threads = int(head[1]), int(head[2])
+        self.read = self.lines()
+
+    def lines(self) -> Iterator[tuple[bytes, int]]:
+        counts, threads, actor_of = self.counts, {b"%d" % each for each in range(1, self.threads + 1)}, None
+        for number, line in enumerate(self.file, 2):
+            words = line.split()
+            if not words or line[0] == COMMENT:
+                continue
+            kind = words[0]
+            try:
+                if len(words) != WORDS[kind]:
+                    raise KeyError(kind)
+                counts[kind] += 1
+                if kind != b"a" and kind != b"m":
+                    actor_of = self.keeper_of(int(words[1])) if kind == b"guard" else actor_of
+                    continue
+                actor, name, size = words[1], int(words[2]), int(words[4])
+                if actor not in threads or not 1 <= name <= MOST_OPERATIONS:
+                    raise KeyError(name)
+            except (KeyError, ValueError):
+                raise Fault(f"{self.path}: line {number}: no line of a trace: {shown(line)}") from None
+            if actor_of and size > MOST_BITFIT and kind == b"a":
+                actor = actor_of(actor, name)
+            yield actor, size << NAME_BITS | name
+
+    def keeper_of(self, each: int) -> Callable[[bytes, int], bytes]:
+        """Who answers a thread's request for whole pages where each so many of them is guarded: of those that are due
+        the keeper, where it raised the guard."""
+        counted, raised = Counter(), names_of_guards(self.transcript)
+
+        def actor_of(thread: bytes, name: int) -> bytes:
+            counted[thread] += 1
+            if counted[thread] % max(each, 1):
+                return thread
+            self.due += 1
+            return b"%d" % (int(thread) + self.threads) if raised[name] else thread
+        return actor_of
+
+    def next_of(self, actor: bytes) -> int:
+        """The next request that a line of this actor answers."""
+        if self.waiting and actor in self.waiting and not self.waiting[actor].is_empty():
+            return self.waiting[actor].next()
+        for of, request in self.read:
+            if of == actor:
+                return request
+            self.waiting.setdefault(of, Waiting()).kept.append(request)
+        raise KeyError(actor)
+
+    def end(self) -> int:
+        """Reads the rest, and answers how many requests no line has answered."""
+        return sum(1 for _ in self.read) + sum(len(each.kept) - each.at for each in self.waiting.values())
+
+    def operations(self) -> int:
+        return sum(count for kind, count in self.counts.items() if kind not in NO_OPERATIONS)
