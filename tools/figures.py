@@ -20,9 +20,10 @@ from pathlib import Path
 sys.dont_write_bytecode = True
 HERE = Path(__file__).resolve().parent
 sys.path.insert(0, str(HERE))
-from page_history import PAGE, Fault
+from page_history import Fault
 from run_figures import KINDS, Gauge, Run, read_run
-from trace_requests import HEADER, MOST_OF_HEADER
+from run_requests import HEADER, MOST_OF_HEADER
+from trace_text import PAGE
 
 # The tables for a reader: of each column what stands above it, and its name.
 TABLES = {
@@ -53,7 +54,7 @@ def of_gauge(name: str, gauge: Gauge, lines: int) -> dict[str, object]:
 def figures_of(run: Run) -> dict[str, object]:
     """Each figure by its name."""
     blocks, counts, lines = run.blocks, run.counts, run.line
-    pages, asked, given, line = run.at_peak
+    pages, given, asked, line = run.at_peak
     deeds, is_of_run = list(run.deeds.values()), run.is_of_run()
     free = 100 * (1 - asked / (pages * PAGE)) if pages else 0
     holders = sorted((int(actor), count) for actor, count in run.held_by.items())

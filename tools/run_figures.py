@@ -10,9 +10,9 @@ from collections import Counter
 from collections.abc import Callable, Iterable
 from pathlib import Path
 
-from page_history import PAGE, Fault
+from page_history import Fault
 from progress import Progress
-from trace_requests import NAME, NAME_BITS, Requests, shown
+from run_requests import NAME, NAME_BITS, Requests, shown
 
 # How many words the lines have that are only counted.
 COUNTED = {b"tick": 3, b"pass": 3, b"stopped": 3, b"lowered": 4, b"bare": 4, b"young": 6, b"in-use": 8, b"not-offered": 4,
@@ -181,11 +181,11 @@ class Run:
         self.see_peak()
 
     def see_peak(self) -> None:
-        """Of the lines with the most pages backed the one at which most was asked for."""
+        """Of the lines with the most pages backed the first at which most was given."""
         pages, most, _, _ = self.at_peak
-        backed, asked = self.backed.now, self.blocks.asked.now
-        if backed > pages or backed == pages and asked > most:
-            self.at_peak = backed, asked, self.blocks.given.now, self.line
+        backed, given = self.backed.now, self.blocks.given.now
+        if backed > pages or backed == pages and given > most:
+            self.at_peak = backed, given, self.blocks.asked.now, self.line
 
     def page(self, word: bytes) -> int:
         if not 1 <= int(word) <= self.requests.pages:
