@@ -12,7 +12,7 @@ from pathlib import Path
 
 from page_history import Fault
 from progress import Progress
-from run_requests import NAME, NAME_BITS, Requests, shown
+from run_requests import Requests, shown
 
 # How many words the lines have that are only counted.
 COUNTED = {b"tick": 3, b"pass": 3, b"stopped": 3, b"lowered": 4, b"bare": 4, b"young": 6, b"in-use": 8, b"not-offered": 4,
@@ -147,23 +147,20 @@ class Run:
         for block, line in self.ended_early.items():
             raise self.fault(line, f"no block was given there that can end: {block[:10].decode()}")
 
-    def request_of(self, actor: bytes) -> tuple[int, int]:
-        """The size and the name of the request that this actor's line answers."""
-        request = self.requests.next_of(actor)
-        self.last = name = request & NAME
-        return request >> NAME_BITS, name
-
     def give(self, words: list[bytes]) -> None:
+        """The line has no name: it answers the next request of its actor."""
         actor, word, address, _, turn, _, room, _, _ = words
-        size, room = self.requests.next_of(actor) >> NAME_BITS, int(room)
+        _, self.last, size = self.requests.next_of(actor)
+        room, block = int(room), address + turn
         if room < size:
             raise KeyError(room)
         self.givers[address[:7]] = actor
         self.counts[word] += 1
-        if self.ended_early and self.ended_early.pop(address + turn, None):
+        if self.ended_early and self.ended_early.pop(block, None):
             return
-        self.blocks.begin(address + turn, size, room, self.line)
-        self.see_peak()
+        self.blocks.begin(block, size, room, self.line)
+        if self.backed.now >= self.at_peak[0]:
+            self.see_peak()
 
     def freed(self, words: list[bytes]) -> None:
         _, word, address, _, turn, _, _ = words
@@ -173,7 +170,7 @@ class Run:
 
     def kept(self, words: list[bytes]) -> None:
         actor, word, address, _, turn, _, name = words
-        size, asked_for = self.request_of(actor)
+        _, asked_for, size = self.requests.next_of(actor)
         if asked_for != int(name):
             raise KeyError(name)
         self.counts[word] += 1
@@ -214,7 +211,7 @@ class Run:
 
     def refuse(self, words: list[bytes]) -> None:
         """A refusal answers the request whose name it has last."""
-        _, name = self.request_of(words[0])
+        _, name, _ = self.requests.next_of(words[0])
         if name != int(words[-1]):
             raise KeyError(name)
         self.refused.add(name)
@@ -234,6 +231,8 @@ class Run:
 
     def guarded(self, words: list[bytes]) -> None:
         _, word, _, _, _, name = words
+        if self.last != int(name):
+            raise KeyError(name)
         self.counts[word] += 1
 
     def count(self, words: list[bytes]) -> None:

@@ -1,4 +1,4 @@
-"""The requests of a trace, as far as they are asked for. The format is that of docs/FORMAT.md."""
+"""The requests of a trace, in the order in which a transcript answers them. The format is that of docs/FORMAT.md."""
 
 from __future__ import annotations
 
@@ -17,7 +17,6 @@ MOST_OF_HEADER, COMMENT, MOST_SHOWN = 1000, ord("#"), 60
 WORDS = {b"a": 6, b"m": 6, b"f": 3, b"fs": 5, b"r": 4, b"rs": 6, b"flush": 2, b"stop": 2, b"tick": 2, b"pass": 1,
          b"idle": 2, b"phase": 1, b"shared": 2, b"guard": 2}
 NO_OPERATIONS = (b"phase", b"shared", b"guard")
-NAME_BITS, NAME = 20, (1 << 20) - 1
 
 
 def shown(line: bytes) -> str:
@@ -37,27 +36,34 @@ def names_of_guards(path: Path) -> bytearray:
 
 
 class Waiting:
-    """Requests that are answered later, in their order."""
+    """Requests of an actor that are answered later, in their order."""
 
-    def __init__(self) -> None:
-        self.kept, self.at = array("Q"), 0
+    def __init__(self, actor: bytes) -> None:
+        self.actor, self.names, self.sizes, self.at = actor, array("I"), array("I"), 0
 
-    def next(self) -> int:
+    def add(self, request: tuple[bytes, int, int]) -> None:
+        self.names.append(request[1])
+        self.sizes.append(request[2])
+
+    def next(self) -> tuple[bytes, int, int]:
         self.at += 1
-        return self.kept[self.at - 1]
+        return self.actor, self.names[self.at - 1], self.sizes[self.at - 1]
+
+    def count(self) -> int:
+        return len(self.names) - self.at
 
     def is_empty(self) -> bool:
-        if self.at == len(self.kept) and self.at:
-            self.__init__()
-        return not self.kept
+        if self.at and not self.count():
+            self.__init__(self.actor)
+        return not self.names
 
 
 class Requests:
-    """The requests, each of the actor whose line answers it: its size and its name in one number."""
+    """The requests, each of the actor whose line answers it, read when they are asked for."""
 
     def __init__(self, path: Path, transcript: Path) -> None:
         self.path, self.transcript, self.due = path, transcript, 0
-        self.counts: Counter[bytes] = Counter()
+        self.counts = dict.fromkeys(WORDS, 0)
         self.waiting: dict[bytes, Waiting] = {}
         self.file = path.open("rb")
         head = HEADER.fullmatch(self.file.readline(MOST_OF_HEADER))
@@ -66,28 +72,28 @@ class Requests:
         self.pages, self.threads = int(head[1]), int(head[2])
         self.read = self.lines()
 
-    def lines(self) -> Iterator[tuple[bytes, int]]:
+    def lines(self) -> Iterator[tuple[bytes, int, int]]:
+        """Each request's actor, its name and its size."""
         counts, threads, actor_of = self.counts, {b"%d" % each for each in range(1, self.threads + 1)}, None
-        for number, line in enumerate(self.file, 2):
+        for self.line, line in enumerate(self.file, 2):
             words = line.split()
-            if not words or line[0] == COMMENT:
-                continue
-            kind = words[0]
             try:
+                kind = words[0]
                 if len(words) != WORDS[kind]:
                     raise KeyError(kind)
                 counts[kind] += 1
-                if kind != b"a" and kind != b"m":
-                    actor_of = self.keeper_of(int(words[1])) if kind == b"guard" else actor_of
-                    continue
-                actor, name, size = words[1], int(words[2]), int(words[4])
-                if actor not in threads or not 1 <= name <= MOST_OPERATIONS:
-                    raise KeyError(name)
-            except (KeyError, ValueError):
-                raise Fault(f"{self.path}: line {number}: no line of a trace: {shown(line)}") from None
-            if actor_of and size > MOST_BITFIT and kind == b"a":
-                actor = actor_of(actor, name)
-            yield actor, size << NAME_BITS | name
+                if kind == b"a" or kind == b"m":
+                    actor, name, size = words[1], int(words[2]), int(words[4])
+                    if actor not in threads or name > MOST_OPERATIONS:
+                        raise KeyError(name)
+                    if actor_of and size > MOST_BITFIT and kind == b"a":
+                        actor = actor_of(actor, name)
+                    yield actor, name, size
+                elif kind == b"guard":
+                    actor_of = self.keeper_of(int(words[1]))
+            except (KeyError, ValueError, IndexError):
+                if words and line[0] != COMMENT:
+                    raise Fault(f"{self.path}: line {self.line}: no line of a trace: {shown(line)}") from None
 
     def keeper_of(self, each: int) -> Callable[[bytes, int], bytes]:
         """Who answers a thread's request for whole pages where each so many of them is guarded: of those that are due
@@ -102,19 +108,19 @@ class Requests:
             return b"%d" % (int(thread) + self.threads) if raised[name] else thread
         return actor_of
 
-    def next_of(self, actor: bytes) -> int:
+    def next_of(self, actor: bytes) -> tuple[bytes, int, int]:
         """The next request that a line of this actor answers."""
         if self.waiting and actor in self.waiting and not self.waiting[actor].is_empty():
             return self.waiting[actor].next()
-        for of, request in self.read:
-            if of == actor:
+        for request in self.read:
+            if request[0] == actor:
                 return request
-            self.waiting.setdefault(of, Waiting()).kept.append(request)
+            self.waiting.setdefault(request[0], Waiting(request[0])).add(request)
         raise KeyError(actor)
 
     def end(self) -> int:
         """Reads the rest, and answers how many requests no line has answered."""
-        return sum(1 for _ in self.read) + sum(len(each.kept) - each.at for each in self.waiting.values())
+        return sum(1 for _ in self.read) + sum(each.count() for each in self.waiting.values())
 
     def operations(self) -> int:
         return sum(count for kind, count in self.counts.items() if kind not in NO_OPERATIONS)
