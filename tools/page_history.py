@@ -2,45 +2,22 @@
 
 from __future__ import annotations
 
-import re
+from array import array
 from collections import Counter
-from collections.abc import Callable, Iterator
-from pathlib import Path
+from collections.abc import Callable
 from typing import NamedTuple
 
-PAGE = 4096
-REFUSALS = ("no-space", "held", "skipped")
-WRONG_FREES = ("ended", "no-block", "size-differs", "outside", "unaligned")
-OUTCOMES = ("bare", "young", "in-use", "not-offered")
+from trace_requests import Fault, Request, Trace, shown
+from trace_text import PAGE
+
+REFUSALS = (b"no-space", b"held", b"skipped")
+WRONG_FREES = (b"ended", b"no-block", b"size-differs", b"outside", b"unaligned")
+OUTCOMES = (b"bare", b"young", b"in-use", b"not-offered")
 MOST_LINES_KEPT = 6
-HEADER = re.compile(r" *pas +[1-9] +pages +(\d+) +threads +(\d+) +heaps +\d+ +age +\d+ *\n?")
 
-# How a page stands: without a deed; with one, but without memory so far; its memory went back; empty; and FULL steps
-# of how full it is.
-NO_DEED, NO_MEMORY, WENT_BACK, EMPTY, FULL = 0, 1, 2, 3, 16
-
-
-class Fault(Exception):
-    """Why a file can't be read, with the line."""
-
-
-class Request(NamedTuple):
-    """A line of the trace that asks for a block, or for another size of one."""
-
-    line: int
-    name: int
-    size: int
-
-
-class Trace(NamedTuple):
-    """What the trace tells beyond its transcript: the header's numbers, each thread's requests in order, and what
-    comments of tools/trace_of.py say of its heaps."""
-
-    pages: int
-    threads: int
-    operations: int
-    requests: dict[int, list[Request]]
-    heaps: dict[int, str]
+# How a page stands: without a deed; with one, but without memory so far; its memory went back; beside a guarded block;
+# empty; and FULL steps of how full it is.
+NO_DEED, NO_MEMORY, WENT_BACK, GUARD, EMPTY, FULL = 0, 1, 2, 3, 4, 16
 
 
 class Mark(NamedTuple):
@@ -52,46 +29,58 @@ class Mark(NamedTuple):
     text: str
 
 
-class Page:
-    """A page with a deed: the line that made it, those of the first times of memory and of its going back, and
-    counts."""
+class Total:
+    """A total as it stands, the greatest that it was since the column began, and the greatest of all with its line."""
+
+    __slots__ = "now", "top", "most", "line"
 
     def __init__(self) -> None:
-        self.heap, self.kind, self.deed = 0, "", 0
-        self.backed: list[int] = []
-        self.unbacked: list[int] = []
-        self.backs = self.unbacks = self.live = self.most = 0
-        self.outcomes: Counter[str] = Counter()
-        self.report = ""
+        self.now = self.top = self.most = self.line = 0
+
+    def add(self, more: int, line: int) -> None:
+        now = self.now = self.now + more
+        if now > self.top:
+            self.top = now
+            if now > self.most:
+                self.most, self.line = now, line
 
 
-def read_trace(path: Path) -> Trace:
-    """The requests of a trace that the program found without fault."""
-    try:
-        with path.open() as file:
-            lines = iter(file)
-            head = HEADER.fullmatch(next(lines, ""))
-            if not head:
-                raise Fault(f"{path}: line 1: no header of a trace")
-            return Trace(int(head[1]), int(head[2]), *requests_of(path, lines, int(head[2])))
-    except (OSError, UnicodeDecodeError) as fault:
-        raise Fault(f"{path}: {fault}") from None
+class Page:
+    """A page: its place among those with a deed, the line of its deed, those of the first times of memory, of its going
+    back and of guards, and counts."""
+
+    __slots__ = ("place", "heap", "kind", "deed", "backed", "unbacked", "guarded", "backs", "unbacks", "guards",
+                 "is_guard", "live", "most", "outcomes", "report")
+
+    def __init__(self) -> None:
+        self.place, self.heap, self.kind, self.deed = -1, 0, "", 0
+        self.backed, self.unbacked, self.guarded = array("I"), array("I"), array("I")
+        self.backs = self.unbacks = self.guards = self.live = self.most = 0
+        self.is_guard, self.report = False, ""
+        self.outcomes: Counter[str] | None = None
+
+    def state(self) -> int:
+        if self.is_guard:
+            return GUARD
+        if self.backs <= self.unbacks:
+            return WENT_BACK if self.backs else NO_MEMORY
+        return EMPTY + min(FULL, -(-self.live * FULL // PAGE)) if self.live > 0 else EMPTY
 
 
-def requests_of(path: Path, lines: Iterator[str], threads: int) -> tuple[int, dict[int, list[Request]], dict[int, str]]:
-    requests: dict[int, list[Request]] = {thread: [] for thread in range(1, threads + 1)}
-    operations, heaps = 0, {}
-    for number, line in enumerate(lines, 2):
-        words = line.split() or [""]
-        operations += line[0] != "#" and words[0] not in ("", "phase", "shared", "guard")
-        if line.startswith("# heap ") and (told := re.fullmatch(r"# heap (\d+): (.*)", line.strip())):
-            heaps[int(told[1])] = told[2]
-        try:
-            if words[0] in ("a", "m"):
-                requests[int(words[1])].append(Request(number, int(words[2]), int(words[4])))
-        except (ValueError, IndexError, KeyError):
-            raise Fault(f"{path}: line {number}: no request: {line.strip()}") from None
-    return operations, requests, heaps
+class Peak(NamedTuple):
+    """The moment at which most pages had memory, and of such moments the first with most bytes in blocks; then of each
+    heap its pages with memory, bytes in blocks, bytes asked for and blocks."""
+
+    line: int
+    backed: int
+    room: int
+    asked: int
+    heaps: list[list[int]]
+
+
+def keep(lines: array[int], line: int) -> None:
+    if len(lines) < MOST_LINES_KEPT:
+        lines.append(line)
 
 
 class History:
@@ -100,28 +89,28 @@ class History:
     In a transcript of `run` the lines of a phase stand by actor; so a block may end there before it is given, and be
     given before its page has a deed. All is counted so that the state is right again where the phase ends."""
 
-    def __init__(self, trace: Trace) -> None:
+    def __init__(self, trace: Trace, deeds: int) -> None:
+        """Of a transcript with so many deeds."""
         self.trace = trace
         self.pages: dict[int, Page] = {}
+        self.deeds, self.state = 0, bytearray(deeds)
         self.marks: list[Mark] = []
-        self.state = bytearray(trace.pages + 1)
-        self.blocks: dict[tuple[str, str], tuple[int, int]] = {}
-        self.ended_early: set[tuple[str, str]] = set()
-        self.next_request = dict.fromkeys(trace.requests, 0)
-        self.backed = self.room = self.asked = self.line = 0
-        self.phases: list[int] = []
-        self.ticks: list[int] = []
-        self.passes: list[int] = []
-        self.is_by_actor, self.actor, self.actors = True, "", False
-        self.total = ""
-        self.by_word: dict[str, Callable[[list[str]], None]] = {
-            "deed": self.deed, "back": self.back, "unback": self.unback,
-            "give": self.give, "freed": self.freed, "kept": self.kept,
-            "tick": lambda words: self.ticks.append(self.line), "pass": lambda words: self.passes.append(self.line),
-            "stopped": lambda words: None, "guarded": lambda words: None, "lowered": lambda words: None}
+        self.blocks: dict[tuple[bytes, bytes], tuple[int, int, int]] = {}
+        self.ended_early: set[tuple[bytes, bytes]] = set()
+        self.backed, self.room, self.asked = Total(), Total(), Total()
+        self.heaps = [[0, 0, 0, 0] for _ in range(trace.heaps)]
+        self.peak, self.is_at_peak = Peak(0, 0, 0, 0, [list(each) for each in self.heaps]), False
+        self.phases, self.ticks, self.passes, self.guards = array("I"), array("I"), array("I"), array("I")
+        self.is_by_actor, self.actor, self.actors = True, b"", False
+        self.line, self.asking, self.total = 0, 0, ""
+        self.by_word: dict[bytes, Callable[[list[bytes]], None]] = {
+            b"deed": self.deed, b"back": self.back, b"unback": self.unback,
+            b"give": self.give, b"freed": self.freed, b"kept": self.kept,
+            b"guarded": self.guarded, b"lowered": self.lowered, b"stopped": lambda words: None,
+            b"tick": lambda words: self.ticks.append(self.line), b"pass": lambda words: self.passes.append(self.line)}
         self.by_word |= dict.fromkeys(REFUSALS + WRONG_FREES, self.mark) | dict.fromkeys(OUTCOMES, self.outcome)
 
-    def take(self, line: str) -> None:
+    def take(self, line: bytes) -> None:
         """The next line of the transcript, before the report."""
         self.line += 1
         words = line.split()
@@ -131,25 +120,20 @@ class History:
             if words[0] == self.actor:
                 self.by_word[words[1]](words)
         except (KeyError, ValueError, IndexError):
-            raise Fault(f"line {self.line}: no line of a transcript of this trace: {line.strip()}") from None
+            raise Fault(f"no line of a transcript of this trace: {shown(line)}") from None
 
-    def see_actor(self, words: list[str]) -> None:
+    def see_actor(self, words: list[bytes]) -> None:
         """A line of another actor than the last, or one that ends a phase, after which any actor's lines may come."""
-        if words[0] == "phase":
+        if words[0] == b"phase":
             self.phases.append(self.line)
-            self.actor = ""
-        elif words == ["close"]:
-            self.actor = ""
+            self.actor = b""
+        elif words == [b"close"]:
+            self.actor = b""
         else:
             before, actor = int(self.actor or 0), int(words[0])
             self.is_by_actor &= before < actor or not self.actor
             self.actors |= 0 < before < actor
             self.actor = words[0]
-
-    def deed(self, words: list[str]) -> None:
-        page = self.page(int(words[3]))
-        page.heap, page.kind, page.deed = int(words[5]), " ".join(words[6:]), self.line
-        self.show(int(words[3]))
 
     def page(self, number: int) -> Page:
         if number not in self.pages:
@@ -158,104 +142,153 @@ class History:
             self.pages[number] = Page()
         return self.pages[number]
 
-    def back(self, words: list[str]) -> None:
+    def show(self, page: Page) -> None:
+        if page.place >= 0:
+            self.state[page.place] = page.state()
+
+    def deed(self, words: list[bytes]) -> None:
+        page = self.page(int(words[3]))
+        if page.deed:
+            raise KeyError(page.deed)
+        page.heap, page.kind, page.deed = int(words[5]), b" ".join(words[6:]).decode(), self.line
+        page.place, self.deeds = self.deeds, self.deeds + 1
+        self.heaps[0][0] -= page.backs - page.unbacks
+        self.heaps[page.heap][0] += page.backs - page.unbacks
+        self.show(page)
+
+    def back(self, words: list[bytes]) -> None:
         page = self.page(int(words[3]))
         page.backs += 1
-        self.backed += 1
-        page.backed += [self.line] * (len(page.backed) < MOST_LINES_KEPT)
-        self.show(int(words[3]))
+        keep(page.backed, self.line)
+        self.backed.add(1, self.line)
+        self.heaps[page.heap][0] += 1
+        self.see_peak()
+        self.show(page)
 
-    def unback(self, words: list[str]) -> None:
+    def unback(self, words: list[bytes]) -> None:
+        self.leave_peak()
         page = self.page(int(words[3]))
         page.unbacks += 1
-        self.backed -= 1
-        page.unbacked += [self.line] * (len(page.unbacked) < MOST_LINES_KEPT)
-        self.show(int(words[3]))
+        keep(page.unbacked, self.line)
+        self.backed.add(-1, self.line)
+        self.heaps[page.heap][0] -= 1
+        self.show(page)
 
-    def give(self, words: list[str]) -> None:
-        request = self.answered(int(words[0]))
+    def give(self, words: list[bytes]) -> None:
+        request, heap = self.answered(int(words[0])), int(words[8])
         block, room = (words[2], words[4]), int(words[6])
         if block in self.ended_early:
             self.ended_early.remove(block)
         else:
-            self.blocks[block] = room, request.size
-            self.count(block[0], room, request.size, 1)
+            self.blocks[block] = known = room, request.size, heap
+            self.count(block[0], known, 1)
+            self.see_peak()
 
-    def freed(self, words: list[str]) -> None:
+    def freed(self, words: list[bytes]) -> None:
+        self.leave_peak()
         block = words[2], words[4]
         known = self.blocks.pop(block, None)
         if known:
-            self.count(block[0], *known, -1)
+            self.count(block[0], known, -1)
         else:
             self.ended_early.add(block)
 
-    def kept(self, words: list[str]) -> None:
+    def kept(self, words: list[bytes]) -> None:
         """A block stands for another size from now on."""
+        self.leave_peak()
         request = self.answered(int(words[0]))
         block = words[2], words[4]
         if block in self.blocks:
-            room, asked = self.blocks[block]
-            self.blocks[block] = room, request.size
-            self.asked += request.size - asked
+            room, asked, heap = self.blocks[block]
+            self.blocks[block] = room, request.size, heap
+            self.asked.add(request.size - asked, self.line)
+            self.heaps[heap][2] += request.size - asked
 
-    def count(self, address: str, room: int, asked: int, sign: int) -> None:
-        """A block of this room begins to live there, or ends."""
+    def count(self, address: bytes, known: tuple[int, int, int], sign: int) -> None:
+        """A block begins to live there, or ends."""
+        room, asked, heap = known
+        of_heap = self.heaps[heap]
+        self.room.add(sign * room, self.line)
+        self.asked.add(sign * asked, self.line)
+        of_heap[1] += sign * room
+        of_heap[2] += sign * asked
+        of_heap[3] += sign
         first = int(address, 16) // PAGE
-        self.room += sign * room
-        self.asked += sign * asked
         for number in range(first, first + (room // PAGE or 1)):
             page = self.page(number)
             page.live += sign * (room if room < PAGE else PAGE)
             if page.live > page.most:
                 page.most = page.live
-            self.show(number)
+            self.show(page)
 
-    def show(self, number: int) -> None:
-        page = self.pages[number]
-        if page.backs <= page.unbacks:
-            self.state[number] = WENT_BACK if page.backs else NO_MEMORY
-        else:
-            self.state[number] = EMPTY + min(FULL, -(-page.live * FULL // PAGE)) if page.live > 0 else EMPTY
+    def guarded(self, words: list[bytes]) -> None:
+        self.guards.append(self.line)
+        for word in words[2:4]:
+            page = self.page(int(word))
+            page.is_guard, page.guards = True, page.guards + 1
+            keep(page.guarded, self.line)
+            self.show(page)
+
+    def lowered(self, words: list[bytes]) -> None:
+        for word in words[2:4]:
+            page = self.page(int(word))
+            page.is_guard = False
+            self.show(page)
+
+    def see_peak(self) -> None:
+        """More pages have memory, or more bytes are in blocks."""
+        backed, room = self.backed.now, self.room.now
+        if backed > self.peak.backed or backed == self.peak.backed and room > self.peak.room:
+            self.peak, self.is_at_peak = Peak(self.line, backed, room, self.asked.now, []), True
+
+    def leave_peak(self) -> None:
+        """Something is about to become less, so the heaps of the peak are kept, once."""
+        if self.is_at_peak:
+            self.peak, self.is_at_peak = self.peak._replace(heaps=[list(each) for each in self.heaps]), False
 
     def answered(self, actor: int) -> Request:
         """The thread's next request, which its line answers. The keeper of thread k is actor T + k."""
-        thread = actor if actor <= self.trace.threads else actor - self.trace.threads
-        self.next_request[thread] += 1
-        return self.trace.requests[thread][self.next_request[thread] - 1]
+        requests = self.trace.requests[actor if actor <= self.trace.threads else actor - self.trace.threads]
+        request = requests.next()
+        requests.answered += 1
+        self.asking = request.line
+        return request
 
-    def mark(self, words: list[str]) -> None:
+    def mark(self, words: list[bytes]) -> None:
         """A refusal answers a request; but what a free is skipped for was answered before."""
-        word, page = words[1], 0
+        word, page, more = words[1], 0, ""
         if word in WRONG_FREES:
             page = int(words[2], 16) // PAGE
-        elif word == "skipped":
+        elif word == b"skipped":
             self.skip(int(words[0]), int(words[3]))
         else:
-            page = int(words[2]) if word == "held" else 0
+            page = int(words[2]) if word == b"held" else 0
             request = self.answered(int(words[0]))
             if request.name != int(words[-1]):
                 raise KeyError(request.name)
-            words = [*words, f"(line {request.line} of the trace, {request.size} bytes)"]
-        self.marks.append(Mark(self.line, page if page in self.pages else 0, word in REFUSALS, " ".join(words)))
+            more = f" (line {request.line} of the trace, {request.size} bytes)"
+        text = b" ".join(words).decode(errors="replace") + more
+        self.marks.append(Mark(self.line, page if page in self.pages else 0, word in REFUSALS, text))
 
     def skip(self, thread: int, name: int) -> None:
-        at = self.next_request[thread]
-        if at < len(self.trace.requests[thread]) and self.trace.requests[thread][at].name == name:
-            self.next_request[thread] += 1
+        requests = self.trace.requests[thread]
+        if requests.answered < len(requests.names) and requests.next().name == name:
+            requests.answered += 1
 
-    def outcome(self, words: list[str]) -> None:
-        number = int(words[3])
-        if number in self.pages:
-            self.pages[number].outcomes[words[1]] += 1
+    def outcome(self, words: list[bytes]) -> None:
+        page = self.pages.get(int(words[3]))
+        if page:
+            page.outcomes = page.outcomes or Counter()
+            page.outcomes[words[1].decode()] += 1
 
-    def take_report(self, line: str) -> None:
+    def take_report(self, line: bytes) -> None:
         words = line.split()
-        if words[:1] == ["page"] and int(words[1]) in self.pages:
-            self.pages[int(words[1])].report = line.strip()
-        elif words[:1] == ["total"]:
-            self.total = line.strip()
+        if words[:1] == [b"page"] and words[1].isdigit() and int(words[1]) in self.pages:
+            self.pages[int(words[1])].report = line.strip().decode(errors="replace")
+        elif words[:1] == [b"total"]:
+            self.total = line.strip().decode(errors="replace")
         else:
-            raise Fault(f"no line of a report: {line.strip()}")
+            raise Fault(f"no line of a report: {shown(line)}")
 
     def is_of_run(self) -> bool:
         """Whether the lines stand by actor in each phase, and several threads have lines in one."""
