@@ -13,20 +13,23 @@ from __future__ import annotations
 import argparse
 import csv
 import json
+import os
 import sys
 from collections.abc import Iterator
 from pathlib import Path
+from typing import TextIO
 
 sys.dont_write_bytecode = True
 HERE = Path(__file__).resolve().parent
 sys.path.insert(0, str(HERE))
-from page_history import Fault
 from run_figures import KINDS, Gauge, Run, read_run
-from run_requests import HEADER, MOST_OF_HEADER
+from run_requests import MOST_OF_HEADER
+from trace_requests import HEADER, Fault
 from trace_text import PAGE
 
+Tables = dict[str, list[tuple[str, str]]]
 # The tables for a reader: of each column what stands above it, and its name.
-TABLES = {
+TABLES: Tables = {
     "Pages": [("of", "command"), ("operations", "operations"), ("lines", "lines"), ("peak", "backed_peak"), ("at line", "backed_peak_line"),
               ("mean", "backed_mean"), ("end", "backed_end"), ("class", "deeds_class"), ("shared", "deeds_shared"),
               ("bit-fit", "deeds_bitfit"), ("large", "deeds_large"), ("returned", "returned"), ("again", "backed_again")],
@@ -90,41 +93,47 @@ def runs_of(files: list[Path]) -> Iterator[tuple[Path, Path]]:
         raise Fault(f"{trace}: a trace without a transcript behind it")
 
 
-def cell(value: object) -> str:
+def cell(value: object, key: str = "") -> str:
     """A figure for a reader."""
     if isinstance(value, dict):
         return " ".join(f"{actor}:{count:,}" for actor, count in value.items()) or "-"
-    return "?" if value is None else value if isinstance(value, str) else f"{value:,}"
+    if value is None or isinstance(value, str):
+        return value or "?"
+    return f"{value:+,}%" if key.endswith("_change") else f"{value:,}%" if key == "fragmentation" else f"{value:,}"
 
 
-def tables_of(rows: list[dict[str, object]]) -> Iterator[str]:
-    """The tables, with the runs' names on the left."""
+def names_of(rows: list[dict[str, object]]) -> list[str]:
+    """What to call each run: its transcript, and with its folder where two have one name."""
     names = [Path(str(row["transcript"])).name for row in rows]
-    if len(set(names)) < len(names):
-        names = [str(row["transcript"]) for row in rows]
-    for title, columns in TABLES.items():
+    return names if len(set(names)) == len(names) else [str(row["transcript"]) for row in rows]
+
+
+def tables_of(rows: list[dict[str, object]], names: list[str], tables: Tables) -> Iterator[str]:
+    """The tables, with the runs' names on the left."""
+    for title, columns in tables.items():
         lines = [[title, *(head for head, _ in columns)]]
-        lines += [[name, *(cell(row[key]) + "%" * (key == "fragmentation") for _, key in columns)] for name, row in zip(names, rows)]
+        lines += [[name, *(cell(row[key], key) for _, key in columns)] for name, row in zip(names, rows)]
         widths = [max(map(len, column)) for column in zip(*lines)]
         for first, *rest in lines:
             yield "  ".join([first.ljust(widths[0]), *(word.rjust(width) for word, width in zip(rest, widths[1:]))])
         yield ""
 
 
-def write_csv(rows: list[dict[str, object]], out) -> None:
+def write_csv(rows: list[dict[str, object]], out: TextIO) -> None:
     writer = csv.writer(out, lineterminator="\n")
     writer.writerow(rows[0])
     for row in rows:
         writer.writerow([cell(value) if value is None or isinstance(value, dict) else value for value in row.values()])
 
 
-def write(rows: list[dict[str, object]], form: str | None, out) -> None:
+def write(rows: list[dict[str, object]], form: str | None, out: TextIO, names: list[str] | None = None,
+          tables: Tables = TABLES) -> None:
     if form == "csv":
         write_csv(rows, out)
     elif form == "json":
         print(json.dumps(rows, indent=1), file=out)
     else:
-        print("\n".join(tables_of(rows)).rstrip(), file=out)
+        print("\n".join(tables_of(rows, names or names_of(rows), tables)).rstrip(), file=out)
 
 
 def add_forms(parser: argparse.ArgumentParser) -> None:
@@ -144,6 +153,9 @@ def main() -> None:
         sys.stdout.flush()
     except Fault as fault:
         sys.exit(f"figures: {fault}")
+    except BrokenPipeError:
+        os.dup2(os.open(os.devnull, os.O_WRONLY), sys.stdout.fileno())
+        sys.exit(1)
     except OSError as fault:
         sys.exit(f"figures: {fault.filename or 'standard output'}: {fault.strerror}")
     except KeyboardInterrupt:

@@ -10,9 +10,9 @@ from collections import Counter
 from collections.abc import Callable, Iterable
 from pathlib import Path
 
-from page_history import Fault
 from progress import Progress
-from run_requests import Requests, shown
+from run_requests import Requests
+from trace_requests import Fault, shown
 
 # How many words the lines have that are only counted.
 COUNTED = {b"tick": 3, b"pass": 3, b"stopped": 3, b"lowered": 4, b"bare": 4, b"young": 6, b"in-use": 8, b"not-offered": 4,
@@ -23,19 +23,30 @@ AT_ONCE = 1 << 18
 
 
 class Gauge:
-    """A quantity over the lines: what it is now, and its greatest value with the first line that has it. Of each change
-    and its line the product is summed up for the mean, since a change holds from its line to the last one."""
+    """A quantity over the lines: what it is now, the greatest that it was since its part of the lines began, and of all
+    with its first line. Of each change and its line the product is summed up for the mean, since a change holds from its
+    line to the last one."""
 
-    __slots__ = ("now", "peak", "line", "moved")
+    __slots__ = ("now", "top", "peak", "line", "moved")
 
     def __init__(self) -> None:
-        self.now = self.peak = self.line = self.moved = 0
+        self.now = self.top = self.peak = self.line = self.moved = 0
 
     def add(self, change: int, line: int) -> None:
-        self.now = now = self.now + change
+        self.now += change
         self.moved += change * line
-        if now > self.peak:
-            self.peak, self.line = now, line
+        if self.now > self.top:
+            self.rise(line)
+
+    def rise(self, line: int) -> None:
+        self.top = self.now
+        if self.top > self.peak:
+            self.peak, self.line = self.top, line
+
+    def end_part(self) -> int:
+        """The greatest value of the part that ends here."""
+        top, self.top = self.top, self.now
+        return top
 
     def mean(self, lines: int) -> float:
         return (self.now * (lines + 1) - self.moved) / lines if lines else 0.0
@@ -52,17 +63,17 @@ class Blocks:
     def begin(self, block: bytes, size: int, room: int, line: int) -> None:
         self.live[block] = room << SIZE_BITS | size
         asked, given, rounding = self.asked, self.given, self.rounding
-        asked.now = now = asked.now + size
+        asked.now += size
         asked.moved += size * line
-        if now > asked.peak:
-            asked.peak, asked.line = now, line
-        given.now = now = given.now + room
+        if asked.now > asked.top:
+            asked.rise(line)
+        given.now += room
         given.moved += room * line
-        if now > given.peak:
-            given.peak, given.line = now, line
-        now -= asked.now
-        if now > rounding.peak:
-            rounding.peak, rounding.line = now, line
+        if given.now > given.top:
+            given.rise(line)
+        rounding.now = given.now - asked.now
+        if rounding.now > rounding.top:
+            rounding.rise(line)
 
     def end(self, block: bytes, line: int) -> bool:
         """Whether the block had begun. No gauge rises."""
@@ -263,7 +274,7 @@ class Run:
         left, counts = self.requests.end(), self.requests.counts
         said = {b"phase": self.phases - 1, b"tick": self.counts[b"tick"], b"pass": self.counts[b"pass"]}
         if not self.is_closed:
-            raise self.fault(self.line, "the transcript has no close")
+            raise self.fault(self.line, "no close before the report")
         if left:
             raise self.fault(self.line, f"{left:,} requests of {self.requests.path} have no answer")
         for word, count in said.items():
@@ -272,21 +283,23 @@ class Run:
                 raise self.fault(self.line, f"{count:,} lines {name}, and {self.requests.path} has {counts[word]:,}")
 
 
-def read_run(trace: Path, path: Path) -> Run:
-    """What the whole transcript tells."""
-    run, report, is_report = Run(trace, path), [], False
+def read_run(trace: Path, path: Path, see: Callable[[Run], None] | None = None, parts: int = 1) -> Run:
+    """What the whole transcript tells. What is to see it on the way is called after each of about so many parts."""
+    run, report, is_report, size = Run(trace, path), [], False, path.stat().st_size
+    progress = Progress(path.name, size)
     with path.open("rb") as file:
-        progress = Progress(f"{path.name}", path.stat().st_size)
-        while lines := file.readlines(AT_ONCE):
+        while lines := file.readlines(min(AT_ONCE, size // parts + 1)):
             if not run.line and lines[0].startswith(b"line "):
                 raise Fault(f"{path}: the program found a fault in the trace: {shown(lines[0])}")
             if not is_report:
                 at = next((at for at, line in enumerate(lines) if line == b"report\n"), len(lines))
                 run.take(lines[:at])
                 is_report, lines = at < len(lines), lines[at + 1:]
+                if see:
+                    see(run)
             report += lines
             progress.tell(file.tell())
-        progress.end()
+    progress.end()
     if not is_report:
         raise run.fault(run.line, "the transcript ends without a report")
     run.end()

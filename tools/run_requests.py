@@ -2,27 +2,19 @@
 
 from __future__ import annotations
 
-import re
 from array import array
 from collections import Counter
 from collections.abc import Callable, Iterator
 from pathlib import Path
 
-from page_history import Fault
+from trace_requests import HEADER, Fault, shown
 from trace_text import MOST_BITFIT, MOST_OPERATIONS
 
-HEADER = re.compile(rb" *pas +[1-9] +pages +(\d{1,6}) +threads +(\d{1,3}) +heaps +\d+ +age +\d+ *\n?")
-MOST_OF_HEADER, COMMENT, MOST_SHOWN = 1000, ord("#"), 60
+MOST_OF_HEADER, COMMENT = 1000, ord("#")
 # How many words each line has.
 WORDS = {b"a": 6, b"m": 6, b"f": 3, b"fs": 5, b"r": 4, b"rs": 6, b"flush": 2, b"stop": 2, b"tick": 2, b"pass": 1,
          b"idle": 2, b"phase": 1, b"shared": 2, b"guard": 2}
 NO_OPERATIONS = (b"phase", b"shared", b"guard")
-
-
-def shown(line: bytes) -> str:
-    """A line in a message, and no more of it than one can read."""
-    text = line.strip().decode("ascii", "backslashreplace")
-    return text if len(text) <= MOST_SHOWN else text[:MOST_SHOWN] + ".."
 
 
 def names_of_guards(path: Path) -> bytearray:
