@@ -4,6 +4,7 @@ from __future__ import annotations
 
 import json
 from array import array
+from bisect import bisect_left
 from html import escape
 from pathlib import Path
 
@@ -30,13 +31,20 @@ class Curves:
     were answered, which is what runs of one log have in common."""
 
     def __init__(self) -> None:
-        self.requests, self.backed, self.asked = array("I"), array("I"), array("Q")
+        self.requests, self.backed, self.asked, self.lines = array("I"), array("I"), array("Q"), array("I")
 
     def see(self, run: Run) -> None:
         """To be called where a part of the lines ends."""
         self.requests.append(sum(run.counts[word] for word in ANSWERS))
         self.backed.append(max(run.backed.end_part(), 0))
         self.asked.append(max(run.blocks.asked.end_part(), 0))
+        self.lines.append(run.line)
+
+
+    def peak_of(self, row: dict[str, object]) -> list[object]:
+        """The most pages, the line, and the part in which it stands."""
+        line = row["backed_peak_line"]
+        return [row["backed_peak"], line, bisect_left(self.lines, line)]
 
 
 def table_of(names: list[str], rows: list[dict[str, object]]) -> str:
@@ -55,7 +63,7 @@ def page_of(log: str, names: list[str], rows: list[dict[str, object]], curves: l
     """The whole page. All curves end at the most memory that any run had, and so do those of the maps."""
     scale = max(int(row["backed_peak"]) for row in rows) * PAGE
     data = {"names": names, "scale": scale, "page": PAGE,
-            "peaks": [[row["backed_peak"], row["backed_peak_line"]] for row in rows],
+            "peaks": [each.peak_of(row) for each, row in zip(curves, rows)],
             "curves": [[list(each.requests), list(each.backed), list(each.asked)] for each in curves]}
     maps = "\n".join(
         f'<div class="policy" id="map{at}"{" hidden" if at else ""}>\n'

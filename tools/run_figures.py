@@ -244,6 +244,7 @@ class Run:
         _, word, _, _, _, name = words
         if self.last != int(name):
             raise KeyError(name)
+        self.last = 0
         self.counts[word] += 1
 
     def count(self, words: list[bytes]) -> None:
