@@ -82,6 +82,11 @@ steps_by_one chosen k (t ∷ l) just = at (steps_by_one chosen k l just) (t.acto
         step_taken chosen t l (just t.actor ∙ e) ∙ (ap (λ (m : Whole). t ∷ m) again ∙ (ap (λ (s : Triple). s ∷ triples k (part k l)) its ∙ sym (ap (triples k) (ap (λ (b : Bool). if b then t.made ∷ part k l else part k l) e))))
     at again false e = step_passed chosen t l (just t.actor ∙ e) ∙ (again ∙ sym (ap (triples k) (part_without k t l e)))
 
+-- no step is by nobody
+pub steps_by_nobody : (chosen : ℕ → Bool) (l : Whole) → ((k : ℕ) → chosen k ≡ false) → steps_by chosen l ≡ []
+steps_by_nobody chosen [] none = refl
+steps_by_nobody chosen (t ∷ l) none = step_passed chosen t l (none t.actor) ∙ steps_by_nobody chosen l none
+
 -- where nobody else made a step, the steps of the chosen are all
 pub steps_by_all : (chosen : ℕ → Bool) (l : Whole) → ((k : ℕ) → chosen k ≡ false → part k l ≡ []) → steps_by chosen l ≡ l
 steps_by_all chosen [] none = refl

@@ -1,7 +1,7 @@
 //! The words of a region whose actors have all risen.
 ghost use Rattle.std.specs.Prelude.{◌≡◌, ◌<◌, [], length, All};
 ghost use Rattle.std.specs.Slots.{slots_items, slots_len, IsFull};
-ghost use Rattle.pas_shared.specs.Ruled.{joined, seen_in};
+ghost use Rattle.pas_shared.specs.Ruled.{joined, seen_in, IsNoBench};
 ghost use Rattle.pas_shared.specs.Passes.{IsPassOf, IsNamed, EndsWith};
 ghost use Rattle.pas_shared.specs.Ledgers.{IsLedgerOf, so_far, EndsAfter};
 
@@ -32,7 +32,7 @@ fn join(words: &TableWords, seat: &mut TableSeat, pass: SharedPass)
 
 /// The seat takes in those of all passes.
 fn join_all(words: &TableWords, seat: &mut TableSeat, mut passes: Vec<SharedPass>)
-    requires { (seat.old.table_id ≡ words.now.table_id) × (seat.old.me.1 ≡ []) × (0 < words.now.table_id.words) × All (λ p. p.place.seat.table_id ≡ words.now.table_id) passes.items }
+    requires { (seat.old.table_id ≡ words.now.table_id) × (seat.old.me.1 ≡ []) × IsNoBench seat.old.me.0 × (0 < words.now.table_id.words) × All (λ p. p.place.seat.table_id ≡ words.now.table_id) passes.items }
     ensures seat { seat.new.table_id ≡ words.now.table_id }
     ensures passes { All (IsNamed seat.new.me.0) passes.items }
     ensures seen { seen_in seat.new.me.0 ≡ seen_in seat.old.me.0 }
