@@ -1,5 +1,5 @@
 -- The steps of some actors in a list of those of all.
-use Rattle.std.proofs.Common.{ℕ, Bool, true, false, if◌then◌else◌, ◌≡◌, ◌==◌, List, [], ◌∷◌, ◌++◌, length, refl, sym, ap, ◌∙◌, arith, eqb-true, eq-eqb, true≢false}
+use Rattle.std.proofs.Common.{ℕ, Bool, true, false, if◌then◌else◌, ◌≡◌, ◌==◌, List, [], ◌∷◌, ◌++◌, length, refl, sym, ap, ◌∙◌, arith, suc, subst, eqb-true, eq-eqb, ne_eqb, true≢false}
 use Rattle.pas_steps.specs.Desks.{triple, triples}
 use Rattle.pas_steps.specs.Lists.{Triple, Whole, part}
 use Rattle.pas_steps.specs.declared.step.Made.{Made}
@@ -82,6 +82,13 @@ steps_by_one chosen k (t ∷ l) just = at (steps_by_one chosen k l just) (t.acto
         step_taken chosen t l (just t.actor ∙ e) ∙ (ap (λ (m : Whole). t ∷ m) again ∙ (ap (λ (s : Triple). s ∷ triples k (part k l)) its ∙ sym (ap (triples k) (ap (λ (b : Bool). if b then t.made ∷ part k l else part k l) e))))
     at again false e = step_passed chosen t l (just t.actor ∙ e) ∙ (again ∙ sym (ap (triples k) (part_without k t l e)))
 
+tail_same : {x y : Made} {xs ys : List Made} → x ∷ xs ≡ y ∷ ys → xs ≡ ys
+tail_same {xs = xs} e = ap (λ (l : List Made). tail_or l xs) e
+  where
+    tail_or : List Made → List Made → List Made
+    tail_or [] ys = ys
+    tail_or (x ∷ xs) ys = xs
+
 -- no step is by nobody
 pub steps_by_nobody : (chosen : ℕ → Bool) (l : Whole) → ((k : ℕ) → chosen k ≡ false) → steps_by chosen l ≡ []
 steps_by_nobody chosen [] none = refl
@@ -102,3 +109,88 @@ steps_by_all chosen (t ∷ l) none = at (steps_by_all chosen l) (chosen t.actor)
     at : (((k : ℕ) → chosen k ≡ false → part k l ≡ []) → steps_by chosen l ≡ l) → (b : Bool) → chosen t.actor ≡ b → steps_by chosen (t ∷ l) ≡ t ∷ l
     at again true e = step_taken chosen t l e ∙ ap (λ (m : Whole). t ∷ m) (again (λ k c. later k c (t.actor == k) refl))
     at again false e = absurd (cons_not_nil (sym here ∙ none t.actor e))
+
+-- ---- the steps of the chosen are as many in two lists that have the same parts of them
+abbrev without : ℕ → Whole → Whole
+without k [] = []
+without k (t ∷ l) = if t.actor == k then l else t ∷ without k l
+
+without_at : (k : ℕ) (t : Triple) (l : Whole) (b : Bool) → (t.actor == k) ≡ b → without k (t ∷ l) ≡ (if b then l else t ∷ without k l)
+without_at k t l b e = ap (λ (c : Bool). if c then l else t ∷ without k l) e
+
+part_at : (k : ℕ) (t : Triple) (l : Whole) (b : Bool) → (t.actor == k) ≡ b → part k (t ∷ l) ≡ (if b then t.made ∷ part k l else part k l)
+part_at k t l b e = ap (λ (c : Bool). if c then t.made ∷ part k l else part k l) e
+
+-- its first step gone
+part_of_rest : (k : ℕ) (l : Whole) (m : Made) (v : List Made) → part k l ≡ m ∷ v → part k (without k l) ≡ v
+part_of_rest k [] m v h = absurd (cons_not_nil (sym h))
+part_of_rest k (t ∷ l) m v h = at (part_of_rest k l m v) (t.actor == k) refl
+  where
+    at : (part k l ≡ m ∷ v → part k (without k l) ≡ v) → (b : Bool) → (t.actor == k) ≡ b → part k (without k (t ∷ l)) ≡ v
+    at again true e = ap (part k) (without_at k t l true e) ∙ tail_same (sym (part_at k t l true e) ∙ h)
+    at again false e = ap (part k) (without_at k t l false e) ∙ (part_at k t (without k l) false e ∙ again (sym (part_at k t l false e) ∙ h))
+
+-- those of others as they were
+part_of_others_left : (k j : ℕ) (l : Whole) → (j == k) ≡ false → part j (without k l) ≡ part j l
+part_of_others_left k j [] ne = refl
+part_of_others_left k j (t ∷ l) ne = at (part_of_others_left k j l ne) (t.actor == k) refl
+  where
+    mine : t.actor ≡ k → (b : Bool) → (t.actor == j) ≡ b → part j l ≡ part j (t ∷ l)
+    mine its true e = absurd (true≢false (sym (eq-eqb j k (sym (eqb-true t.actor j e) ∙ its)) ∙ ne))
+    mine its false e = sym (part_without j t l e)
+
+    at : part j (without k l) ≡ part j l → (b : Bool) → (t.actor == k) ≡ b → part j (without k (t ∷ l)) ≡ part j (t ∷ l)
+    at again true e = ap (part j) (without_at k t l true e) ∙ mine (eqb-true t.actor k e) (t.actor == j) refl
+    at again false e = ap (part j) (without_at k t l false e) ∙ part_more j t (without k l) l again
+
+-- one fewer of the chosen
+one_fewer : (chosen : ℕ → Bool) (k : ℕ) (l : Whole) (m : Made) (v : List Made) → chosen k ≡ true → part k l ≡ m ∷ v → length (steps_by chosen l) ≡ suc (length (steps_by chosen (without k l)))
+one_fewer chosen k [] m v its h = absurd (cons_not_nil (sym h))
+one_fewer chosen k (t ∷ l) m v its h = at (one_fewer chosen k l m v its) (t.actor == k) refl
+  where
+    other : length (steps_by chosen l) ≡ suc (length (steps_by chosen (without k l))) → (b : Bool) → chosen t.actor ≡ b → length (steps_by chosen (t ∷ l)) ≡ suc (length (steps_by chosen (t ∷ without k l)))
+    other again true e = ap length (step_taken chosen t l e) ∙ (ap suc again ∙ sym (ap suc (ap length (step_taken chosen t (without k l) e))))
+    other again false e = ap length (step_passed chosen t l e) ∙ (again ∙ sym (ap suc (ap length (step_passed chosen t (without k l) e))))
+
+    at : (part k l ≡ m ∷ v → length (steps_by chosen l) ≡ suc (length (steps_by chosen (without k l)))) → (b : Bool) → (t.actor == k) ≡ b → length (steps_by chosen (t ∷ l)) ≡ suc (length (steps_by chosen (without k (t ∷ l))))
+    at again true e = ap length (step_taken chosen t l (ap chosen (eqb-true t.actor k e) ∙ its)) ∙ sym (ap suc (ap (λ n. length (steps_by chosen n)) (without_at k t l true e)))
+    at again false e = other (again (sym (part_at k t l false e) ∙ h)) (chosen t.actor) refl ∙ sym (ap suc (ap (λ n. length (steps_by chosen n)) (without_at k t l false e)))
+
+pub no_steps_by : (chosen : ℕ → Bool) (l : Whole) → ((k : ℕ) → chosen k ≡ true → part k l ≡ []) → steps_by chosen l ≡ []
+no_steps_by chosen [] none = refl
+no_steps_by chosen (t ∷ l) none = at (no_steps_by chosen l) (chosen t.actor) refl
+  where
+    here : part t.actor (t ∷ l) ≡ t.made ∷ part t.actor l
+    here = part_at t.actor t l true (eq-eqb t.actor t.actor refl)
+
+    later : (k : ℕ) → chosen k ≡ true → (b : Bool) → (t.actor == k) ≡ b → part k l ≡ []
+    later k its true e = absurd (cons_not_nil (sym (part_at k t l true e) ∙ none k its))
+    later k its false e = sym (part_at k t l false e) ∙ none k its
+
+    at : (((k : ℕ) → chosen k ≡ true → part k l ≡ []) → steps_by chosen l ≡ []) → (b : Bool) → chosen t.actor ≡ b → steps_by chosen (t ∷ l) ≡ []
+    at again true e = absurd (cons_not_nil (sym here ∙ none t.actor e))
+    at again false e = step_passed chosen t l e ∙ again (λ k its. later k its (t.actor == k) refl)
+
+pub as_many_steps : (chosen : ℕ → Bool) (l m : Whole) → ((k : ℕ) → chosen k ≡ true → part k l ≡ part k m) → length (steps_by chosen l) ≡ length (steps_by chosen m)
+as_many_steps chosen [] m same = sym (ap length (no_steps_by chosen m (λ k its. sym (same k its))))
+as_many_steps chosen (t ∷ l) m same = at (as_many_steps chosen l) (chosen t.actor) refl
+  where
+    k : ℕ
+    k = t.actor
+
+    here : part k (t ∷ l) ≡ t.made ∷ part k l
+    here = part_at k t l true (eq-eqb k k refl)
+
+    taken : chosen k ≡ true → (j : ℕ) → chosen j ≡ true → (b : Bool) → (j == k) ≡ b → part j l ≡ part j (without k m)
+    taken its j chose true e = subst (λ (i : ℕ). part i l ≡ part i (without k m)) (sym (eqb-true j k e)) (sym (part_of_rest k m t.made (part k l) (sym (same k its) ∙ here)))
+    taken its j chose false e = sym (part_without j t l (not_so e)) ∙ (same j chose ∙ sym (part_of_others_left k j m e))
+      where
+        not_so : (j == k) ≡ false → (k == j) ≡ false
+        not_so e = ne_eqb k j (λ is. true≢false (sym (eq-eqb j k (sym is)) ∙ e))
+
+    passed : chosen k ≡ false → (j : ℕ) → chosen j ≡ true → part j l ≡ part j m
+    passed other j chose = sym (part_without j t l (ne_eqb k j (λ is. true≢false (sym chose ∙ (ap chosen (sym is) ∙ other))))) ∙ same j chose
+
+    at : ((n : Whole) → ((j : ℕ) → chosen j ≡ true → part j l ≡ part j n) → length (steps_by chosen l) ≡ length (steps_by chosen n)) → (b : Bool) → chosen k ≡ b → length (steps_by chosen (t ∷ l)) ≡ length (steps_by chosen m)
+    at again true e = ap length (step_taken chosen t l e) ∙ (ap suc (again (without k m) (λ j chose. taken e j chose (j == k) refl)) ∙ sym (one_fewer chosen k m t.made (part k l) e (sym (same k e) ∙ here)))
+    at again false e = ap length (step_passed chosen t l e) ∙ again m (passed e)
