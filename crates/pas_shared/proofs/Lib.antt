@@ -2,3 +2,4 @@ mod Ruling
 pub mod GivingBack
 pub mod Opened
 pub mod Pops
+pub mod Benching

@@ -45,6 +45,11 @@ use Rattle.pas_shared.specs.Ruled.{HasPart, Names, alone, first_alone, all_but_f
 use Rattle.std.specs.List.{All}
 use Rattle.std.proofs.lemmas.List.Elements.{All-cons, All-weaker}
 use Rattle.pas_shared.specs.declared.pass.SharedPass.{SharedPass}
+use Rattle.pas_profile.specs.Profiles.{IsWordOf}
+use Rattle.pas_profile.specs.declared.word.Word.{Word}
+use Rattle.pas_steps.specs.States.{profile_of, word_in}
+use Rattle.pas_steps.specs.declared.state.State.{State}
+use Rattle.pas_shared.specs.Left.{IsLeftBy}
 use Rattle.pas_shared.specs.Passes.{view_of, seat_of, IsNamed, AreWordsOf}
 
 -- ==== Every legal list is good.
@@ -130,7 +135,7 @@ grows own seat_number rosters id k v m u h at sits i y b x e named = ⊎_elim
     there ne p = (p.0, with_step_others b k m own (λ z. ne (sym p.0 ∙ (ap seat_number z ∙ (h id u k v at (sits_named u k v sits)).0))) ∙ p.1)
 
 -- ---- what is so of all seats
-know_set : (P : Roster → Type 0) (rosters : List Roster) (id : ℕ) (w : Roster) → AllKnow P rosters → P w → AllKnow P (set rosters id w)
+pub know_set : (P : Roster → Type 0) (rosters : List Roster) (id : ℕ) (w : Roster) → AllKnow P rosters → P w → AllKnow P (set rosters id w)
 know_set P rosters id w all new i u e = ⊎_elim (λ (t : (i ≡ id) × (w ≡ u)). subst P t.1 new) (λ (t : (i ≢ id) × (get_elem? rosters i ≡ some u)). all i u t.1) (at_set rosters id i w u e)
 
 -- .. where it is so anew of all but the one that changed
@@ -157,7 +162,7 @@ abbrev pub entries_for : Whole → List Entry
 entries_for [] = []
 entries_for (t ∷ l) = record { actor = t.actor; made = t.made } ∷ entries_for l
 
-entries_same : (l : Whole) → steps_of (entries_for l) ≡ l
+pub entries_same : (l : Whole) → steps_of (entries_for l) ≡ l
 entries_same [] = refl
 entries_same (t ∷ l) = ap (λ (m : Whole). t ∷ m) (entries_same l)
 
@@ -313,11 +318,11 @@ at_end [] a b (suc j) e = absurd (some-ne-none b (sym e))
 at_end (x ∷ xs) a b zero e = inl e
 at_end (x ∷ xs) a b (suc j) e = ⊎_elim inl (λ (t : (j ≡ length xs) × (a ≡ b)). inr (ap suc t.0, t.1)) (at_end xs a b j e)
 
-know_end : (P : Roster → Type 0) (rosters : List Roster) (w : Roster) → AllKnow P rosters → P w → AllKnow P (rosters ++ w ∷ [])
+pub know_end : (P : Roster → Type 0) (rosters : List Roster) (w : Roster) → AllKnow P rosters → P w → AllKnow P (rosters ++ w ∷ [])
 know_end P rosters w all new i u e = ⊎_elim (λ was. all i u was) (λ (t : (i ≡ length rosters) × (w ≡ u)). subst P t.1 new) (at_end rosters w u i e)
 
 -- .. of the one whose view is cut in two, and of the new one
-know_split : (P : Roster → Type 0) (rosters : List Roster) (id : ℕ) (left right : Roster) → AllKnow P rosters → P left → P right → AllKnow P (set rosters id left ++ right ∷ [])
+pub know_split : (P : Roster → Type 0) (rosters : List Roster) (id : ℕ) (left right : Roster) → AllKnow P rosters → P left → P right → AllKnow P (set rosters id left ++ right ∷ [])
 know_split P rosters id left right all one other = know_end P (set rosters id left) right (know_set P rosters id left all one) other
 
 pub splits : (f : Profile) (id n : ℕ) → Splits (Holds f) id (Unused n) (all_but_first (Unused n)) (first_alone (Unused n))
@@ -375,7 +380,7 @@ has_either [] qs k v h = inr h
 has_either (p ∷ ps) qs k v (inl h) = inl (inl h)
 has_either (p ∷ ps) qs k v (inr h) = ⊎_elim (λ t. inl (inr t)) inr (has_either ps qs k v h)
 
-row_either : (rs qs : List Row) (k : ℕ) (v : View) → HasRow (rs ++ qs) k v → HasRow rs k v ⊎ HasRow qs k v
+pub row_either : (rs qs : List Row) (k : ℕ) (v : View) → HasRow (rs ++ qs) k v → HasRow rs k v ⊎ HasRow qs k v
 row_either [] qs k v h = inr h
 row_either (r ∷ rs) qs k v (inl h) = inl (inl h)
 row_either (r ∷ rs) qs k v (inr h) = ⊎_elim (λ t. inl (inr t)) inr (row_either rs qs k v h)
@@ -599,17 +604,30 @@ names_shown (Listed ps) k v h = h
 names_shown (Settled es ps) k v h = h
 names_shown (Benched rs) k v h = absurd h
 
-pub ends : (f key : Profile) (id : ℕ) (u : Roster) (words : List ℕ) (slots : List (Unit {0})) (passes : List SharedPass) → key ≡ f → Final (Seen (Holds key) id u) words slots → All (IsNamed u) passes
-    → (after : AreWordsOf f passes (λ w. slice_index words (index_of f.pages w))) × IsEarlier (seen_in u) after.whole
-ends f key id u words slots passes known (s, h, words_are, homes, there) named = subst (λ (g : Profile). (after : AreWordsOf g passes (λ w. slice_index words (index_of g.pages w))) × IsEarlier (seen_in u) after.whole) known (
+-- what the region was left with shows of each pass
+pub ends : (f : Profile) (u : Roster) (state : State) (passes : List SharedPass) → (left : IsLeftBy f u state) → All (IsNamed u) passes
+    → (after : AreWordsOf f passes (word_in state)) × IsEarlier (seen_in u) after.whole
+ends f u state passes left named = (
   record {
-    whole = h.0.whole;
-    legal = h.0.legal;
-    parts = All-weaker (IsNamed u) (λ (p : SharedPass). part (seat_of p).actor h.0.whole ≡ view_of p) (λ p has. h.0.one_order p.place.actor ∙ (h.0.named id u p.place.actor (view_of p) h.1 (names_shown u _ _ has)).1) passes named;
-    words = λ w hw. ap (λ (ws : List ℕ). slice_index ws (index_of key.pages w)) (sym words_are) ∙ h.0.words_are.values w hw;
+    whole = left.holds.whole;
+    legal = left.holds.legal;
+    parts = All-weaker (IsNamed u) (λ (p : SharedPass). part (seat_of p).actor left.holds.whole ≡ view_of p) (λ p has. left.holds.one_order p.place.actor ∙ (left.holds.named left.seat u p.place.actor (view_of p) left.there (names_shown u _ _ has)).1) passes named;
+    words = λ w hw. left.values w hw ∙ left.holds.words_are.values w hw;
   },
-  h.0.seen id u h.1,
+  left.holds.seen left.seat u left.there,
 )
+
+-- the table at the end held the rule
+pub left_by : (f key : Profile) (id : ℕ) (u : Roster) (words : List ℕ) (slots : List (Unit {0})) (state : State) → key ≡ f → Final (Seen (Holds key) id u) words slots → profile_of state ≡ f → ((w : Word) → IsWordOf f w → word_in state w ≡ slice_index words (index_of f.pages w)) → IsLeftBy f u state
+left_by f key id u words slots state known (s, h, words_are, homes, there) profiled values = record {
+  profile = profiled;
+  words = words;
+  rosters = s.views;
+  holds = subst (λ (z : Profile × List ℕ). AreAfterOneList z.0 z.1 s.views) (λ i. (known i, words_are i)) h.0;
+  seat = id;
+  there = h.1;
+  values = values;
+}
 
 pub read_at : (xs : List ℕ) (i a d : ℕ) → get_elem? xs i ≡ some a → get_or xs i d ≡ a
 read_at [] i a d e = absurd (some-ne-none a (sym e))

@@ -2,3 +2,5 @@ pub mod Ruled
 pub mod Passes
 pub mod Kept
 pub mod Ledgers
+pub mod Benches
+pub mod Left

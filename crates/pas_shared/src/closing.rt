@@ -4,7 +4,10 @@ ghost use Rattle.std.specs.Slots.{slots_items, slots_len, IsFull};
 ghost use Rattle.pas_shared.specs.Ruled.{joined, seen_in, IsNoBench};
 ghost use Rattle.pas_shared.specs.Passes.{IsPassOf, IsNamed, EndsWith};
 ghost use Rattle.pas_shared.specs.Ledgers.{IsLedgerOf, so_far, EndsAfter};
+ghost use Rattle.pas_shared.specs.Left.{IsLeftBy};
+ghost use Rattle.pas_shared.specs.Benches.{rows_on, IsBenchOf, EndsOnBench};
 
+use crate::bench::Bench;
 use crate::ledger::Ledger;
 use crate::pass::{ActorSeat, SharedPass};
 use crate::region::SharedRegion;
@@ -63,11 +66,10 @@ pub fn close(region: SharedRegion, passes: Vec<SharedPass>) -> State
     close_settled(region, ledger, passes)
 }
 
-/// The same, and that list begins with all steps that stand in the ledger.
-pub fn close_settled(region: SharedRegion, ledger: Ledger, passes: Vec<SharedPass>) -> State
-    requires ledger { IsLedgerOf region ledger }
-    requires passes { All (IsPassOf region) passes.items }
-    ensures { EndsAfter region.profile (so_far ledger) passes.items result }
+/// The words that the region was left with, which nobody shares any more.
+fn words_left(region: SharedRegion, seat: TableSeat) -> State
+    requires { seat.table_id ≡ region.table.shared.table_id }
+    ensures { IsLeftBy region.profile seat.me.0 result }
 {
     let SharedRegion {
         table,
@@ -75,10 +77,29 @@ pub fn close_settled(region: SharedRegion, ledger: Ledger, passes: Vec<SharedPas
         layout: _,
         closed_words: mut words,
     } = region;
-    let Ledger { mut seat } = ledger;
-    join_all(&table.shared, &mut seat, passes);
     let closed = table.close_with(seat);
     copy(&closed, &mut words);
     closed.free();
     State::of_words(profile, words)
+}
+
+/// The same, and that list begins with all steps that stand in the ledger.
+pub fn close_settled(region: SharedRegion, ledger: Ledger, passes: Vec<SharedPass>) -> State
+    requires ledger { IsLedgerOf region ledger }
+    requires passes { All (IsPassOf region) passes.items }
+    ensures { EndsAfter region.profile (so_far ledger) passes.items result }
+{
+    let Ledger { mut seat } = ledger;
+    join_all(&region.table.shared, &mut seat, passes);
+    words_left(region, seat)
+}
+
+/// Ends the work at a region by a bench. The words of the state are those after one legal list, of which the rows of the bench are rows: the steps that their actors made
+/// since a row's base stand behind it, in the row's order.
+pub fn close_bench(region: SharedRegion, bench: Bench) -> State
+    requires { IsBenchOf region bench }
+    ensures { EndsOnBench region.profile (rows_on bench) result }
+{
+    let Bench { seat } = bench;
+    words_left(region, seat)
 }

@@ -37,11 +37,12 @@ impl Change {
     }
 }
 
-/// Makes the step on the word at its place, for an actor that knows this epoch, and answers the word's value before.
+/// Makes the step on the word at its place, for this actor, which knows this epoch, and answers the word's value before.
 #[inline(always)]
 pub(crate) fn exchange<C: Chosen>(
     words: &TableWords,
     seat: &mut TableSeat,
+    _actor: u8,
     at: usize,
     epoch: u64,
     step: Step,
