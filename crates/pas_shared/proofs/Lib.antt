@@ -3,3 +3,4 @@ mod Pasts
 pub mod GivingBack
 pub mod Opened
 pub mod Pops
+pub mod Benching

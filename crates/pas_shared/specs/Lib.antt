@@ -3,3 +3,5 @@ pub mod Passes
 pub mod Kept
 pub mod Ledgers
 pub mod Pasts
+pub mod Benches
+pub mod Left
