@@ -14,12 +14,13 @@ use Rattle.pas_steps.specs.Desks.{triple}
 use Rattle.pas_steps.specs.declared.step.Made.{Made}
 use Rattle.pas_steps.proofs.Parts.{part_of_own}
 use Rattle.pas_core.proofs.Choosing.{steps_by_nobody, no_steps_by_fewer, step_taken, as_many_steps, steps_by_both}
+use Rattle.pas_shared.specs.declared.bench.Member.{Member}
 use Rattle.pas_shared.specs.declared.rule.Entry.{Entry}
 use Rattle.pas_shared.specs.declared.rule.Row.{Row}
 use Rattle.pas_shared.specs.declared.rule.Roster.{Roster}
 use Rattle.pas_shared.specs.declared.rule.Roster.TheVariants.{Benched}
 use Rattle.pas_shared.specs.Ruled.{Names, AreNamed, Holds, steps_of, among, made_in, SitsIn, HasRow, rows_in, row_with, with_made, only, isnt, row_of_only, left_of, picked_of, all_actors, IsEmptyBench, IsRowOf, AreRowsOf, SettlesAll}
-use Rattle.pas_shared.specs.Benches.{empty_row, StandsOver}
+use Rattle.pas_shared.specs.Benches.{empty_row, SitsInRow, StandsOver}
 use Rattle.pas_shared.proofs.Ruling.{Apart, SawOf, RowsOf, nothing_seen, entries_for, entries_same, know_set, know_end, know_split, at_end, row_either}
 
 -- ---- a bench on which nobody sits
@@ -247,6 +248,9 @@ one_row me r benched is = benched ∙ ap (λ (rs : List Row). (Benched rs, [])) 
 
 pub row_stepped : (me now : Me (Unit {0}) Roster) (k : ℕ) (m : Made) (r : Row) → me ≡ (Benched (r ∷ []), []) → now ≡ (with_made k m me.0, []) → now ≡ (Benched (row_with k m r ∷ []), [])
 row_stepped me now k m r was is = is ∙ ap (λ (n : Me (Unit {0}) Roster). (with_made k m n.0, [])) was
+
+pub sits_as : (r s : Row) (member : Member) → s ≡ r → SitsInRow r member → SitsInRow s member
+sits_as r s member is sits = subst (λ (q : Row). SitsInRow q member) (sym is) sits
 
 -- ---- the lists for which a desk at a bench stands
 pub made_next : (r : Row) (k : ℕ) (m : Made) → made_in (row_with k m r) k ≡ m ∷ made_in r k

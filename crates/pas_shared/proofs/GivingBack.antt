@@ -6,7 +6,7 @@ use Rattle.pas_steps.specs.Views.{View}
 use Rattle.pas_shared.specs.declared.rule.Entry.{Entry}
 use Rattle.pas_shared.specs.declared.rule.Part.{Part}
 use Rattle.pas_shared.specs.declared.rule.Roster.{Roster}
-use Rattle.pas_shared.specs.declared.rule.Roster.TheVariants.{Unused, Listed, Settled}
+use Rattle.pas_shared.specs.declared.rule.Roster.TheVariants.{Unused, Listed, Settled, Benched}
 use Rattle.pas_shared.specs.declared.region.SharedRegion.{SharedRegion}
 use Rattle.pas_shared.specs.Ruled.{Holds, alone, joined, looks_in, parts_in, seen_in, all_but_last, last_alone, AreEarlier, SeesAll}
 use Rattle.pas_shared.proofs.Ruling.{splits_last, looks}
@@ -46,3 +46,4 @@ seen_by_rest (Unused n) = refl
 seen_by_rest (Listed ps) = refl
 seen_by_rest (Settled es []) = refl
 seen_by_rest (Settled es (p ∷ ps)) = refl
+seen_by_rest (Benched rs) = refl

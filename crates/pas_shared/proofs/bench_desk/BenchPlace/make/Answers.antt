@@ -8,9 +8,9 @@ use Rattle.pas_steps.specs.Views.{or_zero}
 use Rattle.pas_region.specs.Noted.{AreNotesOf}
 use Rattle.pas_region.proofs.Noting.{notes_next}
 use Rattle.pas_shared.specs.Ruled.{IsAskedOf, rows_in, row_with}
-use Rattle.pas_shared.specs.Benches.{row_on, first_row, made_by, SitsInRow}
+use Rattle.pas_shared.specs.Benches.{row_on, first_row, made_by}
 use Rattle.pas_shared.specs.declared.rule.Roster.TheVariants.{Benched}
-use Rattle.pas_shared.proofs.Benching.{benched_is, one_row, row_stepped, made_next}
+use Rattle.pas_shared.proofs.Benching.{benched_is, one_row, row_stepped, made_next, sits_as}
 use Rattle.pas_shared.proofs.bench_desk.BenchPlace.make.Goals as goal
 
 pub exchange-answer-requires-clause-place : goal.exchange-answer-requires-clause-place
@@ -48,11 +48,13 @@ invariant_of-self-2 c =
       (place.member.valid, (place.member.within, tt)),
       (
         rows ∙ ap (λ rs. first_row rs ∷ []) (sym rows),
-        subst (λ s. SitsInRow s _) (ap first_row (sym rows)) (record {
-          among_them = place.sits.among_them;
-          noted = subst (λ v. AreNotesOf k v c.note.new.self) (sym (made_next r k m)) (notes_next place.member.notes c.note.new.self k c.args.step c.exchange-answer.result (made_by place.bench place.member) place.sits.noted c.note.ensures);
-        }),
-        tt,
+        (
+          sits_as _ _ _ (ap first_row rows) (record {
+            among_them = place.sits.among_them;
+            noted = subst (λ v. AreNotesOf k v c.note.new.self) (sym (made_next r k m)) (notes_next place.member.notes c.note.new.self k c.args.step c.exchange-answer.result (made_by place.bench place.member) place.sits.noted c.note.ensures);
+          }),
+          tt,
+        ),
       ),
     )
 
