@@ -45,9 +45,8 @@ struct Meeting {
 
 impl Gate for Meeting {
     fn before(&self, actor: u8, number: u32) {
-        let own = actor as usize % 2;
-        if number == 2 && is_set_in_time(&self.answered[1 - own]) {
-            self.met[own].store(true, SeqCst);
+        if number == 2 && is_set_in_time(&self.answered[(actor as usize + 1) % 2]) {
+            self.met[actor as usize % 2].store(true, SeqCst);
         }
     }
 
