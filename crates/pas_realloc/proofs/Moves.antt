@@ -76,11 +76,11 @@ large_left {σ} wanted found tells c c1 block less spare spare1 did can law law1
     let falls = spare_falls spare spare1 (length (events_by σ.seat.actor v did.steps)) did.calls.adds (record { view = v; whole = can.whole; stood = can.stood; met = can.met.rest }) law law1 refl in
     (omega (arith, falls, few, room), omega (arith, room))
 
-left_by : {σ σ1 : Standing} (route : Route) (wanted : Wanted) (found : Option ℕ) (tells : Bool) (c c1 : Cached) (block : Block) (less spare spare1 : ℕ) → AllocatesBy route wanted found tells c c1 σ σ1 (Ok block) → CanCall σ (MayRequestBy route σ.seat.profile c (pages_of wanted) less)
+left_by : (σ σ1 : Standing) (route : Route) (wanted : Wanted) (found : Option ℕ) (tells : Bool) (c c1 : Cached) (block : Block) (less spare spare1 : ℕ) → AllocatesBy route wanted found tells c c1 σ σ1 (Ok block) → CanCall σ (MayRequestBy route σ.seat.profile c (pages_of wanted) less)
     → Spares σ spare → Spares σ1 spare1 → (spare ≤ spare1 + less) × (1 ≤ less)
-left_by (Route.Class class) wanted found tells c c1 block less spare spare1 did can law law1 = small_left wanted tells c c1 (Ok block) less spare spare1 did can law law1
-left_by Route.Bitfit wanted found tells c c1 block less spare spare1 did can law law1 = small_left wanted tells c c1 (Ok block) less spare spare1 did can law law1
-left_by Route.Large wanted found tells c c1 block less spare spare1 did can law law1 = large_left wanted found tells c c1 block less spare spare1 did can law law1
+left_by σ σ1 (Route.Class class) wanted found tells c c1 block less spare spare1 did can law law1 = small_left wanted tells c c1 (Ok block) less spare spare1 did can law law1
+left_by σ σ1 Route.Bitfit wanted found tells c c1 block less spare spare1 did can law law1 = small_left wanted tells c c1 (Ok block) less spare spare1 did can law law1
+left_by σ σ1 Route.Large wanted found tells c c1 block less spare spare1 did can law law1 = large_left wanted found tells c c1 block less spare spare1 did can law law1
 
 -- ---- what it comes to
 pub kept : {σ : Standing} (Answers : Option ℕ → Type 0) (Same : Type 0) (wanted : Wanted) (old : Block) (size align : ℕ) (c : Cached) → suits old size align ≡ true → Same → Moves Answers Same wanted old size align c c σ σ (Ok Kept)
@@ -94,12 +94,12 @@ full_log n e = le-leb 64 n (omega (arith, e))
 
 pub room_to_free : {σ σ1 : Standing} {Answers : Option ℕ → Type 0} {Same : Type 0} {tells : Bool} (heap size align spare spare1 : ℕ) (c c1 : Cached) (block : Block) → AllocatesRequest Answers Same (wanted_for σ.seat.profile heap size align) tells c c1 σ σ1 (Ok block)
     → CanCall σ (MayMove σ.seat.profile (wanted_for σ.seat.profile heap size align) c spare) → Spares σ spare → Spares σ1 spare1 → length c1.log ≡ 64 → 64 ≤ spare1
-room_to_free {σ} {tells = tells} heap size align spare spare1 c c1 block r can law law1 full =
+room_to_free {σ} {σ1} {tells = tells} heap size align spare spare1 c c1 block r can law law1 full =
     let w = wanted_for σ.seat.profile heap size align in
     let s = serves c c1 heap size align r in
     let at : length c.log ≡ 64 = ap length (sym s.log_is) ∙ full in
     let flush : spare - flush_of_full c.log ≡ spare - 64 = ap (λ t. spare - (if t then 64 else 0)) (full_log (length c.log) at) in
-    let left = left_by w.route w r.found tells c c1 block (spare - flush_of_full c.log) spare spare1 r.allocates can law law1 in
+    let left = left_by σ σ1 w.route w r.found tells c c1 block (spare - flush_of_full c.log) spare spare1 r.allocates can law law1 in
     let most = left.0 in
     let some = left.1 in
     omega (arith, flush, most, some)
