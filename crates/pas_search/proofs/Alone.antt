@@ -1,28 +1,35 @@
 -- A search whose actor alone made steps meanwhile: its promise is what the law of the lone search asks.
-use Rattle.std.proofs.Common.{◌≡◌, ℕ, Bool, false, List, ◌++◌, ◌⊎◌, inl, inr, refl, Result, Ok, Err, MatchResult}
+use Rattle.std.proofs.Common.{◌≡◌, ◌≢◌, ℕ, Bool, false, List, ◌++◌, ◌⊎◌, inl, inr, refl, ap, sym, ◌∙◌, true≢false, Result, Ok, Err, MatchResult}
+use Rattle.std.proofs.lemmas.Bool.{cases_eq}
+use Rattle.pas_profile.specs.Directories.{deed_word_of}
 use Rattle.pas_profile.specs.Profiles.{IsValid, IsPage, IsDirectoryOf}
 use Rattle.pas_profile.specs.declared.directory.Directory.{Directory}
 use Rattle.pas_profile.specs.declared.event.NoRoom.{NoRoom}
 use Rattle.pas_profile.specs.declared.event.NoRoom.TheVariants.{NoSpace, Held}
 use Rattle.pas_profile.specs.declared.profile.Profile.{Profile}
+use Rattle.pas_profile.specs.declared.word.Word.TheVariants as Word
+use Rattle.pas_profile.proofs.Codecs.{deed_word_of-positive}
 use Rattle.pas_steps.specs.Agreement.{Agreed}
+use Rattle.pas_steps.specs.Calls.{nothing, Does}
 use Rattle.pas_steps.specs.Desks.{triples}
 use Rattle.pas_steps.specs.Evidence.{Readings, IsAntitone}
-use Rattle.pas_steps.specs.Lists.{Whole, part, Legal}
-use Rattle.pas_steps.specs.Views.{View}
+use Rattle.pas_steps.specs.Lists.{Whole, part, word_after, Legal}
+use Rattle.pas_steps.specs.Views.{View, has_right, KnowsDeed}
 use Rattle.pas_steps.specs.declared.step.Made.{Made}
 use Rattle.pas_steps.specs.declared.step.Step.TheVariants.{Deed}
+use Rattle.pas_steps.proofs.Parts.{part_of_own}
 use Rattle.pas_steps.proofs.Past.{once_map}
 use Rattle.pas_core.specs.Alone.{ShowsNone, ShowsAnswer, IsPlainAnswer}
 use Rattle.pas_core.specs.Fits.{HasNoFit}
 use Rattle.pas_core.specs.Rights.{AllRest}
-use Rattle.pas_core.proofs.OneActor.{plain_answer, lends_none, legal_earlier}
+use Rattle.pas_core.proofs.OneActor.{plain_answer, lends_none, legal_earlier, legal_before, entry_lacks, in_hands, is_with_own}
 use Rattle.pas_core.proofs.Nexts.{agreed_steps}
+use Rattle.pas_core.proofs.Rights.{own_eligible, spot_of, is_with, spotted}
 use Rattle.pas_search.specs.Alone.{page_found, FindsWhatThereIs}
 use Rattle.pas_search.specs.Kinds.{searching, AreSearch}
 use Rattle.pas_search.specs.Searches.{MaySearch, FromOffered, ByDeed, DeedMadeHere, IsServed, IsRefused}
 use Rattle.pas_search.specs.Serving.{Rule, ShowsFit}
-use Rattle.pas_search.specs.Telling.{IsTrueReason, IsTold}
+use Rattle.pas_search.specs.Telling.{IsInHands, IsTrueReason, IsTold}
 use Rattle.pas_search.specs.declared.serving.Served.{Served}
 use Rattle.pas_search.proofs.FindingAPage.{all_told, could_serve}
 
@@ -110,3 +117,27 @@ module _ (no_fit : Readings → Type 0) (f : Profile) (d : Directory) (k : ℕ) 
 pub found_before : {A : Type 0} (no_fit : Readings → Type 0) (f : Profile) (d : Directory) (k : ℕ) (l : Whole) (after searched : List Made) → IsValid f → IsDirectoryOf f d → IsAntitone no_fit → Legal f (triples k (after ++ searched) ++ l) → AreSearch searched → MaySearch d (part k l)
     → (answer : Result A NoRoom) → IsFoundOrRefused no_fit f d searched answer → FindsWhatThereIs no_fit f d l answer
 found_before no_fit f d k l after searched valid of fewer legal searches may = finds_what_there_is no_fit f d k l searched valid of fewer (legal_earlier f k after searched l legal) searches may
+
+-- ---- a page that is in some actor's hands
+pub none_in_hands : (f : Profile) (d : Directory) (w : Whole) (p : ℕ) → IsDirectoryOf f d → Legal f w → ((j : ℕ) → has_right (part j w) p ≡ false) → IsInHands f d w p → ⊥
+none_in_hands f d w p of legal none hands =
+    let at = spotted f w legal p in
+    let with = in_hands (spot_of w p) (word_after w (Word.Deed p)) at.deed (λ z. deed_word_of-positive d (sym hands.of_directory ∙ z)) (sym (own_eligible f w legal p d of hands.of_directory) ∙ hands.not_offered) (sym at.parked ∙ hands.not_parked) in
+    true≢false (sym (at.has with.0 ∙ ap (is_with with.0) with.1 ∙ is_with_own with.0) ∙ none with.0)
+
+-- the actor has no right of a page of the directory
+abbrev pub OwnLacks : ℕ → Directory → Whole → Type 0
+OwnLacks k d w = (p : ℕ) → word_after w (Word.Deed p) ≡ deed_word_of d → has_right (part k w) p ≡ false
+
+-- so it is where it had none before and these steps leave all as it was
+pub still_lacks : (f : Profile) (k : ℕ) (l : Whole) (d : Directory) (steps : List Made) → IsValid f → Legal f (triples k steps ++ l) → ((p : ℕ) → KnowsDeed p d (part k l) → has_right (part k l) p ≡ false) → Does nothing (part k l) (steps ++ part k l)
+    → OwnLacks k d (triples k steps ++ l)
+still_lacks f k l d steps valid legal may still p deed = ap (λ v. has_right v p) (part_of_own k steps l) ∙ (still.right p ∙ entry_lacks f k l d p steps valid (legal_before f k steps l legal) (may p) deed)
+
+-- where no other actor has a right there, no page of the directory is in anybody's hands
+pub none_held_there : (f : Profile) (k : ℕ) (d : Directory) (w : Whole) (room : NoRoom) → IsDirectoryOf f d → Legal f w → OwnLacks k d w → ((j p : ℕ) → k ≢ j → has_right (part j w) p ≡ false) → IsTrueReason f d w room → room ≡ NoSpace
+none_held_there f k d w NoSpace of legal own others reason = refl
+none_held_there f k d w (Held page) of legal own others reason = absurd (none_in_hands f d w page of legal (λ j. elim (cases_eq k j) [
+  | inl same ↦ ap (λ i. has_right (part i w) page) (sym same) ∙ own page reason.0.of_directory
+  | inr other ↦ others j page other
+]) reason.0)
