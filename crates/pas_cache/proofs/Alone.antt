@@ -61,12 +61,15 @@ module _ (f : Profile) (k : ℕ) (l : Whole) (valid : IsValid f) (fill : Filling
       let at_middle = subst (Legal f) (sym (triples_append k ys xs l)) all in
       let told = refused_told fill.no_fit f fill.directory k middle ys valid is.directory is.fewer at_middle searches may room (refusal fetch.refill) in
       let still = (refusal fetch.refill).still.from (part k middle) may (agreed_steps f k middle ys valid at_middle) in
-      subst (λ zs. IsTrueAfter zs room) (sym fetch.steps_are) (subst (λ z. IsTrueOf fill f locals l z room × OwnLacks k fill.directory z) (triples_append k ys xs l) (record {
-        cached = spent_none fill.directory.heap fill.class locals fetch.place.spent fetch.place.taken.left;
-        entry_fit = no_fit_before fill.no_fit f fill.directory k xs l is.fewer fetch.gives_back told.0;
-        exit_fit = told.1;
-        reason = told.2;
-      }, still_lacks f k middle fill.directory ys valid at_middle may.rights still))
+      subst (λ zs. IsTrueAfter zs room) (sym fetch.steps_are) (subst (λ z. IsTrueOf fill f locals l z room × OwnLacks k fill.directory z) (triples_append k ys xs l) (
+        record {
+          cached = spent_none fill.directory.heap fill.class locals fetch.place.spent fetch.place.taken.left;
+          entry_fit = no_fit_before fill.no_fit f fill.directory k xs l is.fewer fetch.gives_back told.0;
+          exit_fit = told.1;
+          reason = told.2;
+        },
+        still_lacks f k middle fill.directory ys valid at_middle may.rights still,
+      ))
 
   obtained_refused : (fewer : List Slots) (steps : List Made) (room : NoRoom) → Legal f (triples k steps ++ l) → IsObtained fill f locals fewer steps (Err room) → IsTrueAfter steps room
   obtained_refused fewer steps room legal (inl cached) = absurd (let bad : Err room ≡ Ok cached.0 = cached.1 in cc)
@@ -125,9 +128,10 @@ module _ (f : Profile) (heap size align k : ℕ) (found : Option ℕ) (c c' : Ca
       let all : steps ≡ serves.searched = serves.steps_are ∙ ap (λ xs. xs ++ serves.searched) serves.outcome.1 in
       let may = may_search_bitfit f (part k l) heap c.locals rest.locals in
       let stands : Legal f (triples k serves.searched ++ l) = subst (λ xs. Legal f (triples k xs ++ l)) all legal in
-      let told = subst (λ xs. (HasNoFit none f d l × HasNoFit none f d (triples k xs ++ l) × IsTrueReason f d (triples k xs ++ l) room) × OwnLacks k d (triples k xs ++ l)) (sym all)
-      (refused_told none f d k l serves.searched valid (record { heap = admitted.of_profile; kind = tt; class = tt }) (fewer_runs (run_for r align)) stands serves.searches may room refused,
-          still_lacks f k l d serves.searched valid stands may.rights (refused.still.from (part k l) may (agreed_steps f k l serves.searched valid stands))) in
+      let told = subst (λ xs. (HasNoFit none f d l × HasNoFit none f d (triples k xs ++ l) × IsTrueReason f d (triples k xs ++ l) room) × OwnLacks k d (triples k xs ++ l)) (sym all) (
+        refused_told none f d k l serves.searched valid (record { heap = admitted.of_profile; kind = tt; class = tt }) (fewer_runs (run_for r align)) stands serves.searches may room refused,
+        still_lacks f k l d serves.searched valid stands may.rights (refused.still.from (part k l) may (agreed_steps f k l serves.searched valid stands)),
+      ) in
       subst (IsRefusedBy Route.Bitfit) same (record { cached = λ none. none; entry_fit = told.0.0; exit_fit = told.0.1; reason = told.0.2 }, told.1)
 
   pages_refused : route_in f size align ≡ Route.Large → ServesPages f wanted found c c' steps (Err room) → IsRefusedBy Route.Large wanted
