@@ -26,8 +26,8 @@ pub fn a_lone_refusal_is_no_space()
         → Legal f (triples k steps ++ l) → ServesRequest f (wanted_for f heap size align) found c c' steps (Err room) → room ≡ NoSpace }
 {}
 
-/// Where they do, the run that a door named for a request for whole pages serves it exactly where each of its pages was one of the heap's large pages before,
-/// offered and free: then in at most 18 steps a page and two more. Otherwise it goes as its search for a run does.
+/// Where the steps of a request for whole pages stand together, the run that a door named for it serves it exactly where each of its pages was one of the
+/// heap's large pages before, offered and free: then in at most 18 steps a page and two more. Otherwise it goes as its search for a run does.
 pub fn a_lone_request_takes_what_is_named()
     ensures { (f : Profile) (heap size align k : ℕ) (found : Option ℕ) (c c' : Cached) (l : Whole) (steps : List Made) (answer : Result Block NoRoom) → IsValid f → AtRest f c (part k l)
         → Legal f (triples k steps ++ l) → ServesRequest f (wanted_for f heap size align) found c c' steps answer → TakesWhatIsNamed f (wanted_for f heap size align) found l steps answer }
