@@ -182,7 +182,7 @@ def test_names(room):
         symbols = [line.split() for line in called(["nm", "-S", str(program)]).stdout.splitlines()]
         spans = {words[3]: (int(words[0], 16), int(words[0], 16) + int(words[1], 16)) for words in symbols if len(words) == 4}
         record(log, [str(program)])
-        os.utime(program, (0, 0) if is_older else None)
+        os.utime(program, (0, 0) if is_older else (1 << 32, 1 << 32))
         made = trace_of(log, "--heaps", "site")
         for heap, (count, function, line) in enumerate(((2, "one", 3), (1, "other", 4))):
             if named is None:
