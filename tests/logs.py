@@ -61,7 +61,7 @@ def second_reading(what, text):
 def on_terminal(words, seen=lambda child, said: None):
     """The status of a tool, and what it says on standard error where that is a terminal. Each part of that is shown to `seen`."""
     ours, theirs = pty.openpty()
-    child = subprocess.Popen(words, stdin=subprocess.DEVNULL, stdout=subprocess.DEVNULL, stderr=theirs)
+    child = subprocess.Popen(words, stdin=subprocess.DEVNULL, stdout=subprocess.DEVNULL, stderr=theirs, start_new_session=True)
     os.close(theirs)
     said = b""
     try:
@@ -81,8 +81,13 @@ def told_on_terminal(words):
 
 
 def interrupted(words, at):
-    """The same of a tool that is interrupted once it has said this."""
-    return on_terminal(words, lambda child, said: child.send_signal(signal.SIGINT) if at in said else None)
+    """The same of a tool that is interrupted, with what it runs, once it has said this."""
+    sent = []
+
+    def interrupt(child, said):
+        if at in said and not sent:
+            sent.append(os.killpg(child.pid, signal.SIGINT))
+    return on_terminal(words, interrupt)
 
 
 def refused(transcript):

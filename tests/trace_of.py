@@ -186,12 +186,16 @@ def test_limits(program, room):
     for options in ((), ("--guard", "9")):
         made = trace_of(room / "hand.log", *options, "--version", "4")
         run, more = called_with(program, "order", made.stdout), called_with(program, "order", made.stdout + f"a 1 5000 0 {4 << 20} 16\n")
-        check(run.returncode == 0 and "cut: " in made.stderr and "2,000,000 lines of a transcript: rarer passes and fewer --pages" in made.stderr, f"a trace at the limit: {options} {run.stdout[:80]} {made.stderr}")
+        check(run.returncode == 0 and "cut: " in made.stderr and "2,000,000 lines of a transcript: rarer passes and fewer --pages need less" in made.stderr, f"a trace at the limit: {options} {run.stdout[:80]} {made.stderr}")
         check(more.returncode == 1 and more.stdout.endswith("TraceTooLarge\n"), f"beyond the limit: {options} {more.stdout[:80]}")
-    passes = trace_of(write_log(room / "hand.log", blocks(8000, 3000)), "--pass", "10")
-    run, more = called_with(program, "order", passes.stdout), called_with(program, "order", passes.stdout + "pass\n")
-    check("pages 12032 " in passes.stdout[:20] and passes.stdout.count("\npass\n") == 164 and run.returncode == 0 and more.stdout.endswith("TraceTooLarge\n"),
-          f"passes at the limit: {passes.stderr} {run.stdout[:80]} {more.stdout[:80]}")
+    log = write_log(room / "hand.log", blocks(40_000, 24) + blocks(8000, 3000, first=40_001))
+    for options, pages, records in (["--pass", "100"], 320, "40,000"), (["--pass", "10", "--pages", "3000"], 3000, "6,619"):
+        passes = trace_of(log, *options)
+        run = called_with(program, "order", passes.stdout)
+        check(passes.stdout.startswith(f"pas 4 pages {pages} ") and run.returncode == 0 and not refused(run.stdout), f"passes at the limit: {passes.stdout[:20]} {run.stdout[:80]}")
+        check(f"all after number {records}, for a trace has at most operations for 2,000,000 lines" in passes.stderr, f"passes at the limit: {passes.stderr}")
+    more = called_with(program, "order", passes.stdout + "pass\n")
+    check(more.stdout.endswith("TraceTooLarge\n"), f"a pass beyond the limit: {more.stdout[:80]}")
     sites = [request(1, 64 * each, 8, site=1000 + each % 50) for each in range(1, 500)]
     made = trace_of(write_log(room / "hand.log", sites), "--heaps", "site")
     check(called_with(program, "order", made.stdout).returncode == 0 and "19 other call sites" in made.stdout, f"fifty call sites: {made.stdout[:900]}")
@@ -205,7 +209,7 @@ def test_limits(program, room):
     except trace_text.Full as full:
         length = len("".join(trace.text(32, list(range(32)), ["#" * 999] * 32)))
         check("bytes" in str(full) and length <= room_for_lines and trace.live > 40, f"bytes: {full}, {length}, {trace.live}")
-    print("six traces at the limits")
+    print("seven traces at the limits")
 
 
 def test_million(program, room):

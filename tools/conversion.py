@@ -121,6 +121,9 @@ class Conversion:
             self.trace.begin_phase()
         self.trace.next_due, self.trace.of_threads = due, 0
 
+    def cut_after(self, records: int, last: int, limit: str) -> None:
+        self.cut[f"records of the log, all after number {records:,}, for a trace has at most {limit}"] = last - records
+
     def number_at(self, start: Start, record: Record) -> int:
         return 1 if record[5] in start.ended else self.numbers.number(record[5])
 

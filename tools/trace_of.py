@@ -31,11 +31,11 @@ from needed_pages import SMALL, Need
 from progress import Progress
 from trace_heaps import Heaps
 from trace_text import (LAST_VERSION, MOST_AGE, MOST_EPOCH, MOST_GUARDED, MOST_OPERATIONS, MOST_PAGES, MOST_THREADS,
-                        Full, Wanted)
+                        Full, TooLong, Wanted)
 from whole_file import write_whole
 
 INTERRUPTED, CUT = 130, 3
-TELL_EACH = 20_000
+TELL_EACH, CHECK_EACH = 20_000, 5_000
 NANOSECONDS = 1_000_000
 MOST_MILLISECONDS, MOST_RECORDS = 86_400_000, 1 << 40
 
@@ -48,43 +48,65 @@ class Made(NamedTuple):
     shared: list[int]
 
 
-def read_through(log: recorded.Log, options: argparse.Namespace, pages: int) -> Conversion:
-    """The trace of the log, or of the part of it that is wanted. Without pages it may be too long for its own."""
+class Reading(NamedTuple):
+    """A trace of the log, and the last of its records by which all fits into the pages that are needed until then."""
+
+    conversion: Conversion
+    fitting: int
+
+
+def read_through(log: recorded.Log, options: argparse.Namespace, pages: int, last: int) -> Reading:
+    """The trace of the part of the log that is wanted, up to the record `last`. Without pages it ends where the pages that are
+    needed until then leave no room for it."""
     wanted = Wanted(options.version, options.age, options.tick, options.passes, options.idle, options.idle_age, options.guard,
                     options.tick_ms and options.tick_ms * NANOSECONDS, options.pass_ms and options.pass_ms * NANOSECONDS)
     conversion = Conversion(wanted, pages, options.threads, options.sized, Heaps(options.heaps, log))
     progress, records, before = Progress("records", log.records), recorded.records_of(log), options.start - 1
-    last = min(log.records, before + options.most)
-    at = before
+    at = fitting = before
     try:
-        start = after(islice(records, before))
-        conversion.begin_with(start)
+        conversion.begin_with(after(islice(records, before)))
         for at, record in enumerate(islice(records, last - before), before):
             if at % TELL_EACH == 0:
                 progress.tell(at)
+            if at % CHECK_EACH == 0 and not pages:
+                if not fits(conversion, options):
+                    break
+                fitting = at
             conversion.take(record)
     except Full as full:
-        left = f"records of the log, all after number {at:,}, for a trace has at most {full}"
-        conversion.cut[left] = last - at
+        conversion.cut_after(at, last, str(full))
     finally:
         progress.end()
-    if conversion.numbers.shared:
-        conversion.cut["threads that share another's number"] = conversion.numbers.shared
-    return conversion
+    return Reading(conversion, fitting)
+
+
+def region(conversion: Conversion, options: argparse.Namespace) -> int:
+    """How many pages the blocks so far need, of those that the version has."""
+    shared = shared_heaps(options.shared, conversion)
+    return min(conversion.needed.need(shared).wanted, MOST_PAGES[options.version])
+
+
+def fits(conversion: Conversion, options: argparse.Namespace) -> bool:
+    return conversion.trace.fits(region(conversion, options))
 
 
 def made(log: recorded.Log, options: argparse.Namespace) -> Made:
-    """The trace, with as many pages as its blocks need where no number is named. Where these allow fewer lines it is made
-    once more, for a region of so many."""
-    conversion = read_through(log, options, options.pages or 0)
+    """The trace, with as many pages as its blocks need where no number is named. Where these leave no room for all of it, it is
+    made once more of the records that fit; or, where hardly any do, of what fits with these pages."""
+    last = min(log.records, options.start - 1 + options.most)
+    conversion, fitting = read_through(log, options, options.pages or 0, last)
+    if not options.pages and fits(conversion, options):
+        conversion.trace.pages = region(conversion, options)
+    elif not options.pages and fitting < options.start + CHECK_EACH:
+        conversion, _ = read_through(log, options, region(conversion, options), last)
+    elif not options.pages:
+        conversion, _ = read_through(log, options, 0, fitting)
+        conversion.trace.pages = region(conversion, options)
+        conversion.cut_after(fitting, last, str(TooLong()))
+    if conversion.numbers.shared:
+        conversion.cut["threads that share another's number"] = conversion.numbers.shared
     shared = shared_heaps(options.shared, conversion)
-    need = conversion.needed.need(shared)
-    if not options.pages:
-        pages = min(need.wanted, MOST_PAGES[options.version])
-        if not conversion.trace.fits(pages):
-            conversion = read_through(log, options, pages)
-        conversion.trace.pages = pages
-    return Made(conversion, need, shared)
+    return Made(conversion, conversion.needed.need(shared), shared)
 
 
 def shared_heaps(which: str | int | None, conversion: Conversion) -> list[int]:

@@ -25,6 +25,14 @@ class Full(Exception):
     """The trace may have no more lines: why, and what helps."""
 
 
+class TooLong(Full):
+    """The transcript may have no more lines."""
+
+    def __init__(self) -> None:
+        super().__init__(f"operations for {MOST_BOUND:,} lines of a transcript: rarer passes and fewer --pages need less, and "
+                         "--from and --most take another part of the log")
+
+
 class Room(NamedTuple):
     """What a request gets: its bytes, whether they are a slot of a class, its pages where it gets whole ones, and how many
     lines of a transcript it may bring."""
@@ -104,8 +112,7 @@ class Trace:
         if bytes_ + ROOM_FOR_HEAD > MOST_BYTES:
             raise Full(f"{MOST_BYTES:,} bytes: --from and --most take another part of the log, and frees without a size are shorter")
         if fixed + cost > MOST_BOUND:
-            raise Full(f"operations for {MOST_BOUND:,} lines of a transcript: rarer passes and fewer --pages need less, and --from "
-                       "and --most take another part of the log")
+            raise TooLong
         self.bytes, self.cost, self.counts, self.fixed = bytes_, cost, counts, fixed
         self.operations += 1
         self.lines.append(line)
