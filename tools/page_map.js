@@ -124,6 +124,7 @@ class RunMap {
   place() {
     this.groups = [];
     this.headings = [];
+    this.groupOf = new Uint16Array(this.data.pages.length);
     let y = 0;
     this.data.pages.forEach((page, row) => {
       const last = this.groups[this.groups.length - 1];
@@ -136,6 +137,7 @@ class RunMap {
         this.headings.push({ heap: group.heap, y });
         y += HEADING;
       }
+      this.groupOf.fill(this.groups.indexOf(group), group.first, group.first + group.rows);
       group.height = Math.max(this.rowHeight, Math.floor(LEAST_GROUP / group.rows));
       group.y = y;
       group.end = y + Math.max(LEAST_GROUP, group.rows * group.height);
@@ -147,7 +149,7 @@ class RunMap {
   }
 
   placeOfRow(row) {
-    const group = this.groups.find(each => row >= each.first && row < each.first + each.rows);
+    const group = this.groups[this.groupOf[row]];
     return group.y + (row - group.first + .5) * group.height;
   }
 
@@ -160,27 +162,28 @@ class RunMap {
     at("h2").textContent = `Page map of ${data.name}`;
     const most = (which, what) => data.most[which][0] === [peak.pages * 4096, peak.room, peak.asked][which] ? "" :
       ` ${what} ${bytes(data.most[which][0])}, at line ${spelled(data.most[which][1])}.`;
-    at(".summary").textContent = `${count(data.operations, "operation")} on a region of ${count(data.regionPages, "page")}; ` +
-      `${data.transcript} has ${count(data.lines, "line")} before its report. ` +
+    const told = !peak.line ? "No page had memory." :
       `Peak: ${count(peak.pages, "page")} with memory (${bytes(4096 * peak.pages)}) at line ${spelled(peak.line)}, ` +
       `${bytes(peak.room)} of it in blocks, for which ${bytes(peak.asked)} were asked.` +
-      `${most(1, "Most in blocks:")}${most(2, "Most asked for:")} At the end: ${data.total}.`;
+      `${most(1, "Most in blocks:")}${most(2, "Most asked for:")}`;
+    at(".summary").textContent = `${count(data.operations, "operation")} on a region of ${count(data.regionPages, "page")}; ` +
+      `${data.transcript} has ${count(data.lines, "line")} before its report. ${told} At the end: ${data.total}.`;
     const notes = [], lines = data.last - data.first + 1, all = data.allMarks[0] + data.allMarks[1];
     if (lines < data.lines) notes.push(`Only lines ${spelled(data.first)} to ${spelled(data.last)} are drawn.`);
     if (lines > data.columns)
       notes.push(`Sampled: a column stands for ${(lines / data.columns).toFixed(1)} lines, and shows the pages after the last of them and the greatest totals.`);
     if (data.byActor)
       notes.push("The lines of a phase stand by thread, as `pas run` writes them; so a column within a phase is no moment, nor is a peak there.");
-    const told = data.marks.reduce((sum, mark) => sum + mark[TIMES], 0);
+    const marked = data.marks.reduce((sum, mark) => sum + mark[TIMES], 0);
     if (all > data.marks.length)
-      notes.push(`${count(data.marks.length, "mark")} for ${spelled(told)} of ${count(all, "refusal or wrong free", "refusals and wrong frees")}.`);
+      notes.push(`${count(data.marks.length, "mark")} for ${spelled(marked)} of ${count(all, "refusal or wrong free", "refusals and wrong frees")}.`);
     at(".notes").textContent = notes.join(" ");
   }
 
   sayHeaps() {
     const { data } = this, table = this.section.querySelector("table"), head = made(made(table, "thead"), "tr");
     this.section.querySelector(".heaps summary").textContent =
-      `${count(data.heaps.length, "heap")}, at the peak in line ${spelled(data.peak.line)}`;
+      `${count(data.heaps.length, "heap")}${data.peak.line ? `, at the peak in line ${spelled(data.peak.line)}` : ""}`;
     for (const text of ["heap", "what it is", "pages with a deed", "pages with memory", "blocks", "bytes in blocks", "bytes asked for"])
       made(head, "th", text, { className: /^heap|^what/.test(text) ? "text" : "" });
     const body = made(table, "tbody"), order = [...data.heaps].sort((one, other) => other[2] - one[2] || one[0] - other[0]);
