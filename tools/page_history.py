@@ -94,7 +94,8 @@ class History:
         """Of a transcript with so many deeds, in which requests of these names were guarded."""
         self.trace, self.names_guarded = trace, names_guarded
         self.pages: dict[int, Page] = {}
-        self.deeds, self.state, self.changed = 0, bytearray(deeds), set()
+        self.deeds, self.state = 0, bytearray(deeds)
+        self.changed: set[Page] = set()
         self.marks: list[Mark] = []
         self.blocks: dict[tuple[bytes, bytes], tuple[int, int, list[int]]] = {}
         self.ended_early: set[tuple[bytes, bytes]] = set()
@@ -258,8 +259,8 @@ class History:
             self.peak, self.is_at_peak = self.peak._replace(heaps=[list(each) for each in self.heaps]), False
 
     def next_of(self, actor: int) -> tuple[Requests, bool, int]:
-        """Which request a line of this actor answers, by its place. Those that were guarded are answered by the thread's
-        keeper, which is actor T + k of thread k, and whose lines stand elsewhere in a transcript of `run`."""
+        """Which request a line of this actor answers, by its place. Those that were guarded are answered by the
+        thread's keeper, which is actor T + k of thread k, and whose lines stand elsewhere in a transcript of `run`."""
         is_keeper = actor > self.trace.threads
         requests = self.trace.requests[actor - self.trace.threads if is_keeper else actor]
         at = requests.answered[is_keeper]

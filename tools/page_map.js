@@ -1,7 +1,7 @@
 "use strict";
 /* Draws each section of class `run`: its curves and its map, of the columns that are in view, and tells what stands at
    the pointer. A section is unpacked and drawn when it is shown first, and of its map only what the window shows. */
-const LEFT = 150, RIGHT = 24, LEAST_WIDTH = 400, PLOT = 96, ROW = 14, TALL = 900, LEAST_GROUP = 12, GAP = 3;
+const LEFT = 150, RIGHT = 24, LEAST_WIDTH = 400, PLOT = 96, ROW = 14, LEAST_ROW = 1 / 16, MOST_ROW = 56, TALL = 900, LEAST_GROUP = 12, GAP = 3;
 const HEADING = 18, AXIS = 20, BEYOND = 400, LEAST_SHOWN = 8, NEAR = 6, MOST_TOLD = 4, FONT = "11px system-ui, sans-serif";
 /* Of each kind the colours of a page that is nearly empty, and of a full one. */
 const COLOURS = {
@@ -120,6 +120,12 @@ class RunMap {
     this.show(from + (to - from - number) * part, from + (to - from - number) * part + number);
   }
 
+  /* Rows of less than a point: a point then shows one of several pages. */
+  setRows(height) {
+    this.rowHeight = within(height, LEAST_ROW, MOST_ROW);
+    this.draw();
+  }
+
   /* Pages of one heap and kind stand together, under their heap; each group has its place in the picture. */
   place() {
     this.groups = [];
@@ -138,9 +144,10 @@ class RunMap {
         y += HEADING;
       }
       this.groupOf.fill(this.groups.indexOf(group), group.first, group.first + group.rows);
-      group.height = Math.max(this.rowHeight, Math.floor(LEAST_GROUP / group.rows));
+      const least = LEAST_GROUP / group.rows;
+      group.height = Math.max(this.rowHeight, least < 1 ? least : Math.floor(least));
       group.y = y;
-      group.end = y + Math.max(LEAST_GROUP, group.rows * group.height);
+      group.end = y + Math.max(LEAST_GROUP, Math.ceil(group.rows * group.height));
       y = group.end + GAP;
       this.headings[this.headings.length - 1].end = y;
     }
@@ -323,9 +330,10 @@ class RunMap {
     const label = within(begin + HEADING, y, Math.max(y, group.end - LEAST_GROUP)) + 10;
     write(context, `${group.kind}${group.rows > 1 ? ` ×${spelled(group.rows)}` : ""}`, LEFT - 8, label, "right");
     if (to <= from) return;
-    const image = new ImageData(columns.length, to - from), pixels = new Uint32Array(image.data.buffer), table = this.tableOf(group.kind);
-    for (let row = from, at = 0; row < to; row++) {
-      const base = (group.first + row) * data.columns;
+    const lines = height < 1 ? Math.max(1, Math.round((to - from) * height)) : to - from;
+    const image = new ImageData(columns.length, lines), pixels = new Uint32Array(image.data.buffer), table = this.tableOf(group.kind);
+    for (let line = 0, at = 0; line < lines; line++) {
+      const row = from + Math.floor((line + .5) * (to - from) / lines), base = (group.first + row) * data.columns;
       for (let point = 0; point < columns.length; point++) pixels[at++] = table[cells[base + columns[point]]];
     }
     const source = this.source ||= document.createElement("canvas");
@@ -432,8 +440,8 @@ class RunMap {
       in: () => this.zoom(.5), out: () => this.zoom(2), all: () => this.show(0, this.data.columns),
       left: () => this.show(this.view.from - half(), this.view.to - half()),
       right: () => this.show(this.view.from + half(), this.view.to + half()),
-      taller: () => { this.rowHeight = Math.min(4 * ROW, this.rowHeight * 2); this.draw(); },
-      lower: () => { this.rowHeight = Math.max(1, Math.floor(this.rowHeight / 2)); this.draw(); },
+      taller: () => this.setRows(this.rowHeight * 2),
+      lower: () => this.setRows(this.rowHeight > 1 ? Math.floor(this.rowHeight / 2) : this.rowHeight / 2),
     };
     form.addEventListener("click", event => deeds[event.target.dataset.do]?.());
     form.addEventListener("submit", event => {
