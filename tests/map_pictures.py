@@ -151,6 +151,39 @@ def test_zoom(page):
     page.click("all")
 
 
+def test_rows(page):
+    """Rows become taller and lower, down to several pages in a point; a pointer over one still tells its page."""
+    number, height = len(page.data["pages"]), "runs[0].rowHeight"
+    before, tall = page.value(height), page.value("runs[0].height")
+    page.click("taller")
+    check(page.value(height) == 2 * before and page.value("runs[0].height") > tall, f"taller rows than {before}: {page.value(height)}")
+    test_cells(page, "taller rows")
+    for _ in range(12):
+        page.click("lower")
+    check(page.value(height) == 1 / 16 and page.value("runs[0].height") < tall / 2, f"the lowest rows: {page.value(height)}, {page.value('runs[0].height')} of {tall}")
+    point_at_pages(page, range(0, number, 17))
+    groups = page.value("runs[0].groups.map(({ first, rows, y, height }) => [first, rows, y, height])")
+    left, top, width = page.value("[runs[0].map.getBoundingClientRect().left + LEFT, runs[0].map.getBoundingClientRect().top, runs[0].width]")
+    page.browser.point_at(1, 1)
+    points, wanted, columns = [], [], page.data["columns"]
+    marks = [(x, y) for _, x, y in page.value(MARKS)]
+    for first, rows, y, each in groups:
+        for at in range(0, width, 50):
+            if rows * each > 4 and each < 1 and not any(abs(x - left - at) < 9 and abs(mark - top - y) < 14 for x, mark in marks):
+                points.append((left + at + .5, top + y + 2.5))
+                column = column_shown((0, columns), at, width)
+                near = range(first + max(0, int(1 / each)), first + min(rows, int(4 / each) + 1))
+                wanted.append({page.data["cells"][row * columns + column] for row in near})
+    _, found = page.points(points)
+    kinds = [page.data["pages"][first][2] for first, rows, _, each in groups if rows * each > 4 and each < 1]
+    tables = {kind: page.value(f"Array.from({{ length: 21 }}, (_, state) => runs[0].colourOf({json.dumps(kind)}, state))") for kind in kinds}
+    wrong = sum(not any(colour == table[state] for table in tables.values() for state in states) for colour, states in zip(found, wanted))
+    check(len(points) > 20 and not wrong, f"the lowest rows: {wrong} of {len(points)} points have another colour")
+    for _ in range(6):
+        page.click("taller")
+    check(page.value(height) == 4, f"taller again: {page.value(height)}")
+
+
 def test_head(page):
     """The head stays where one scrolls, with the axis, the legend and the name of the heap below it; a heap of the table is gone to."""
     page.value("scrollTo(0, document.documentElement.scrollHeight)")
@@ -278,6 +311,7 @@ def test_pictures(program, room, cases, into):
         test_cells(page, "all columns")
         points = test_colours(page)
         test_zoom(page)
+        test_rows(page)
         test_head(page)
         test_several(browser, room, cases)
         if into:

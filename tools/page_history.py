@@ -94,7 +94,8 @@ class History:
         """Of a transcript with so many deeds, in which requests of these names were guarded."""
         self.trace, self.names_guarded = trace, names_guarded
         self.pages: dict[int, Page] = {}
-        self.deeds, self.state, self.changed = 0, bytearray(deeds), set()
+        self.deeds, self.state = 0, bytearray(deeds)
+        self.changed: set[Page] = set()
         self.marks: list[Mark] = []
         self.blocks: dict[tuple[bytes, bytes], tuple[int, int, list[int]]] = {}
         self.ended_early: set[tuple[bytes, bytes]] = set()
@@ -116,15 +117,14 @@ class History:
         self.line += 1
         words = line.split()
         try:
-            if words[0] != self.actor:
-                self.see_actor(words)
-            if words[0] == self.actor:
+            if words[0] == self.actor or self.see_actor(words):
                 self.by_word[words[1]](words)
         except (KeyError, ValueError, IndexError):
             raise Fault(f"no line of a transcript of this trace: {shown(line)}") from None
 
-    def see_actor(self, words: list[bytes]) -> None:
-        """A line of another actor than the last, or one that ends a phase, after which any actor's lines may come."""
+    def see_actor(self, words: list[bytes]) -> bool:
+        """Whether it is a line of an actor, another than the last; one that ends a phase is none, and any actor's lines
+        may come after it."""
         if words[0] == b"phase":
             self.phases.append(self.line)
             self.actor = b""
@@ -135,6 +135,7 @@ class History:
             self.is_by_actor &= before < actor or not self.actor
             self.actors |= 0 < before < actor
             self.actor = words[0]
+        return bool(self.actor)
 
     def page(self, number: int) -> Page:
         if number not in self.pages:
@@ -192,10 +193,12 @@ class History:
         of_heap[2] += asked
         of_heap[3] += 1
         self.lies(block[0], room, 1)
-        self.see_peak()
+        if self.room.now > self.peak.room:
+            self.see_peak()
 
     def freed(self, words: list[bytes]) -> None:
-        self.leave_peak()
+        if self.is_at_peak:
+            self.leave_peak()
         block = words[2], words[4]
         if block not in self.blocks:
             self.ended_early.add(block)
@@ -256,12 +259,13 @@ class History:
             self.peak, self.is_at_peak = self.peak._replace(heaps=[list(each) for each in self.heaps]), False
 
     def next_of(self, actor: int) -> tuple[Requests, bool, int]:
-        """Which request a line of this actor answers, by its place. Those that were guarded are answered by the thread's
-        keeper, which is actor T + k of thread k, and whose lines stand elsewhere in a transcript of `run`."""
+        """Which request a line of this actor answers, by its place. Those that were guarded are answered by the
+        thread's keeper, which is actor T + k of thread k, and whose lines stand elsewhere in a transcript of `run`."""
         is_keeper = actor > self.trace.threads
         requests = self.trace.requests[actor - self.trace.threads if is_keeper else actor]
-        at, names = requests.answered[is_keeper], requests.names
+        at = requests.answered[is_keeper]
         if self.names_guarded:
+            names = requests.names
             while at < len(names) and (names[at] in self.names_guarded) != is_keeper:
                 at += 1
         return requests, is_keeper, at

@@ -1,7 +1,7 @@
 "use strict";
 /* Draws each section of class `run`: its curves and its map, of the columns that are in view, and tells what stands at
    the pointer. A section is unpacked and drawn when it is shown first, and of its map only what the window shows. */
-const LEFT = 150, RIGHT = 24, LEAST_WIDTH = 400, PLOT = 96, ROW = 14, TALL = 900, LEAST_GROUP = 12, GAP = 3;
+const LEFT = 150, RIGHT = 24, LEAST_WIDTH = 400, PLOT = 96, ROW = 14, LEAST_ROW = 1 / 16, MOST_ROW = 56, TALL = 900, LEAST_GROUP = 12, GAP = 3;
 const HEADING = 18, AXIS = 20, BEYOND = 400, LEAST_SHOWN = 8, NEAR = 6, MOST_TOLD = 4, FONT = "11px system-ui, sans-serif";
 /* Of each kind the colours of a page that is nearly empty, and of a full one. */
 const COLOURS = {
@@ -120,10 +120,17 @@ class RunMap {
     this.show(from + (to - from - number) * part, from + (to - from - number) * part + number);
   }
 
+  /* Rows of less than a point: a point then shows one of several pages. */
+  setRows(height) {
+    this.rowHeight = within(height, LEAST_ROW, MOST_ROW);
+    this.draw();
+  }
+
   /* Pages of one heap and kind stand together, under their heap; each group has its place in the picture. */
   place() {
     this.groups = [];
     this.headings = [];
+    this.groupOf = new Uint16Array(this.data.pages.length);
     let y = 0;
     this.data.pages.forEach((page, row) => {
       const last = this.groups[this.groups.length - 1];
@@ -136,9 +143,11 @@ class RunMap {
         this.headings.push({ heap: group.heap, y });
         y += HEADING;
       }
-      group.height = Math.max(this.rowHeight, Math.floor(LEAST_GROUP / group.rows));
+      this.groupOf.fill(this.groups.indexOf(group), group.first, group.first + group.rows);
+      const least = LEAST_GROUP / group.rows;
+      group.height = Math.max(this.rowHeight, least < 1 ? least : Math.floor(least));
       group.y = y;
-      group.end = y + Math.max(LEAST_GROUP, group.rows * group.height);
+      group.end = y + Math.max(LEAST_GROUP, Math.ceil(group.rows * group.height));
       y = group.end + GAP;
       this.headings[this.headings.length - 1].end = y;
     }
@@ -147,7 +156,7 @@ class RunMap {
   }
 
   placeOfRow(row) {
-    const group = this.groups.find(each => row >= each.first && row < each.first + each.rows);
+    const group = this.groups[this.groupOf[row]];
     return group.y + (row - group.first + .5) * group.height;
   }
 
@@ -160,27 +169,28 @@ class RunMap {
     at("h2").textContent = `Page map of ${data.name}`;
     const most = (which, what) => data.most[which][0] === [peak.pages * 4096, peak.room, peak.asked][which] ? "" :
       ` ${what} ${bytes(data.most[which][0])}, at line ${spelled(data.most[which][1])}.`;
-    at(".summary").textContent = `${count(data.operations, "operation")} on a region of ${count(data.regionPages, "page")}; ` +
-      `${data.transcript} has ${count(data.lines, "line")} before its report. ` +
+    const told = !peak.line ? "No page had memory." :
       `Peak: ${count(peak.pages, "page")} with memory (${bytes(4096 * peak.pages)}) at line ${spelled(peak.line)}, ` +
       `${bytes(peak.room)} of it in blocks, for which ${bytes(peak.asked)} were asked.` +
-      `${most(1, "Most in blocks:")}${most(2, "Most asked for:")} At the end: ${data.total}.`;
+      `${most(1, "Most in blocks:")}${most(2, "Most asked for:")}`;
+    at(".summary").textContent = `${count(data.operations, "operation")} on a region of ${count(data.regionPages, "page")}; ` +
+      `${data.transcript} has ${count(data.lines, "line")} before its report. ${told} At the end: ${data.total}.`;
     const notes = [], lines = data.last - data.first + 1, all = data.allMarks[0] + data.allMarks[1];
     if (lines < data.lines) notes.push(`Only lines ${spelled(data.first)} to ${spelled(data.last)} are drawn.`);
     if (lines > data.columns)
       notes.push(`Sampled: a column stands for ${(lines / data.columns).toFixed(1)} lines, and shows the pages after the last of them and the greatest totals.`);
     if (data.byActor)
       notes.push("The lines of a phase stand by thread, as `pas run` writes them; so a column within a phase is no moment, nor is a peak there.");
-    const told = data.marks.reduce((sum, mark) => sum + mark[TIMES], 0);
+    const marked = data.marks.reduce((sum, mark) => sum + mark[TIMES], 0);
     if (all > data.marks.length)
-      notes.push(`${count(data.marks.length, "mark")} for ${spelled(told)} of ${count(all, "refusal or wrong free", "refusals and wrong frees")}.`);
+      notes.push(`${count(data.marks.length, "mark")} for ${spelled(marked)} of ${count(all, "refusal or wrong free", "refusals and wrong frees")}.`);
     at(".notes").textContent = notes.join(" ");
   }
 
   sayHeaps() {
     const { data } = this, table = this.section.querySelector("table"), head = made(made(table, "thead"), "tr");
     this.section.querySelector(".heaps summary").textContent =
-      `${count(data.heaps.length, "heap")}, at the peak in line ${spelled(data.peak.line)}`;
+      `${count(data.heaps.length, "heap")}${data.peak.line ? `, at the peak in line ${spelled(data.peak.line)}` : ""}`;
     for (const text of ["heap", "what it is", "pages with a deed", "pages with memory", "blocks", "bytes in blocks", "bytes asked for"])
       made(head, "th", text, { className: /^heap|^what/.test(text) ? "text" : "" });
     const body = made(table, "tbody"), order = [...data.heaps].sort((one, other) => other[2] - one[2] || one[0] - other[0]);
@@ -320,9 +330,10 @@ class RunMap {
     const label = within(begin + HEADING, y, Math.max(y, group.end - LEAST_GROUP)) + 10;
     write(context, `${group.kind}${group.rows > 1 ? ` ×${spelled(group.rows)}` : ""}`, LEFT - 8, label, "right");
     if (to <= from) return;
-    const image = new ImageData(columns.length, to - from), pixels = new Uint32Array(image.data.buffer), table = this.tableOf(group.kind);
-    for (let row = from, at = 0; row < to; row++) {
-      const base = (group.first + row) * data.columns;
+    const lines = height < 1 ? Math.max(1, Math.round((to - from) * height)) : to - from;
+    const image = new ImageData(columns.length, lines), pixels = new Uint32Array(image.data.buffer), table = this.tableOf(group.kind);
+    for (let line = 0, at = 0; line < lines; line++) {
+      const row = from + Math.floor((line + .5) * (to - from) / lines), base = (group.first + row) * data.columns;
       for (let point = 0; point < columns.length; point++) pixels[at++] = table[cells[base + columns[point]]];
     }
     const source = this.source ||= document.createElement("canvas");
@@ -429,8 +440,8 @@ class RunMap {
       in: () => this.zoom(.5), out: () => this.zoom(2), all: () => this.show(0, this.data.columns),
       left: () => this.show(this.view.from - half(), this.view.to - half()),
       right: () => this.show(this.view.from + half(), this.view.to + half()),
-      taller: () => { this.rowHeight = Math.min(4 * ROW, this.rowHeight * 2); this.draw(); },
-      lower: () => { this.rowHeight = Math.max(1, Math.floor(this.rowHeight / 2)); this.draw(); },
+      taller: () => this.setRows(this.rowHeight * 2),
+      lower: () => this.setRows(this.rowHeight > 1 ? Math.floor(this.rowHeight / 2) : this.rowHeight / 2),
     };
     form.addEventListener("click", event => deeds[event.target.dataset.do]?.());
     form.addEventListener("submit", event => {
