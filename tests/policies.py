@@ -101,6 +101,30 @@ def test_choices(program, room):
     print(f"{sum(len(names) for _, _, names in cases)} policies as one by one")
 
 
+def test_options(program, room):
+    """Each option of trace_of.py that has a value is one of policies, and does there what it does alone."""
+    usage = called([sys.executable, str(ROOT / "tools/trace_of.py"), "--help"]).stdout.split("\n\n")[0]
+    theirs = set(re.findall(r"--([\w-]+) [^]\s]", usage))
+    ours = set(re.findall(r"--([\w-]+) V", called([sys.executable, str(POLICIES), "--help"]).stdout))
+    check(theirs <= ours and len(theirs) > 8, f"options of trace_of.py that policies lacks: {theirs - ours}")
+    log = write_log(room / "waves.log", waves(random.Random(5)))
+    values = {"version": "3,4", "heaps": "size,one", "shared": "none,all", "pages": "700,3000", "threads": "1,2", "age": "1,9", "guard": "2,0", "tick": "0,9", "pass": "0,90",
+              "idle": "50,0", "tick-ms": "0,1", "pass-ms": "0,5", "idle-age": "0,1", "from": "1,500", "most": "400,800"}
+    check(set(values) == ours, f"options that aren't tried: {ours ^ set(values)}")
+    first = ["--tick", "30", "--idle", "40", "--version", "4"]
+    for name in sorted(theirs):
+        told = [word for at in range(0, 6, 2) if first[at] != f"--{name}" and not (name == "tick-ms" and at == 0) for word in first[at:at + 2]]
+        choices = [told + ([] if value == "none" or value == "0" and name != "idle-age" else [f"--{name}", value]) for value in values[name].split(",")]
+        made = policies(program, log, *told, f"--{name}", values[name], "--json")
+        check(made.returncode == 0, f"--{name} {values[name]}: {made.stderr}")
+        rows = json.loads(made.stdout) if made.returncode == 0 else []
+        for row, one in zip(rows, rows_one_by_one(program, log, room, choices)):
+            check(all(row[key] == value for key, value in one.items() if key not in ("trace", "transcript")), f"--{name}: {row}, and one by one {one}")
+        check([row[name] for row in rows] == values[name].split(","), f"--{name}: {[row[name] for row in rows]}")
+    lacking = ", ".join(sorted(ours - theirs))
+    print(f"{len(theirs)} options of trace_of.py" + (f"; SKIPPED, for it doesn't have them: {lacking}" if lacking else ""))
+
+
 def test_said(program, room):
     """What is cut is said once, and by its policy."""
     log = write_log(room / "cut.log", [free(1, 64), request(1, 64, 24), free(1, 64)])
@@ -227,6 +251,7 @@ def main():
     with tempfile.TemporaryDirectory() as room:
         room = pathlib.Path(room)
         test_choices(program, room)
+        test_options(program, room)
         test_said(program, room)
         test_refusals(program, room)
         page, rows = test_page(program, room)
