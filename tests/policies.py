@@ -73,7 +73,8 @@ def test_choices(program, room):
          [["--version", "4", "--pages", "3000", "--heaps", heaps, *guard] for heaps in ("one", "site") for guard in ([], ["--guard", "2"])],
          ["heaps one, no guard", "heaps one, guard 2", "heaps site, no guard", "heaps site, guard 2"]),
         (["--version", "1", "--age", "1,2,none", "--tick", "20", "--pass", "50", "--pages", "2000"],
-         [["--version", "1", "--tick", "20", "--pass", "50", "--pages", "2000", *age] for age in (["--age", "1"], ["--age", "2"], [])], ["age 1", "age 2", "no age"]),
+         [["--version", "1", "--tick", "20", "--pass", "50", "--pages", "2000", *age] for age in (["--age", "1"], ["--age", "2"], [])],
+         ["age 1", "age 2", "no age"]),
         (["--version", "4", "--pages", "900,2500"], [["--version", "4", "--pages", pages] for pages in ("900", "2500")], ["pages 900", "pages 2500"]),
         (["--version", "4"], [["--version", "4"]], ["version 4"]),
     ]
@@ -108,8 +109,8 @@ def test_options(program, room):
     ours = set(re.findall(r"--([\w-]+) V", called([sys.executable, str(POLICIES), "--help"]).stdout))
     check(theirs <= ours and len(theirs) > 8, f"options of trace_of.py that policies lacks: {theirs - ours}")
     log = write_log(room / "waves.log", waves(random.Random(5)))
-    values = {"version": "3,4", "heaps": "size,one", "shared": "none,all", "pages": "700,3000", "threads": "1,2", "age": "1,9", "guard": "2,0", "tick": "0,9", "pass": "0,90",
-              "idle": "50,0", "tick-ms": "0,1", "pass-ms": "0,5", "idle-age": "0,1", "from": "1,500", "most": "400,800"}
+    values = {"version": "3,4", "heaps": "size,one", "shared": "none,all", "pages": "700,3000", "threads": "1,2", "age": "1,9", "guard": "2,0",
+              "tick": "0,9", "pass": "0,90", "idle": "50,0", "tick-ms": "0,1", "pass-ms": "0,5", "idle-age": "0,1", "from": "1,500", "most": "400,800"}
     check(set(values) == ours, f"options that aren't tried: {ours ^ set(values)}")
     first = ["--tick", "30", "--idle", "40", "--version", "4"]
     for name in sorted(theirs):
@@ -139,7 +140,8 @@ def test_refusals(program, room):
     (room / "other").write_text("something else\n")
     broken = room / "broken"
     cases = {5: "it was out of memory", 9: "status 9", 1: "the program found a fault in the trace: line 1: BadHeader"}
-    words = [((log, "--age", "0"), "age 0: trace_of"), ((log, "--heaps", "one,other"), "heaps other: "), ((room / "absent",), "absent"), ((room / "other",), "no log of"),
+    words = [((log, "--age", "0"), "age 0: trace_of"), ((log, "--heaps", "one,other"), "heaps other: "),
+             ((room / "absent",), "absent"), ((room / "other",), "no log of"),
              ((log, "--guard", "3", "--version", "3"), "guard"), ((log, "--age", ",".join(map(str, range(1, 103)))), "102 policies are more than 100")]
     for told, said in words:
         made = policies(program, *told, "-o", page)
@@ -173,14 +175,17 @@ def test_page(program, room):
     check(made.returncode == 0 and page.exists(), made.stderr)
     rows, (own, maps) = json.loads(made.stdout), read_page(page)
     greatest = max(row["backed_peak"] for row in rows)
-    check(own["scale"] == 4096 * greatest and [each["scale"] for each in maps] == [4096 * greatest] * 4, f"scales: {own['scale']}, {[each['scale'] for each in maps]}")
+    scales = [own["scale"], *(each["scale"] for each in maps)]
+    check(scales == [4096 * greatest] * 5, f"scales: {scales}, and the greatest peak has {greatest} pages")
     check([each["name"] for each in maps] == own["names"] and len(set(own["names"])) == 4, f"names: {own['names']}")
     for row, (requests, backed, asked), (peak, line, part), map_ in zip(rows, own["curves"], own["peaks"], maps):
-        check(max(backed) == row["backed_peak"] == peak == backed[part] and line == row["backed_peak_line"], f"the peak of a curve: {max(backed)}, {row['backed_peak']}, {peak}")
-        check(max(asked) == row["asked_peak"] and backed[-1] == row["backed_end"], f"a curve: {max(asked)} and {row['asked_peak']}, {backed[-1]} and {row['backed_end']}")
-        check(requests == sorted(requests) and requests[-1] == row["given"] + row["kept"] + row["no_space"] + row["held"] + row["skipped"], f"requests: {requests[-1]}")
-        check(len(requests) > 200 and map_["peak"]["pages"] == peak and map_["peak"]["line"] == line, f"the map's peak: {map_['peak']}, and {peak} at {line}")
-    print(f"a page of {len(rows)} policies, {page.stat().st_size / 1000:.0f} KB, the peaks {[row['backed_peak'] for row in rows]} on a scale of {greatest} pages")
+        check([max(backed), peak, backed[part]] == [row["backed_peak"]] * 3 and line == row["backed_peak_line"], f"a curve's peak: {max(backed)}, {peak}, {row}")
+        check([max(asked), backed[-1]] == [row["asked_peak"], row["backed_end"]], f"a curve: {max(asked)}, {backed[-1]}, and {row}")
+        answered = sum(row[key] for key in ("given", "kept", "no_space", "held", "skipped"))
+        check(requests == sorted(requests) and requests[-1] == answered and len(requests) > 200, f"requests: {requests[-1]}, and {answered}")
+        check((map_["peak"]["pages"], map_["peak"]["line"]) == (peak, line), f"the map's peak: {map_['peak']}, and {peak} at {line}")
+    peaks = [row["backed_peak"] for row in rows]
+    print(f"a page of {len(rows)} policies, {page.stat().st_size / 1000:.0f} KB, the peaks {peaks} on a scale of {greatest} pages")
     return page, rows
 
 
@@ -197,7 +202,7 @@ def test_in_browser(browser_path, page, rows, into):
         greatest = max(row["backed_peak"] for row in rows)
         for row, (x, y), (top, bottom) in zip(rows, marks, tops):
             wanted = bottom - (bottom - min(each[0] for each in tops)) * row["backed_peak"] / greatest
-            check(abs(y - wanted) < 1 and abs(y - top) < 1, f"a peak of {row['backed_peak']} of {greatest} pages is marked at {y}, and its curve's top is {top}, not {wanted}")
+            check(abs(y - wanted) < 1 and abs(y - top) < 1, f"{row['backed_peak']} of {greatest} pages: a mark at {y}, the curve's top at {top}, not {wanted}")
         check(len(marks) == len(tops) == len(rows), f"{len(marks)} marks, {len(tops)} curves")
         for at in range(len(rows)):
             browser.value(f"document.querySelectorAll('[data-map]')[{at}].click()")
@@ -233,11 +238,13 @@ def memory_of(program, log, *words):
 def test_recorded(program, room):
     """A real program: its policies, and their memory against that of one."""
     log, page = room / "perl.log", room / "perl.html"
-    made = called([sys.executable, str(RECORD), "-o", str(log), "--", "perl", "-e", "my %h; for (1 .. 30000) { $h{$_ % 700} .= 'x' x ($_ % 90); delete $h{$_ * 7 % 900} }"])
+    work = "my %h; for (1 .. 30000) { $h{$_ % 700} .= 'x' x ($_ % 90); delete $h{$_ * 7 % 900} }"
+    made = called([sys.executable, str(RECORD), "-o", str(log), "--", "perl", "-e", work])
     check(made.returncode == 0, f"perl under the recorder: {made.stderr}")
     _, one, _ = memory_of(program, log, "--version", "4", "--heaps", "one", "-o", page)
     rows, four, seconds = memory_of(program, log, "--version", "4", "--heaps", "one,site", "--guard", "0,5", "-o", page)
-    check(len(rows) == 4 and all(row["no_space"] == row["held"] == 0 and row["guards_due"] == row["guards_raised"] for row in rows), f"perl: {rows}")
+    is_served = [row["no_space"] == row["held"] == 0 and row["guards_due"] == row["guards_raised"] for row in rows]
+    check(is_served == [True] * 4, f"perl: {rows}")
     check(four < 1.5 * one, f"four policies take {four:,} KB, and one {one:,}")
     print(f"a recorded program, {rows[0]['operations']:,} operations under 4 policies: {seconds:.0f} seconds, {four / 1000:.0f} MB, and {one / 1000:.0f} of one")
 
