@@ -347,10 +347,10 @@ def test_refusals(room):
     good = files_of(room, "good", trace, transcript)
     for words, said in (((good[1],), "line 1: no header"), ((good[0],), "a trace without a transcript"), ((room, good[1]), "Is a directory"),
                         ((good[0], *good), "a trace without a transcript"), ((good[0], room / "none"), "none: No such file"),
-                        ((good[0], "/bin/sh"), "sh: line 1: no line of a transcript")):
+                        ((good[0], "/bin/sh"), "sh: line 1: no line of a transcript"), ((good[0], "/dev/null"), "has to be a file")):
         made = called([sys.executable, str(TOOL), *map(str, words)])
         check(made.returncode == 1 and said in made.stderr and made.stderr.count("\n") == 1, f"{words}: not '{said}': {made.stderr}")
-    print(f"{refused} of {count} transcripts with a line too few or too many, {len(texts) + 6} other refusals")
+    print(f"{refused} of {count} transcripts with a line too few or too many, {len(texts) + 7} other refusals")
 
 
 def test_forms(room):

@@ -81,6 +81,8 @@ def runs_of(files: list[Path]) -> Iterator[tuple[Path, Path]]:
     """Each transcript with the trace that stands before it."""
     trace, is_used = None, True
     for path in files:
+        if path.exists() and not path.is_file() and not path.is_dir():
+            raise Fault(f"{path}: it is read more than once, and so has to be a file")
         with path.open("rb") as file:
             is_trace = HEADER.fullmatch(file.readline(MOST_OF_HEADER))
         if is_trace and not is_used:
