@@ -54,7 +54,7 @@ class Curves:
 
 def table_of(names: list[str], rows: list[dict[str, object]]) -> str:
     heads = "".join(f'<th title="{escape(told)}">{escape(head)}</th>' for head, _, told in TABLE)
-    lines = [f"<tr><th></th><th class="text">policy</th>{heads}<th></th></tr>"]
+    lines = [f"<tr><th></th><th class='text'>policy</th>{heads}<th></th></tr>"]
     for at, (name, row) in enumerate(zip(names, rows)):
         sums = (("refusals", REFUSALS), ("wrong_frees", WRONG_FREES))
         shown = row | {name: sum(row[key] for key in keys) for name, keys in sums}
