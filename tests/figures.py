@@ -307,7 +307,8 @@ def test_holders(program, room):
             is_held = any(line.endswith(f" held {page} name {name}") for line in end)
             given = [int(line.split()[2], 16) // 4096 for line in end[:end.index("close")] if " give " in line][-1]
             is_right = not is_held if thread in holder else is_held or given != int(page)
-            check(is_right, f"the request {name} was held by {holder}; after a stop of {thread} page {page} is {'held' if is_held else f'free, and {given} gives'}")
+            end_said = "held" if is_held else f"free, and page {given} gives"
+            check(is_right, f"the request {name} was held by {holder}; after a stop of {thread} page {page} is {end_said}")
         found += 1
     check(found > 15 and len(whole) > 2, f"{found} requests that are held, by {whole}")
     print(f"{found} requests of {len(names)} that are held: by the caches that the figures name")
@@ -328,24 +329,28 @@ def test_refusals(room):
             check(is_right, f"without or with twice {line.strip()}: {made.stderr}")
     texts = {
         ("", ""): "spoilt.trace: line 1: no header of a trace", ("pas 1\n", ""): "line 1: no header of a trace",
-        (trace.replace("f 1 1", "f 1"), transcript): "spoilt.trace: line 5: no line of a trace: f 1", (trace.replace("a 1 2", "a 2 2"), transcript): "spoilt.trace: line 4: no line",
+        (trace.replace("f 1 1", "f 1"), transcript): "spoilt.trace: line 5: no line of a trace: f 1",
+        (trace.replace("a 1 2", "a 2 2"), transcript): "spoilt.trace: line 4: no line",
         (trace.replace("flush 1", "flash 1"), transcript): "spoilt.trace: line 6: no line of a trace: flash 1",
         (trace.replace("4000", "5000"), transcript): "spoilt.0: line 3: no line of a transcript of this trace: 1 give 0x00001000",
         (trace + "a 1 5 0 4 16\n", transcript): "1 requests of ", (trace, ""): "the transcript ends without a report",
         (trace, "line 2: BadSize\n"): "spoilt.0: the program found a fault in the trace: line 2: BadSize",
-        (trace, transcript.replace("page 1 heap", "page 9 heap", 1)): "spoilt.0: line 1: no line", (trace, transcript.replace("live 2 given", "live 3 given")): "and not: total deeds 4 backed 2 live 3",
-        (trace, transcript.replace("2 guarded 2 4 name 2", "2 guarded 2 4 name 1")): "spoilt.0: line 8: no line", (trace + "tick 9\n", transcript): "1 lines tick, and ",
+        (trace, transcript.replace("page 1 heap", "page 9 heap", 1)): "spoilt.0: line 1: no line",
+        (trace, transcript.replace("live 2 given", "live 3 given")): "and not: total deeds 4 backed 2 live 3",
+        (trace, transcript.replace("2 guarded 2 4 name 2", "2 guarded 2 4 name 1")): "spoilt.0: line 8: no line",
+        (trace + "tick 9\n", transcript): "1 lines tick, and ",
         (trace + "phase\n", transcript): "0 lines phase, and ",
     }
     for (one, other), said in texts.items():
         made = called([sys.executable, str(TOOL), *map(str, files_of(room, "spoilt", one, other))])
         check(made.returncode == 1 and said in made.stderr and made.stderr.count("\n") == 1, f"not '{said}': {made.stderr}")
     good = files_of(room, "good", trace, transcript)
-    for words, said in (((good[1],), "line 1: no header"), ((good[0],), "a trace without a transcript"), ((good[0], *good), "a trace without a transcript"),
-                        ((good[0], room / "none"), "none: No such file"), ((room, good[1]), "Is a directory"), ((good[0], "/bin/sh"), "sh: line 1: no line of a transcript")):
+    for words, said in (((good[1],), "line 1: no header"), ((good[0],), "a trace without a transcript"), ((room, good[1]), "Is a directory"),
+                        ((good[0], *good), "a trace without a transcript"), ((good[0], room / "none"), "none: No such file"),
+                        ((good[0], "/bin/sh"), "sh: line 1: no line of a transcript"), ((good[0], "/dev/null"), "has to be a file")):
         made = called([sys.executable, str(TOOL), *map(str, words)])
         check(made.returncode == 1 and said in made.stderr and made.stderr.count("\n") == 1, f"{words}: not '{said}': {made.stderr}")
-    print(f"{refused} of {count} transcripts with a line too few or too many, {len(texts) + 6} other refusals")
+    print(f"{refused} of {count} transcripts with a line too few or too many, {len(texts) + 7} other refusals")
 
 
 def test_forms(room):

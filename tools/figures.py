@@ -30,16 +30,17 @@ from trace_text import PAGE
 Tables = dict[str, list[tuple[str, str]]]
 # The tables for a reader: of each column what stands above it, and its name.
 TABLES: Tables = {
-    "Pages": [("of", "command"), ("operations", "operations"), ("lines", "lines"), ("peak", "backed_peak"), ("at line", "backed_peak_line"),
-              ("mean", "backed_mean"), ("end", "backed_end"), ("class", "deeds_class"), ("shared", "deeds_shared"),
-              ("bit-fit", "deeds_bitfit"), ("large", "deeds_large"), ("returned", "returned"), ("again", "backed_again")],
+    "Pages": [("of", "command"), ("operations", "operations"), ("lines", "lines"), ("peak", "backed_peak"),
+              ("at line", "backed_peak_line"), ("mean", "backed_mean"), ("end", "backed_end"), ("class", "deeds_class"),
+              ("shared", "deeds_shared"), ("bit-fit", "deeds_bitfit"), ("large", "deeds_large"),
+              ("returned", "returned"), ("again", "backed_again")],
     "Bytes": [("asked: peak", "asked_peak"), ("at line", "asked_peak_line"), ("mean", "asked_mean"),
               ("given: peak", "given_peak"), ("mean", "given_mean"), ("rounding: peak", "rounding_peak"),
               ("mean", "rounding_mean"), ("fragmentation", "fragmentation")],
     "Requests and frees": [("given", "given"), ("kept", "kept"), ("no-space", "no_space"), ("held", "held"),
-                           ("by", "held_by"), ("skipped", "skipped"), ("freed", "freed"), ("frees skipped", "skipped_frees"),
-                           ("ended", "ended"), ("no-block", "no_block"), ("size", "size_differs"),
-                           ("outside", "outside"), ("unaligned", "unaligned")],
+                           ("by", "held_by"), ("skipped", "skipped"), ("freed", "freed"),
+                           ("frees skipped", "skipped_frees"), ("ended", "ended"), ("no-block", "no_block"),
+                           ("size", "size_differs"), ("outside", "outside"), ("unaligned", "unaligned")],
     "Guards and the scavenger": [("guards due", "guards_due"), ("raised", "guards_raised"), ("ticks", "ticks"),
                                  ("passes", "passes"), ("caches stopped", "stopped")],
 }
@@ -80,6 +81,8 @@ def runs_of(files: list[Path]) -> Iterator[tuple[Path, Path]]:
     """Each transcript with the trace that stands before it."""
     trace, is_used = None, True
     for path in files:
+        if path.exists() and not path.is_file() and not path.is_dir():
+            raise Fault(f"{path}: it is read more than once, and so has to be a file")
         with path.open("rb") as file:
             is_trace = HEADER.fullmatch(file.readline(MOST_OF_HEADER))
         if is_trace and not is_used:

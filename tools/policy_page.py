@@ -18,17 +18,23 @@ COLUMNS = 1000
 ANSWERS = (b"give", b"kept", b"no-space", b"held", b"skipped")
 REFUSALS, WRONG_FREES = ("no_space", "held", "skipped"), ("ended", "no_block", "size_differs", "outside", "unaligned")
 # The columns of the page's table: what stands above each, its name, and what it tells.
-TABLE = [("peak", "backed_peak", "most pages with memory"), ("change", "backed_peak_change", "of the peak, against the first policy"),
-         ("mean", "backed_mean", "pages with memory, over all lines"), ("end", "backed_end", "pages with memory at the end"),
-         ("returned", "returned", "times that a page's memory went back"), ("again", "backed_again", "times that it came again"),
-         ("asked, peak", "asked_peak", "most bytes that were asked for"), ("fragmentation", "fragmentation", "at the peak, of the pages' bytes: what nobody asked for"),
-         ("refusals", "refusals", "requests that got nothing"), ("wrong frees", "wrong_frees", "frees without effect"),
-         ("guards due", "guards_due", "requests that were to be guarded"), ("raised", "guards_raised", "guards that were raised")]
+TABLE = [("peak", "backed_peak", "most pages with memory"),
+         ("change", "backed_peak_change", "of the peak, against the first policy"),
+         ("mean", "backed_mean", "pages with memory, over all lines"),
+         ("end", "backed_end", "pages with memory at the end"),
+         ("returned", "returned", "times that a page's memory went back"),
+         ("again", "backed_again", "times that a page got memory that had had some before"),
+         ("asked, peak", "asked_peak", "most bytes that were asked for"),
+         ("fragmentation", "fragmentation", "at the peak, the part of the pages' bytes that nobody asked for"),
+         ("refusals", "refusals", "requests that got nothing"),
+         ("wrong frees", "wrong_frees", "frees without effect"),
+         ("guards due", "guards_due", "requests that were to be guarded"),
+         ("raised", "guards_raised", "requests that were guarded")]
 
 
 class Curves:
-    """The greatest of each part of a run: its pages with memory, and the bytes that were asked for; by how many requests
-    were answered, which is what runs of one log have in common."""
+    """The greatest of each part of a run: its pages with memory, and the bytes that were asked for; by how many
+    requests were answered, which is what runs of one log have in common."""
 
     def __init__(self) -> None:
         self.requests, self.backed, self.asked, self.lines = array("I"), array("I"), array("Q"), array("I")
@@ -40,7 +46,6 @@ class Curves:
         self.asked.append(max(run.blocks.asked.end_part(), 0))
         self.lines.append(run.line)
 
-
     def peak_of(self, row: dict[str, object]) -> list[object]:
         """The most pages, the line, and the part in which it stands."""
         line = row["backed_peak_line"]
@@ -49,9 +54,10 @@ class Curves:
 
 def table_of(names: list[str], rows: list[dict[str, object]]) -> str:
     heads = "".join(f'<th title="{escape(told)}">{escape(head)}</th>' for head, _, told in TABLE)
-    lines = [f"<tr><th></th><th>policy</th>{heads}<th></th></tr>"]
+    lines = [f"<tr><th></th><th class='text'>policy</th>{heads}<th></th></tr>"]
     for at, (name, row) in enumerate(zip(names, rows)):
-        shown = row | {"refusals": sum(row[key] for key in REFUSALS), "wrong_frees": sum(row[key] for key in WRONG_FREES)}
+        sums = (("refusals", REFUSALS), ("wrong_frees", WRONG_FREES))
+        shown = row | {name: sum(row[key] for key in keys) for name, keys in sums}
         cells = "".join(f"<td>{escape(cell(shown[key], key))}</td>" for _, key, _ in TABLE)
         lines.append(f'<tr><td><label><input type="checkbox" checked data-run="{at}"><i></i></label></td>'
                      f'<td class="text">{escape(name)}</td>{cells}<td><button data-map="{at}">map</button></td></tr>')

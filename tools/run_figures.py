@@ -15,8 +15,8 @@ from run_requests import Requests
 from trace_requests import Fault, shown
 
 # How many words the lines have that are only counted.
-COUNTED = {b"tick": 3, b"pass": 3, b"stopped": 3, b"lowered": 4, b"bare": 4, b"young": 6, b"in-use": 8, b"not-offered": 4,
-           b"ended": 5, b"no-block": 5, b"size-differs": 7, b"outside": 5, b"unaligned": 5}
+COUNTED = {b"tick": 3, b"pass": 3, b"stopped": 3, b"lowered": 4, b"bare": 4, b"young": 6, b"in-use": 8,
+           b"not-offered": 4, b"ended": 5, b"no-block": 5, b"size-differs": 7, b"outside": 5, b"unaligned": 5}
 KINDS = (b"class", b"shared", b"bitfit", b"large")
 SIZE_BITS, SIZE = 32, (1 << 32) - 1
 AT_ONCE = 1 << 18
@@ -24,8 +24,8 @@ AT_ONCE = 1 << 18
 
 class Gauge:
     """A quantity over the lines: what it is now, the greatest that it was since its part of the lines began, and of all
-    with its first line. Of each change and its line the product is summed up for the mean, since a change holds from its
-    line to the last one."""
+    with its first line. Of each change and its line the product is summed up for the mean, since a change holds from
+    its line to the last one."""
 
     __slots__ = ("now", "top", "peak", "line", "moved")
 
@@ -136,8 +136,8 @@ class Run:
         return Fault(f"{self.path}: line {number}: {what}{line and ': '}{shown(line)}")
 
     def see_actor(self, words: list[bytes]) -> bool:
-        """Whether a line of another actor than the last one begins so, or one that ends a phase, after which any actor's
-        lines may come."""
+        """Whether an actor's line begins so, of another one than the last; or else a line ends a phase, after which any
+        actor's lines may come."""
         if words[0] in (b"phase", b"close"):
             self.phases += words[0] == b"phase"
             if words != [b"close"] and words != [b"phase", b"%d" % self.phases] or self.is_closed:
@@ -229,7 +229,7 @@ class Run:
         self.counts[words[1]] += 1
 
     def hold(self, words: list[bytes]) -> None:
-        """Of the pages of a class the one that gave the last block has the slots that are left."""
+        """Who gave the last block on a page has the slots that are left."""
         self.refuse(words)
         self.held_by[self.givers.get(b"0x%05x" % self.page(words[2]), b"0")] += 1
 

@@ -31,7 +31,11 @@ class Waiting:
     """Requests of an actor that are answered later, in their order."""
 
     def __init__(self, actor: bytes) -> None:
-        self.actor, self.names, self.sizes, self.at = actor, array("I"), array("I"), 0
+        self.actor = actor
+        self.clear()
+
+    def clear(self) -> None:
+        self.names, self.sizes, self.at = array("I"), array("I"), 0
 
     def add(self, request: tuple[bytes, int, int]) -> None:
         self.names.append(request[1])
@@ -46,7 +50,7 @@ class Waiting:
 
     def is_empty(self) -> bool:
         if self.at and not self.count():
-            self.__init__(self.actor)
+            self.clear()
         return not self.names
 
 
