@@ -58,7 +58,12 @@ pub fn borrow(
 }
 
 /// Actor 2 takes the past, and frees the block by a log of its own.
-pub fn free(region: &SharedRegion, pass: SharedPass, giver: &SharedPass, gift: Gift) -> (SharedPass, Past)
+pub fn free(
+    region: &SharedRegion,
+    pass: SharedPass,
+    giver: &SharedPass,
+    gift: Gift,
+) -> (SharedPass, Past)
     requires pass { IsFirst region.now 2 3 pass }
     requires gift { IsGiftOf region.now giver.now gift }
     ensures pass { IsOfActor region.now 2 result.0 }
