@@ -94,5 +94,10 @@ BY_HAND = {
          "f 2 2"], []),
     "a part with an end": ([*BEFORE, *AFTER], ["--from", "9", "--most", "2"],
                            [HEAD_LINE.format(4, FEW, 2, 1), "a 1 1 0 40 16", "a 1 2 0 50 16", "a 1 3 0 6000 16", "phase", "f 1 1", "a 2 4 0 9 16"], []),
+    "a part after a realloc that was refused": ([request(1, 64, 24), *moved(1, 64, 0, 1 << 60), free(1, 64)], ["--from", "4"],
+                                                [HEAD_LINE.format(4, FEW, 1, 1), "a 1 1 0 24 16", "phase", "f 1 1"], []),
+    "a part has its ticks by its own operations": (
+        [request(1, 64, 1), request(1, 96, 2), request(1, 128, 3), free(1, 64)], ["--from", "3", "--tick", "1"],
+        [HEAD_LINE.format(4, FEW, 1, 1), "a 1 1 0 1 16", "a 1 2 0 2 16", "phase", "a 1 3 0 3 16", "tick 1", "f 1 1", "tick 2"], []),
     "the first records": ([*BEFORE, *AFTER], ["--most", "3"], [HEAD_LINE.format(4, FEW, 2, 1), "a 1 1 0 24 16", "a 2 2 0 5000 16", "f 1 1"], []),
 }

@@ -5,8 +5,9 @@ Tests the recorder of tools/record, and tools/trace_of.py on its logs, with the 
 which is killed (tests/racing_requests.c) says how many calls it made, and its logs have each of them, in an order in which no address is given twice
 without a free between. Three programs of this machine, one with threads, are recorded, and their traces, with one heap and several, with and without
 the scavenger's lines, are replayed by `order` and by `run`: none has a fault, nothing is refused, and as many blocks live at the end as the log says.
-So do their traces of versions 2 to 4, with sized frees and, in version 4, a line for each realloc, by the program and by a second reading of the format
-(versions.py). Where there is no gcc nothing is recorded, and that is said. Prints what was checked; the status is 1 where something was wrong."""
+So do their traces of versions 2 to 4, with sized frees and, in version 4, a line for each realloc, by the program and by a second reading of the
+format (versions.py). Call sites have the names of their functions, a pause of a program has its ticks, and the status is the program's. Where there
+is no gcc nothing is recorded, and that is said. Prints what was checked; the status is 1 where something was wrong."""
 
 import os
 import pathlib
@@ -134,16 +135,22 @@ def test_full(room):
     """A program whose log finds no room goes on, and the log says how many records it lacks."""
     program, log = room / "race", room / "full.log"
 
-    def shut():
-        resource.setrlimit(resource.RLIMIT_FSIZE, (HEAD_ROOM + 65_536 * struct.calcsize(RECORD_SHAPE),) * 2)
-        signal.signal(signal.SIGXFSZ, signal.SIG_IGN)
+    def shut_at(bytes_):
+        def shut():
+            resource.setrlimit(resource.RLIMIT_FSIZE, (bytes_, bytes_))
+            signal.signal(signal.SIGXFSZ, signal.SIG_IGN)
+        return shut
 
     environment = os.environ | {"LD_PRELOAD": str(ROOT / "tools/record/out/record.so"), "PAS_RECORD_TO": str(log)}
-    made = called([str(program), "8", "4000", "0"], env=environment, preexec_fn=shut)
+    words, in_full = [str(program), "8", "4000", "0"], HEAD_ROOM + 65_536 * struct.calcsize(RECORD_SHAPE)
+    made = called(words, env=environment, preexec_fn=shut_at(100))
+    check(made.returncode == 0 and made.stderr.count("can't grow: File too large") == 1 and not log.exists(), f"no room at all: {made.returncode} {made.stderr}")
+    made = called(words, env=environment, preexec_fn=shut_at(in_full))
     _, records, lost = struct.unpack_from("<8sQQ", log.read_bytes())
     check(made.returncode == 0 and made.stderr.count("can't grow: File too large") == 1, f"a log without room: {made.returncode} {made.stderr}")
     check(records > 70_000 and lost == records - 65_536, f"a log without room: {lost} of {records} records lost")
-    check(f"cut: {lost:,} calls that the log has no record of" in trace_of(log).stderr, "a log without room: its trace doesn't say so")
+    made = trace_of(log, "--strict")
+    check(f"cut: {lost:,} calls that the log has no record of" in made.stderr and made.returncode == 3, f"a log without room: {made.returncode} {made.stderr}")
     print("a log without room")
 
 

@@ -196,6 +196,9 @@ def test_limits(program, room):
         check(f"all after number {records}, for a trace has at most operations for 2,000,000 lines" in passes.stderr, f"passes at the limit: {passes.stderr}")
     more = called_with(program, "order", passes.stdout + "pass\n")
     check(more.stdout.endswith("TraceTooLarge\n"), f"a pass beyond the limit: {more.stdout[:80]}")
+    vast = trace_of(write_log(room / "hand.log", [request(1, 64, (64 << 20) + 1), free(1, 64), request(1, 64, 8)]))
+    check("cut: 1 requests of more than a region's 16,384 pages, and their frees" in vast.stderr and vast.stdout == "pas 4 pages 64 threads 1 heaps 1 age 2\na 1 1 0 8 16\n",
+          f"a request of more than any region: {vast.stderr} {vast.stdout}")
     sites = [request(1, 64 * each, 8, site=1000 + each % 50) for each in range(1, 500)]
     made = trace_of(write_log(room / "hand.log", sites), "--heaps", "site")
     check(called_with(program, "order", made.stdout).returncode == 0 and "19 other call sites" in made.stdout, f"fifty call sites: {made.stdout[:900]}")
@@ -209,7 +212,7 @@ def test_limits(program, room):
     except trace_text.Full as full:
         length = len("".join(trace.text(32, list(range(32)), ["#" * 999] * 32)))
         check("bytes" in str(full) and length <= room_for_lines and trace.live > 40, f"bytes: {full}, {length}, {trace.live}")
-    print("seven traces at the limits")
+    print("eight traces at the limits")
 
 
 def test_million(program, room):

@@ -191,7 +191,8 @@ class Conversion:
         """A new block, but of more than the region none."""
         size = record[2]
         if size > PAGE * self.most_pages:
-            self.cut[f"requests of more than the region's {self.most_pages:,} pages, and their frees"] += 1
+            which = "the region's" if self.trace.pages else "a region's"
+            self.cut[f"requests of more than {which} {self.most_pages:,} pages, and their frees"] += 1
             return None
         align, heap = self.align_of(record), self.heaps.of(size, record[3])
         room = room_of(self.wanted.version, size, align)

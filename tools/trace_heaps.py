@@ -3,6 +3,7 @@
 from __future__ import annotations
 
 from collections import Counter
+from copy import copy
 
 import recorded
 import sites
@@ -30,6 +31,12 @@ class Heaps:
         self.names = {heap: names[site] for site, heap in self.of_sites.items()}
         if len(ranked) > MOST_HEAPS:
             self.names[LAST] = f"{len(ranked) - LAST:,} other call sites"
+
+    def anew(self) -> Heaps:
+        """The same before any request."""
+        other = copy(self)
+        other.requests, other.count = [0] * MOST_HEAPS, 1
+        return other
 
     def of(self, size: int, site: int) -> int:
         """By size there is a heap for each power of two from 16 on."""

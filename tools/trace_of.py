@@ -55,12 +55,12 @@ class Reading(NamedTuple):
     fitting: int
 
 
-def read_through(log: recorded.Log, options: argparse.Namespace, pages: int, last: int) -> Reading:
+def read_through(log: recorded.Log, options: argparse.Namespace, heaps: Heaps, pages: int, last: int) -> Reading:
     """The trace of the part of the log that is wanted, up to the record `last`. Without pages it ends where the pages that are
     needed until then leave no room for it."""
     wanted = Wanted(options.version, options.age, options.tick, options.passes, options.idle, options.idle_age, options.guard,
                     options.tick_ms and options.tick_ms * NANOSECONDS, options.pass_ms and options.pass_ms * NANOSECONDS)
-    conversion = Conversion(wanted, pages, options.threads, options.sized, Heaps(options.heaps, log))
+    conversion = Conversion(wanted, pages, options.threads, options.sized, heaps.anew())
     progress, records, before = Progress("records", log.records), recorded.records_of(log), options.start - 1
     at = fitting = before
     try:
@@ -93,14 +93,14 @@ def fits(conversion: Conversion, options: argparse.Namespace) -> bool:
 def made(log: recorded.Log, options: argparse.Namespace) -> Made:
     """The trace, with as many pages as its blocks need where no number is named. Where these leave no room for all of it, it is
     made once more of the records that fit; or, where hardly any do, of what fits with these pages."""
-    last = min(log.records, options.start - 1 + options.most)
-    conversion, fitting = read_through(log, options, options.pages or 0, last)
+    heaps, last = Heaps(options.heaps, log), min(log.records, options.start - 1 + options.most)
+    conversion, fitting = read_through(log, options, heaps, options.pages or 0, last)
     if not options.pages and fits(conversion, options):
         conversion.trace.pages = region(conversion, options)
     elif not options.pages and fitting < options.start + CHECK_EACH:
-        conversion, _ = read_through(log, options, region(conversion, options), last)
+        conversion, _ = read_through(log, options, heaps, region(conversion, options), last)
     elif not options.pages:
-        conversion, _ = read_through(log, options, 0, fitting)
+        conversion, _ = read_through(log, options, heaps, 0, fitting)
         conversion.trace.pages = region(conversion, options)
         conversion.cut_after(fitting, last, str(TooLong()))
     if conversion.numbers.shared:

@@ -148,6 +148,7 @@ static void begin(void) {
     }
     struct head *head = map_part(file, 0, PAGE);
     close(file);
+    if (!head) unlink(path);
     if (!head) return;
     state->process = head->process = (uint32_t)getpid();
     if (readlink("/proc/self/exe", head->program, sizeof head->program - 1) < 0) head->program[0] = 0;
