@@ -151,8 +151,8 @@ def test_marks(case):
     for line, column, _, _, count, text in data["marks"]:
         is_right = first <= line <= last and text.startswith(case.lines[line - 1]) and column == column_of(line) and count >= 1
         check(is_right, f"{case.name}: a mark of line {line}: {text}")
-    for name, word in (("phases", "phase "), ("ticks", "0 tick "), ("passes", "0 pass "), ("guards", " guarded ")):
-        lines = [line for line in range(first, last + 1) if case.lines[line - 1].startswith(word) or word == " guarded " in case.lines[line - 1]]
+    for name, pattern in (("phases", "phase "), ("ticks", "0 tick "), ("passes", "0 pass "), ("guards", r"\d+ guarded ")):
+        lines = [line for line in range(first, last + 1) if re.match(pattern, case.lines[line - 1])]
         check(data["strip"][name] == [len(lines), sorted(set(map(column_of, lines)))], f"{case.name}: {name} {data['strip'][name]}, and not {lines}")
 
 
