@@ -1,10 +1,12 @@
-"""Looks for an order of the events of a phase, each actor's in its own order, that is a run of the allocator's machine.
+"""Looks for an order of the events of a phase, each course's in its own order, that is a run of the allocator's machine. A
+course has the events of one worker, in the order in which it makes them.
 
 An event says when it may come next (`fits`), what it does to the machine (`do`, `undo`), and, as the search goes through
 the orders, whether what is still ahead lets it come now (`standing`). `find_order` is the search; it is used by
 tests/transcripts.py and has no program of its own."""
 
 from collections import Counter, defaultdict
+from typing import NamedTuple
 
 PAGE, GRAIN = 4096, 16
 GRAINS = PAGE // GRAIN
@@ -54,12 +56,13 @@ class Machine:
 
 
 class Ahead:
-    """What of a phase is still to come, as far as another actor's event may have to wait for it."""
+    """What of a phase is still to come, as far as another course's event may have to wait for it."""
 
     def __init__(self):
         self.reads, self.unborn, self.differing = Counter(), Counter(), Counter()
         self.backs, self.backs_by, self.gives_on = Counter(), Counter(), Counter()
         self.raises, self.raises_by, self.unbacks, self.standing_blocks = Counter(), Counter(), Counter(), Counter()
+        self.ends, self.ends_by, self.sweeps = Counter(), Counter(), Counter()
         self.watches = defaultdict(list)
         self.passing = defaultdict(lambda: defaultdict(list))
 
@@ -67,7 +70,7 @@ class Ahead:
 class Event:
     """An event that changes nothing, so it is safe wherever it fits."""
 
-    actor = at = None
+    course = at = None
 
     def note(self, ahead, by):
         """Counts the event among what is ahead (1), or takes it out (-1). What is noted first is taken out last."""
@@ -109,16 +112,16 @@ class Back(Event):
 
     def note(self, ahead, by):
         ahead.backs[self.page] += by
-        ahead.backs_by[self.page, self.actor] += by
+        ahead.backs_by[self.page, self.course] += by
 
     def fits(self, machine):
         return self.page in machine.deeds and self.page not in machine.backed and self.page not in machine.guarded
 
     def standing(self, machine, ahead):
-        is_guarded_later = ahead.raises[self.page] > ahead.raises_by[self.page, self.actor]
+        is_guarded_later = ahead.raises[self.page] > ahead.raises_by[self.page, self.course]
         if is_guarded_later and not ahead.unbacks[self.page]:
             return TOO_EARLY
-        others = is_guarded_later or ahead.backs[self.page] > ahead.backs_by[self.page, self.actor]
+        others = is_guarded_later or ahead.backs[self.page] > ahead.backs_by[self.page, self.course]
         return RISKY if others or any(isinstance(watch, Bare) for watch in ahead.watches[self.page]) else SAFE
 
     def do(self, machine):
@@ -155,9 +158,9 @@ class Give(Event):
             ahead.gives_on[page] += by
         for place in self.places if self.end else ():
             if by > 0:
-                ahead.passing[place][self.actor].append(self)
+                ahead.passing[place][self.course].append(self)
             else:
-                ahead.passing[place][self.actor].pop()
+                ahead.passing[place][self.course].pop()
 
     def fits(self, machine):
         return (machine.gives[self.address] == self.turn
@@ -172,23 +175,23 @@ class Give(Event):
         standing = SAFE
         for other in self.rivals(ahead):
             end = self.end
-            if end is None or (other.actor == end.actor and other.at < end.at):
+            if end is None or (other.course == end.course and other.at < end.at):
                 return TOO_EARLY
             standing = RISKY
         return standing
 
     def rivals(self, ahead):
-        """What is ahead of other actors and may have to come before the block is given."""
+        """What is ahead in other courses and may have to come before the block is given."""
         for page in self.pages:
             yield from (watch for watch in ahead.watches[page] if watch.bars(self))
         for place in self.places:
-            for actor, gives in ahead.passing[place].items() if place in ahead.passing else ():
-                if actor != self.actor and gives and gives[-1].address != self.address and not gives[-1].outlives(self):
+            for course, gives in ahead.passing[place].items() if place in ahead.passing else ():
+                if course != self.course and gives and gives[-1].address != self.address and not gives[-1].outlives(self):
                     yield gives[-1]
 
     def outlives(self, other):
         """Whether the block surely ends only after another was given."""
-        return self.end.actor == other.actor and self.end.at > other.at
+        return self.end.course == other.course and self.end.at > other.at
 
     def do(self, machine):
         machine.gives[self.address] += 1
@@ -206,12 +209,19 @@ class End(Event):
     def __init__(self, address, turn, room, epoch):
         self.address, self.turn, self.room, self.epoch = address, turn, room, epoch
 
+    def note(self, ahead, by):
+        ahead.ends[self.address, self.turn] += by
+        ahead.ends_by[(self.address, self.turn), self.course] += by
+
     def fits(self, machine):
         block = machine.live.get(self.address)
         return block is not None and block.turn == self.turn and self.room in (None, block.room)
 
     def standing(self, machine, ahead):
-        return TOO_EARLY if ahead.differing[self.address, self.turn] or ahead.standing_blocks[self.address, self.turn] else SAFE
+        name = self.address, self.turn
+        if ahead.differing[name] or ahead.standing_blocks[name]:
+            return TOO_EARLY
+        return RISKY if ahead.sweeps[name] else SAFE
 
     def do(self, machine):
         block = machine.live[self.address]
@@ -313,6 +323,39 @@ class Refused(Event):
         return not machine.has_bare_run(self.pages)
 
 
+class RefusedAlone(Refused):
+    """.. and nobody else acts meanwhile, so where it is for whole pages or a bit-fit one no page is in another actor's hands, and
+    none could serve. What caches hold isn't told, so of other requests nothing more is asked."""
+
+    def __init__(self, directory, pages, page, room, align):
+        super().__init__(directory, pages, page)
+        self.room, self.align = room, align
+
+    def fits(self, machine):
+        serves = {"large": self.has_run, "bitfit": self.has_place}.get(self.directory[1])
+        return super().fits(machine) and (serves is None or (self.page is None and not serves(machine)))
+
+    def has_run(self, machine):
+        run = 0
+        for page in range(1, machine.pages + 1):
+            is_usable = machine.deeds.get(page, self.directory) == self.directory and not machine.lives_on[page] and page not in machine.guarded
+            run = run + 1 if is_usable else 0
+            if run == self.pages:
+                return True
+        return False
+
+    def has_place(self, machine):
+        pages = [page for page, directory in machine.deeds.items() if directory == self.directory]
+        return any(has_place(machine, page, self.room, self.align) for page in pages)
+
+
+def has_place(machine, page, room, align):
+    """Whether a block of so many bytes, at a multiple of the alignment, could be given on the page."""
+    covered = sum(machine.live[address].grains_on(page) for address in machine.lives_on[page])
+    block = (1 << room // GRAIN) - 1
+    return not all(covered >> offset // GRAIN & block for offset in range(0, PAGE - room + 1, align))
+
+
 class Raised(Event):
     """A guard goes up: its pages belong to the heap as large ones, and have no memory and no block; nobody backs them or
     gives one there until it is lowered."""
@@ -323,7 +366,7 @@ class Raised(Event):
     def note(self, ahead, by):
         for page in self.outer:
             ahead.raises[page] += by
-            ahead.raises_by[page, self.actor] += by
+            ahead.raises_by[page, self.course] += by
 
     def fits(self, machine):
         return all(machine.deeds.get(page) == self.directory and page not in machine.backed and not machine.lives_on[page]
@@ -331,7 +374,7 @@ class Raised(Event):
 
     def standing(self, machine, ahead):
         """A guard that stays up has to wait for all that happens to its pages."""
-        if not any(ahead.backs[page] > ahead.backs_by[page, self.actor] or ahead.raises[page] > ahead.raises_by[page, self.actor] for page in self.outer):
+        if not any(ahead.backs[page] > ahead.backs_by[page, self.course] or ahead.raises[page] > ahead.raises_by[page, self.course] for page in self.outer):
             return SAFE
         return RISKY if self.is_lowered else TOO_EARLY
 
@@ -343,13 +386,13 @@ class Raised(Event):
 
 
 class Lowered(Event):
-    """A guard that is up is lowered, once its block has ended, if one is named."""
+    """A guard that is up is lowered, whether its block has ended or not."""
 
-    def __init__(self, low, high, block=None):
-        self.outer, self.block = (low, high), block
+    def __init__(self, low, high):
+        self.outer = (low, high)
 
     def fits(self, machine):
-        return machine.guarded.issuperset(self.outer) and (self.block is None or machine.ends[self.block[0]] > self.block[1])
+        return machine.guarded.issuperset(self.outer)
 
     def do(self, machine):
         machine.guarded.difference_update(self.outer)
@@ -358,17 +401,77 @@ class Lowered(Event):
         machine.guarded.update(self.outer)
 
 
-class StaysUp(Event):
-    """A keeper sees that the block of a guard hasn't ended."""
+class Guard(NamedTuple):
+    """The pages beside a block that a keeper gave, and its name."""
 
-    def __init__(self, address, turn):
-        self.address, self.turn = address, turn
+    low: int
+    high: int
+    address: int
+    turn: int
+
+    @property
+    def name(self):
+        return self.address, self.turn
+
+    @property
+    def outer(self):
+        return self.low, self.high
+
+
+class Sweeps:
+    """Sweeps of a keeper between which no guard goes up. Its lines tell which guards they lower, one after the other, and not which
+    sweep lowers which."""
+
+    def __init__(self, up):
+        self.up, self.lowered, self.done, self.last = up, [], 0, None
+
+    def staying(self):
+        return [guard for guard in self.up if guard not in self.lowered]
+
+    def left(self):
+        return self.lowered[self.done:]
+
+
+class Sweep(Event):
+    """A keeper lowers those of its guards whose blocks have ended, in the order in which they went up, and no others."""
+
+    def __init__(self, sweeps):
+        self.sweeps = sweeps
+        sweeps.last = self
 
     def note(self, ahead, by):
-        ahead.standing_blocks[self.address, self.turn] += by
+        for guard in self.sweeps.staying():
+            ahead.standing_blocks[guard.name] += by
+        for guard in self.sweeps.lowered if self is not self.sweeps.last else ():
+            ahead.sweeps[guard.name] += by
+
+    def ended(self, machine):
+        """Those that are up and whose blocks have ended."""
+        return [guard for guard in self.sweeps.left() if machine.ends[guard.address] > guard.turn]
 
     def fits(self, machine):
-        return machine.ends[self.address] <= self.turn
+        """The last one leaves none of those that the lines tell."""
+        left, ended = self.sweeps.left(), self.ended(machine)
+        raised = sorted(ended, key=self.sweeps.up.index)
+        return (ended == raised == left[:len(ended)] and (self is not self.sweeps.last or ended == left)
+                and not any(machine.ends[guard.address] > guard.turn for guard in self.sweeps.staying()))
+
+    def standing(self, machine, ahead):
+        """Where another course may end a block before it, either may be first."""
+        waits = (ahead.ends[guard.name] > ahead.ends_by[guard.name, self.course] for guard in self.sweeps.left())
+        return RISKY if self is not self.sweeps.last and any(waits) else SAFE
+
+    def do(self, machine):
+        memory, ended = self.sweeps.done, self.ended(machine)
+        for guard in ended:
+            machine.guarded.difference_update(guard.outer)
+        self.sweeps.done += len(ended)
+        return memory
+
+    def undo(self, machine, memory):
+        for guard in self.sweeps.lowered[memory:self.sweeps.done]:
+            machine.guarded.update(guard.outer)
+        self.sweeps.done = memory
 
 
 class Watch(Event):
@@ -454,47 +557,52 @@ class NotOffered(Event):
         return self.page in machine.deeds
 
 
-class Search:
-    """Goes through the orders of some sequences of events, one sequence an actor."""
+def outers_of(event):
+    """The pages of the guards that the event may lower."""
+    return [guard.outer for guard in event.sweeps.lowered] if isinstance(event, Sweep) else [event.outer] if isinstance(event, Lowered) else []
 
-    def __init__(self, machine, sequences):
+
+class Search:
+    """Goes through the orders of the events of some courses."""
+
+    def __init__(self, machine, courses):
         self.machine, self.ahead = machine, Ahead()
-        self.sequences = [events for events in sequences if events]
-        self.places = [0] * len(self.sequences)
+        self.courses = [events for events in courses if events]
+        self.places = [0] * len(self.courses)
         self.trail, self.choices, self.seen = [], [], set()
-        for line, events in enumerate(self.sequences):
+        for line, events in enumerate(self.courses):
             self.prepare(line, events)
 
     def prepare(self, line, events):
-        """Gives each event its actor and its place."""
+        """Gives each event its course and its place in it."""
         for at, event in enumerate(events):
-            event.actor, event.at = line, at
+            event.course, event.at = line, at
 
     def link(self):
-        """Gives each block its end in the phase, and notes what is ahead, the last of each actor first."""
-        ends = {(event.address, event.turn): event for events in self.sequences for event in events if isinstance(event, End)}
-        for events in self.sequences:
+        """Gives each block its end in the phase, and notes what is ahead, the last of each course first."""
+        ends = {(event.address, event.turn): event for events in self.courses for event in events if isinstance(event, End)}
+        for events in self.courses:
             for event in reversed(events):
                 if isinstance(event, Give):
                     event.end = ends.get((event.address, event.turn))
                 if isinstance(event, Raised):
-                    event.is_lowered = any(isinstance(other, Lowered) and other.outer == event.outer for other in events[event.at:])
+                    event.is_lowered = any(event.outer in outers_of(other) for other in events[event.at:])
                 event.note(self.ahead, 1)
 
     def heads(self):
-        """The next event of each actor that has one."""
-        return [events[at] for events, at in zip(self.sequences, self.places) if at < len(events)]
+        """The next event of each course that has one."""
+        return [events[at] for events, at in zip(self.courses, self.places) if at < len(events)]
 
     def do(self, event):
         event.note(self.ahead, -1)
-        self.places[event.actor] += 1
+        self.places[event.course] += 1
         self.trail.append((event, event.do(self.machine)))
 
     def undo(self, length):
         while len(self.trail) > length:
             event, memory = self.trail.pop()
             event.undo(self.machine, memory)
-            self.places[event.actor] -= 1
+            self.places[event.course] -= 1
             event.note(self.ahead, 1)
 
     def standing(self, event):
@@ -506,7 +614,7 @@ class Search:
         moved = True
         while moved:
             moved = False
-            for line, events in enumerate(self.sequences):
+            for line, events in enumerate(self.courses):
                 while self.places[line] < len(events) and self.standing(events[self.places[line]]) == SAFE:
                     self.do(events[self.places[line]])
                     moved = True
@@ -515,11 +623,11 @@ class Search:
         """How soon what an event begins can be over: the choice of the nearest is tried first."""
         if not isinstance(event, Give):
             return 0
-        return 1 + event.end.at - self.places[event.end.actor]
+        return 1 + event.end.at - self.places[event.end.course]
 
     def options(self):
         """What may come next, though something ahead may mind, the best last. None where this place was seen before."""
-        key = tuple(self.places)
+        key = (*self.places, frozenset(self.machine.guarded))
         if key in self.seen:
             return []
         self.seen.add(key)
@@ -554,7 +662,7 @@ class Search:
             self.do(event)
 
 
-def find_order(machine, sequences):
-    """Looks for an order of the sequences that is a run of the machine. Where there is one, the machine goes it, and the
-    answer is None; otherwise the answer has events, of each actor the next one, of a place from which there is no way on."""
-    return Search(machine, sequences).run()
+def find_order(machine, courses):
+    """Looks for an order of the courses that is a run of the machine. Where there is one, the machine goes it, and the
+    answer is None; otherwise the answer has events, of each course the next one, of a place from which there is no way on."""
+    return Search(machine, courses).run()

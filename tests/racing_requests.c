@@ -16,7 +16,8 @@
 
 enum { SHARED = 64, WAVE = 8 };
 
-static _Atomic long malloc_calls, calloc_calls, aligned_alloc_calls, posix_memalign_calls, memalign_calls, realloc_calls, free_calls, live;
+static _Atomic long malloc_calls, calloc_calls, aligned_alloc_calls, posix_memalign_calls, memalign_calls, valloc_calls, pvalloc_calls, realloc_calls,
+    free_calls, live;
 static void *_Atomic handed[SHARED];
 static pthread_key_t last_words;
 static int rounds;
@@ -24,11 +25,13 @@ static int rounds;
 __attribute__((noinline)) static void *ask(unsigned *seed) {
     void *block = NULL;
     size_t size = rand_r(seed) % 3000;
-    switch (rand_r(seed) % 6) {
+    switch (rand_r(seed) % 8) {
     case 0: block = calloc(3, size), calloc_calls++; break;
     case 1: block = aligned_alloc(64, (size + 63) / 64 * 64), aligned_alloc_calls++; break;
     case 2: posix_memalign_calls += !posix_memalign(&block, 256, size + 1); break;
     case 3: block = memalign(32, size), memalign_calls++; break;
+    case 4: block = valloc(size), valloc_calls++; break;
+    case 5: block = pvalloc(size + 1), pvalloc_calls++; break;
     default: block = malloc(size), malloc_calls++;
     }
     live++;
@@ -65,9 +68,10 @@ static void *work(void *number) {
 }
 
 static void say(const char *who) {
-    char text[400];
-    int length = snprintf(text, sizeof text, "%s %d malloc %ld calloc %ld aligned_alloc %ld posix_memalign %ld memalign %ld realloc %ld free %ld live %ld\n", who,
-                          (int)getpid(), malloc_calls, calloc_calls, aligned_alloc_calls, posix_memalign_calls, memalign_calls, realloc_calls, free_calls, live);
+    char text[500];
+    int length = snprintf(text, sizeof text, "%s %d malloc %ld calloc %ld aligned_alloc %ld posix_memalign %ld memalign %ld valloc %ld pvalloc %ld realloc %ld free %ld live %ld\n",
+                          who, (int)getpid(), malloc_calls, calloc_calls, aligned_alloc_calls, posix_memalign_calls, memalign_calls, valloc_calls, pvalloc_calls,
+                          realloc_calls, free_calls, live);
     if (write(1, text, (size_t)length) != length) _exit(3);
 }
 
@@ -77,7 +81,8 @@ static void bear(int which, pid_t child, void *of_parent) {
         waitpid(child, NULL, 0);
         return;
     }
-    malloc_calls = calloc_calls = aligned_alloc_calls = posix_memalign_calls = memalign_calls = realloc_calls = free_calls = live = 0;
+    malloc_calls = calloc_calls = aligned_alloc_calls = posix_memalign_calls = memalign_calls = valloc_calls = pvalloc_calls = realloc_calls = free_calls = 0;
+    live = 0;
     unsigned seed = (unsigned)which;
     for (int at = 0; at < 100; at++) {
         void *block = ask(&seed);

@@ -10,6 +10,7 @@ So do their traces of versions 2 to 4, with sized frees and, in version 4, a lin
 
 import os
 import pathlib
+import re
 import resource
 import shutil
 import signal
@@ -20,10 +21,12 @@ import tempfile
 from collections import Counter
 
 sys.dont_write_bytecode = True
-from logs import HEAD, HEAD_ROOM, RECORD, RECORD_SHAPE, ROOT, called, called_with, check, end_checks, refused, second_reading, trace_of
+from logs import (HEAD, HEAD_ROOM, RECORD, RECORD_SHAPE, ROOT, called, called_with, check, end_checks, followed, interrupted, refused,
+                  second_reading, trace_of)
 
 RACE = ROOT / "tests/racing_requests.c"
-REQUESTS = {"m": "malloc", "c": "calloc", "a": "aligned_alloc", "p": "posix_memalign", "l": "memalign"}
+REQUESTS = {"m": "malloc", "c": "calloc", "a": "aligned_alloc", "p": "posix_memalign", "l": "memalign", "v": "valloc",
+            "w": "pvalloc"}
 THREADED = """
 import queue, threading
 work, done = queue.Queue(), queue.Queue()
@@ -48,13 +51,13 @@ PROGRAMS = [
     ("bash", ["bash", "-c", "for i in {1..3000}; do x=$x$i; y[i]=${x:0:i%90}; done; echo ${#x}"], {}),
 ]
 WAYS = [
-    ["--heaps", "one"],
-    ["--heaps", "site", "--tick", "500", "--pass", "5000", "--idle", "1500"],
-    ["--heaps", "size", "--tick", "1000", "--threads", "2", "--pages", "3000"],
+    ["--version", "1"],
+    ["--version", "1", "--heaps", "site", "--tick", "500", "--pass", "5000", "--idle", "1500"],
+    ["--version", "1", "--heaps", "size", "--tick", "1000", "--threads", "2", "--pages", "3000"],
 ]
 
-LATER_WAYS = [["--version", "2", "--sized"], ["--version", "3", "--sized", "--heaps", "size", "--pass", "5000"], ["--version", "4"],
-              ["--version", "4", "--sized", "--heaps", "site", "--tick", "500", "--threads", "2"]]
+LATER_WAYS = [["--version", "2", "--sized"], ["--version", "3", "--sized", "--heaps", "size", "--pass", "5000"], [],
+              ["--sized", "--shared", "small", "--tick-ms", "5", "--pass-ms", "20", "--heaps", "site", "--threads", "2"]]
 
 
 def read_log(path):
@@ -62,23 +65,6 @@ def read_log(path):
     bytes_ = path.read_bytes()
     number = struct.unpack_from(HEAD, bytes_)[1]
     return [struct.unpack_from(RECORD_SHAPE, bytes_, HEAD_ROOM + at * struct.calcsize(RECORD_SHAPE)) for at in range(number)]
-
-
-def followed(records):
-    """The addresses that live at the end, and how many were given twice without a free between or given up without being there."""
-    live, moving, odd = set(), {}, 0
-    for block, old, size, _, thread, _, kind in records:
-        kind = chr(kind)
-        if kind == "f" or (kind == "<" and old):
-            odd += old not in live
-            moving[thread] = kind == "<"
-            live.discard(old)
-        elif kind == ">" and not block and size and old:
-            live.add(old)
-        elif kind in ">mcapl" and block:
-            odd += block in live
-            live.add(block)
-    return live, odd
 
 
 def record(log, command, environment=None, status=0):
@@ -97,7 +83,7 @@ def parts_of_program(log, program):
 def own_counts(log, spans, keeps_from=frozenset()):
     """The calls that a program's own code made, by kind; and the frees of such blocks, and those that live."""
     counts, own, moving = Counter(), set(keeps_from), {}
-    for block, old, _, site, thread, _, kind in read_log(log):
+    for block, old, _, site, _, thread, _, kind in read_log(log):
         kind = chr(kind)
         if kind == "f":
             counts["free"] += old in own
@@ -137,7 +123,7 @@ def test_race(room):
             calls, processes = calls + sum(said.values()) - said["live"], processes + 1
         check(not logs, f"logs of processes that said nothing: {logs}")
         ended, late = set(), 0
-        for _, _, _, site, thread, _, kind in read_log(log):
+        for _, _, _, site, _, thread, _, kind in read_log(log):
             ended.update([thread] if chr(kind) == "e" else [])
             late += thread in ended and spans is not None and any(first <= site < last for first, last in spans)
         check(len(ended) == int(words[0]) and not late, f"{len(ended)} threads ended, and not {words[0]}; {late} requests of theirs came later")
@@ -149,7 +135,7 @@ def test_full(room):
     program, log = room / "race", room / "full.log"
 
     def shut():
-        resource.setrlimit(resource.RLIMIT_FSIZE, (3_000_000, 3_000_000))
+        resource.setrlimit(resource.RLIMIT_FSIZE, (HEAD_ROOM + 65_536 * struct.calcsize(RECORD_SHAPE),) * 2)
         signal.signal(signal.SIGXFSZ, signal.SIG_IGN)
 
     environment = os.environ | {"LD_PRELOAD": str(ROOT / "tools/record/out/record.so"), "PAS_RECORD_TO": str(log)}
@@ -162,18 +148,92 @@ def test_full(room):
 
 
 def test_call_sites(room):
-    """Four calls of the program's one function that asks are four call sites; the call above them is one and the same."""
+    """Six calls of the program's one function that asks are six call sites; the call above them is one and the same."""
     program, log = room / "race", room / "sites.log"
     for up in ("0", "1"):
         made = called([sys.executable, str(RECORD), "-o", str(log), "--up", up, str(program), "9", "50", "0"])
         spans = list(parts_of_program(log, program))
         of_program = [each for each in read_log(log) if any(first <= each[3] < last for first, last in spans)]
-        sites = [{each[3] for each in of_program if chr(each[-1]) == kind} for kind in "capl"]
-        is_right = set.intersection(*sites) if up == "1" else all(len(each) == 1 for each in sites) and len(set.union(*sites)) == 4
+        sites = [{each[3] for each in of_program if chr(each[-1]) == kind} for kind in "caplvw"]
+        is_right = set.intersection(*sites) if up == "1" else all(len(each) == 1 for each in sites) and len(set.union(*sites)) == len(sites)
         check(made.returncode == 0 and is_right, f"--up {up}: call sites {sites}")
         by_site = trace_of(log, "--heaps", "site").stdout
         check("requests, race+0x" in by_site, f"--up {up}: {by_site[:300]}")
     print("call sites, and those above them")
+
+
+SITES = """#include <stdlib.h>
+void *volatile kept;
+__attribute__((noinline)) static void one(void) { kept = malloc(10); }
+__attribute__((noinline)) static void other(void) { kept = malloc(20); }
+int main(void) { one(); one(); other(); return 0; }
+"""
+# How the program is built, whether its file is older than the log, and what stands behind its name and the address: the function, and the line.
+BUILDS = [(["-g", "-no-pie"], True, " {} {}.c:{}"), (["-g", "-pie", "-fPIE"], True, " {} {}.c:{}"), (["-no-pie"], True, " {}"), (["-no-pie", "-s"], True, ""),
+          (["-g", "-no-pie"], False, None)]
+
+
+def test_names(room):
+    """Call sites have the names of their functions, and their lines, wherever the program lay."""
+    (room / "sites.c").write_text(SITES)
+    source, program, log = room / "sites.c", room / "sites", room / "names.log"
+    for options, is_older, named in BUILDS:
+        subprocess.run(["gcc", "-O1", *options, "-o", str(program), str(source)], check=True)
+        symbols = [line.split() for line in called(["nm", "-S", str(program)]).stdout.splitlines()]
+        spans = {words[3]: (int(words[0], 16), int(words[0], 16) + int(words[1], 16)) for words in symbols if len(words) == 4}
+        record(log, [str(program)])
+        os.utime(program, (0, 0) if is_older else (1 << 32, 1 << 32))
+        made = trace_of(log, "--heaps", "site")
+        for heap, (count, function, line) in enumerate(((2, "one", 3), (1, "other", 4))):
+            if named is None:
+                check(re.search(f"# heap {heap}: {count} requests, byte 0x[0-9a-f]+ of sites\n", made.stdout), f"a program that was changed: {made.stdout}")
+                continue
+            told = re.search(f"# heap {heap}: {count} requests, sites\\+0x([0-9a-f]+)(.*)\n", made.stdout)
+            check(told and told[2] == named.format(function, "sites", line), f"{options}: the name of {function}: {made.stdout}")
+            check(told and (function not in spans or spans[function][0] < int(told[1], 16) <= spans[function][1]), f"{options}: {function}, {told} {spans}")
+    print(f"the names of call sites, in {len(BUILDS)} builds")
+
+
+# A thread's times never go back, as those of the whole log may.
+SLEEPS = "import time; kept = [bytes(each) for each in range(2000)]; time.sleep(0.4); more = [bytes(each) for each in range(2000)]"
+
+
+def test_times(program, room):
+    """A pause of a program has its ticks, and a pass or two."""
+    log = room / "times.log"
+    record(log, [sys.executable, "-S", "-c", SLEEPS], {"PYTHONMALLOC": "malloc"})
+    records = [each for each in read_log(log) if each[-1]]
+    check(all(first[4] <= second[4] for first, second in zip(records, records[1:])), "a thread's times go back")
+    pauses = [(second[4] - first[4], at) for at, (first, second) in enumerate(zip(records, records[1:]), 1)]
+    longest, at = max(pauses)
+    check(longest >= 400_000_000, f"the longest pause took {longest} ns")
+    made = trace_of(log, "--tick-ms", "10", "--pass-ms", "10", "--from", str(at), "--most", "2")
+    told = re.search(r"phase\n.*\n((?:tick .*\npass\n)*)tick ([0-9]+)\n", made.stdout)
+    check(told and int(told[2]) >= 39 and 1 <= told[1].count("pass") <= 4, f"a pause of 0.4 seconds: {made.stdout[-200:]}")
+    run = called_with(program, "order", made.stdout)
+    check(run.returncode == 0 and not refused(run.stdout), f"a pause: {run.stdout[:80]}")
+    print("times, and what the scavenger does in a pause")
+
+
+def test_statuses(room):
+    """The status is the program's, and what isn't the program's is told apart as by env."""
+    log, empty = room / "status.log", room / "empty"
+    (room / "other").write_text("something else")
+    empty.write_text("")
+    for words, status, said in (
+        (["-o", str(log), "true"], 0, "nothing was logged"), (["-o", str(log), "sh", "-c", "exit 7"], 7, "records"),
+        (["-o", str(log), "sh", "-c", "kill -9 $$"], 137, "ended by signal 9"), (["-o", str(log), "no-such-program"], 127, "no-such-program: No such file"),
+        (["-o", str(log), str(empty)], 126, "empty: Permission denied"), (["-o", str(room / "other"), "true"], 125, "other is there and is no log"),
+        (["-o", str(room / "none" / "log"), "true"], 125, "is no folder"), (["-o", str(log)], 2, "no program to run"),
+    ):
+        made = called([sys.executable, str(RECORD), *words])
+        check(made.returncode == status and said in made.stderr, f"{words}: {made.returncode} {made.stderr}")
+    made = record(log, ["sh", "-c", "exit 0"])
+    records = struct.unpack_from(HEAD, log.read_bytes())[1]
+    check(0 < records < 1024 and log.stat().st_size == HEAD_ROOM + 1024 * struct.calcsize(RECORD_SHAPE), f"{records} records: {log.stat().st_size} bytes")
+    status, said = interrupted([sys.executable, str(RECORD), "-o", str(log), "--", "sh", "-c", "echo begun >&2; sleep 20"], "begun")
+    check(status == 128 + signal.SIGINT and "Traceback" not in said and "ended by signal 2" in said, f"an interrupt: {status} {said}")
+    print("eight statuses, a small log, an interrupt")
 
 
 def test_program(program, room, name, command, environment):
@@ -184,10 +244,10 @@ def test_program(program, room, name, command, environment):
     check(made.stdout == plain.stdout, f"{name} says something else under the recorder")
     records = read_log(log)
     live, odd = followed(records)
-    asked = sum(chr(each[-1]) in "mcapl>" and each[0] != 0 for each in records)
+    asked = sum(chr(each[-1]) in "mcaplvw>" and each[0] != 0 for each in records)
     for options in WAYS:
         converted = trace_of(log, *options)
-        check(converted.returncode == 0 and all("share another's number" in line for line in converted.stderr.splitlines()[1:]), f"{name} {options}: {converted.stderr}")
+        check(converted.returncode == 0 and all("share another's number" in line for line in converted.stderr.splitlines()[2:]), f"{name} {options}: {converted.stderr}")
         for word in ("order", "run"):
             run = called_with(program, word, converted.stdout)
             what = f"{name} {' '.join(options)}, {word}"
@@ -200,7 +260,7 @@ def test_program(program, room, name, command, environment):
             check(not refused(run.stdout), f"{what}: {refused(run.stdout)[:2]}")
     for options in LATER_WAYS:
         test_version(program, f"{name} {' '.join(options)}", trace_of(log, *options), len(live), asked, moved_in(records))
-    threads = len({each[4] for each in records})
+    threads = len({each[5] for each in records})
     print(f"{name}: {len(records):,} records of {threads} threads, {len(live):,} blocks live, {len(WAYS)} traces replayed in both ways, "
           f"{len(LATER_WAYS)} of later versions too, and read a second time")
     return threads
@@ -213,7 +273,7 @@ def moved_in(records):
 
 def test_version(program, what, converted, live, asked, moved):
     """A trace of a later version: each realloc of a block is a line, and what lives at the end is what the log says."""
-    check(converted.returncode == 0 and all("share another's number" in line for line in converted.stderr.splitlines()[1:]), f"{what}: {converted.stderr}")
+    check(converted.returncode == 0 and all("share another's number" in line for line in converted.stderr.splitlines()[2:]), f"{what}: {converted.stderr}")
     seen = second_reading(what, converted.stdout)
     if seen is None:
         return
@@ -239,6 +299,9 @@ def main():
             test_race(room)
             test_call_sites(room)
             test_full(room)
+            test_names(room)
+            test_times(program, room)
+            test_statuses(room)
             there = [each for each in PROGRAMS if shutil.which(each[1][0])][:3]
             threads = [test_program(program, room, *each) for each in there]
             check(len(threads) == 3 and max(threads) >= 5, f"not three programs, one with threads: {threads}")

@@ -2,18 +2,19 @@
 """tests/transcripts.py TRACE TRANSCRIPT
 
 Judges a transcript of `pas run` for a trace, by a second reading of the rules of docs/FORMAT.md: its lines stand by phase
-and by actor; each actor's lines answer its operations, in order; some order of all of them, each actor's in its own order
-and phase after phase, is a run of the allocator's machine; and the report is that of the state which this run reaches.
-Prints what is wrong, with status 1, or `right`. The order of two actors' lines in a phase isn't told by a transcript: it
-is looked for (tests/orders.py)."""
+and by actor; each actor's lines answer its operations, in order; some order of all of them, each course's in its own order
+and phase after phase, is a run of the allocator's machine; and the report is that of the state which this run reaches. A
+course is what one worker does in a phase, one act after the other: a thread's operations with what its keeper does for
+them, or the scavenger's with the stops of idle threads. Prints what is wrong, with status 1, or `right`. The order of two
+courses isn't told by a transcript: it is looked for (tests/orders.py)."""
 
 import re
 import sys
 from collections import Counter
 from typing import NamedTuple
 
-from orders import (GRAIN, GRAINS, PAGE, Back, Bare, Deed, End, Ended, Give, InUse, Lowered, Machine, NoBlock, NotOffered, Raised, Read, Refused,
-                    SizeDiffers, StaysUp, Tick, Unback, Undecided, Young, find_order)
+from orders import (GRAIN, GRAINS, PAGE, Back, Bare, Deed, End, Ended, Give, Guard, InUse, Lowered, Machine, NoBlock, NotOffered, Raised, Read, Refused,
+                    RefusedAlone, SizeDiffers, Sweep, Sweeps, Tick, Unback, Undecided, Young, find_order)
 
 CLASSES = [16, 32, 48, 64, 80, 96, 112, 128, 160, 192, 224, 256, 320, 384, 448, 512, 640, 768, 896, 1024]
 # How many of them traces of a version have.
@@ -250,26 +251,29 @@ class Accounts:
         self.epoch = 0
         self.guarded = trace.guarded()
         self.up = {thread: [] for thread in self.logs}
+        self.is_alone, self.hinted, self.sweeps = False, set(), {}
 
-    def phase(self, phase, lines):
-        """The events of each actor in a phase. Of a thread that has no operation in it, the scavenger has them."""
+    def phase(self, phase, lines, machine):
+        """The events of each course of a phase, before which the machine stands so."""
         operations, acting = self.trace.phases[phase], self.trace.acting(phase)
+        self.is_alone, self.hinted = len(acting) == 1, empty_pages(machine)
         self.since.update(dict.fromkeys(acting - {0}, self.epoch))
         idle = [thread for thread in self.logs if thread not in acting]
-        sequences = [self.scavenged([each for each in operations if each[0] in CHORES], idle, lines)]
+        self.sweeps = dict.fromkeys(self.logs)
+        courses = [self.scavenged([each for each in operations if each[0] in CHORES], idle, lines)]
         for thread in sorted(acting - {0}):
-            own, kept = [], []
+            course = []
             for operation in operations:
                 if operation[0] not in CHORES and operation[1] == thread:
                     if operation[0] == "a" and operation[2] in self.guarded:
-                        kept += self.tried(thread, operation[2:], lines[self.trace.threads + thread])
+                        course += self.tried(thread, operation[2:], lines[self.trace.threads + thread])
                         if operation[2] in self.named:
                             continue
-                    own += self.answered(operation, lines[thread])
-            sequences += [own, kept] if self.trace.guard else [own]
+                    course += self.answered(operation, lines[thread])
+            courses.append(course)
         for actor, rest in enumerate(lines):
             rest.end(f"nothing that actor {actor} does in phase {phase + 1} says this")
-        return sequences
+        return courses
 
     def answered(self, operation, lines):
         """The events of one operation of a thread."""
@@ -289,42 +293,41 @@ class Accounts:
             return self.freed(thread, address, turn, sizing, lines)
         return self.flushed(thread, lines)
 
-    def swept(self, thread, lines):
-        """A keeper lowers those of its guards whose blocks have ended, in the order in which they went up."""
-        events, left = [], []
-        for guard in self.up[thread]:
-            low, high, *block = guard
-            if lines.peek() == "lowered" and lines.lines[lines.at].values == (low, high):
-                lines.take("", "lowered")
-                events.append(Lowered(low, high, block))
-            else:
-                left.append(guard)
-                events.append(StaysUp(*block))
-        self.up[thread] = left
-        return events
-
     def lowered(self, thread, lines):
         """A keeper lowers all its guards, in the order in which they went up."""
-        for low, high, *_ in self.up[thread]:
-            lines.take_exactly(f"the keeper of thread {thread} leaves a guard up", "lowered", low, high)
-        return [Lowered(low, high) for low, high, *_ in self.up[thread]]
+        for guard in self.up[thread]:
+            lines.take_exactly(f"the keeper of thread {thread} leaves a guard up", "lowered", *guard.outer)
+        return [Lowered(*guard.outer) for guard in self.up[thread]]
 
     def tried(self, thread, values, lines):
         """What a keeper does for a guarded request: guards are lowered; then deeds and backs, a block between two pages and
-        the line that says so, or deeds alone. The guard stands from before the first back on."""
+        the line that says so, or deeds alone. The guard stands from before the first back on. Where no guard goes up, lines of
+        the next tries are taken for those of this one: which sweep lowers what is looked for, and deeds may come early."""
         wanted = self.trace.wanted(*values)
-        events = self.swept(thread, lines)
-        if not any(line.word == "guarded" and line.values[2] == wanted.name for line in lines.lines[lines.at:]):
-            while lines.peek() == "deed" and lines.lines[lines.at].values[1:] == wanted.directory:
-                events.append(Deed(lines.take("", "deed").values[0], wanted.directory))
+        self.sweeps[thread] = self.sweeps[thread] or Sweeps(list(self.up[thread]))
+        events = [Sweep(self.sweeps[thread])]
+        is_raised = any(line.word == "guarded" and line.values[2] == wanted.name for line in lines.lines[lines.at:])
+        while lines.peek() in (["lowered"] if is_raised else ["lowered", "deed"]):
+            line = lines.lines[lines.at]
+            guard = next((guard for guard in self.up[thread] if line.word == "lowered" and guard.outer == line.values), None)
+            if guard:
+                self.up[thread].remove(guard)
+                self.sweeps[thread].lowered.append(guard)
+            elif line.word == "deed" and line.values[1:] == wanted.directory:
+                events.append(Deed(line.values[0], wanted.directory))
+            else:
+                break
+            lines.at += 1
+        if not is_raised:
             return events
+        self.sweeps[thread] = None
         made = self.requested(wanted, lines)
         if not isinstance(made[-1], Give):
             raise Wrong(f"no block of the keeper for name {wanted.name}")
         give = made[-1]
         low, high = give.pages[0] - 1, give.pages[-1] + 1
         lines.take_exactly(f"the block of name {wanted.name} stands between pages {low} and {high}", "guarded", low, high, wanted.name)
-        self.up[thread].append((low, high, give.address, give.turn))
+        self.up[thread].append(Guard(low, high, give.address, give.turn))
         deeds = [event for event in made if isinstance(event, Deed)]
         return events + deeds + [Raised(low, high, wanted.directory[0])] + made[len(deeds):]
 
@@ -378,7 +381,8 @@ class Accounts:
         if name != wanted.name or backs or not are_rising(deeds) or (deeds and not is_large):
             raise Wrong(f"no refusal of the request of name {wanted.name}: deeds {deeds}, backs {backs}, {line.text}")
         self.named[wanted.name] = None
-        return Refused(wanted.directory, wanted.room // PAGE if is_large else 1, *(page or [None]))
+        pages, held = wanted.room // PAGE if is_large else 1, page[0] if page else None
+        return RefusedAlone(wanted.directory, pages, held, wanted.room, wanted.step) if self.is_alone else Refused(wanted.directory, pages, held)
 
     def freed(self, thread, address, turn, sizing, lines):
         """A free is refused at once, or logged, with the room of the size and alignment that it names, if any; a full log is
@@ -410,7 +414,7 @@ class Accounts:
         return [Read(epoch) for epoch in epochs] + events
 
     def scavenged(self, operations, idle, lines):
-        """The events of the scavenger's operations."""
+        """The events of the scavenger's operations, and of the idle threads that it stops."""
         events = []
         for operation in operations:
             if operation[0] == "tick":
@@ -428,7 +432,7 @@ class Accounts:
         return events
 
     def passed(self, lines):
-        """The outcomes of a pass, at most one a page, the lowest first."""
+        """The outcomes of a pass, at most one a page, the lowest first; the first pass of a phase has one of each page that is surely hinted."""
         events, pages = [], []
         while lines.peek() in OUTCOMES:
             line = lines.take("", *OUTCOMES)
@@ -436,6 +440,9 @@ class Accounts:
             events.append(self.outcome(line))
         if not are_rising(pages) or not set(pages) <= set(range(1, self.trace.pages + 1)):
             raise Wrong(f"the pages of a pass: {pages}")
+        if not self.hinted <= set(pages):
+            raise Wrong(f"a pass leaves out pages that were hinted before the phase: {sorted(self.hinted - set(pages))}")
+        self.hinted = set()
         return events
 
     def outcome(self, line):
@@ -454,7 +461,7 @@ class Accounts:
         return {"bare": Bare, "not-offered": NotOffered}[line.word](*line.values)
 
     def closed(self, lines):
-        """The events of the close: each thread in order is stopped, and then each keeper lowers all its guards."""
+        """The events of the close, which is one course: each thread in order is stopped, and then each keeper lowers all its guards."""
         events = []
         for thread in self.logs:
             events += self.flushed(thread, lines[thread])
@@ -469,13 +476,18 @@ def are_rising(numbers):
     return all(before < after for before, after in zip(numbers, numbers[1:]))
 
 
+def empty_pages(machine):
+    """The pages that are surely hinted between two phases: backed ones without a block, of kinds of which no cache holds grains."""
+    return {page for page in machine.backed if machine.deeds[page][1] in ("large", "bitfit") and not machine.lives_on[page]}
+
+
 def check_run(trace, machine, parts):
     """Phase by phase the lines answer the operations, and in some order their events are a run."""
     accounts = Accounts(trace)
     for phase, lines in enumerate(parts):
         is_close = phase == len(trace.phases)
-        sequences = accounts.closed(lines) if is_close else accounts.phase(phase, lines)
-        if stuck := find_order(machine, sequences):
+        courses = accounts.closed(lines) if is_close else accounts.phase(phase, lines, machine)
+        if stuck := find_order(machine, courses):
             events = [(type(event).__name__, vars(event)) for event in stuck]
             raise Wrong(f"{'at the close' if is_close else f'in phase {phase + 1}'} no order of the events is a run; none of these can come next: {events}")
 

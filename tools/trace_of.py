@@ -1,24 +1,24 @@
 #!/usr/bin/env python3
 """Makes a trace of a log that tools/record/record made of a program.
 
-Each request becomes a line `a` and each free a line `f`, in the log's order. A realloc becomes an `a` and then an `f`,
-or, from version 4 on, a line `m`. Where a thread frees a block that another asked for in the same phase, the next phase
+Each request becomes a line `a` and each free a line `f`, in the log's order. A realloc becomes a line `m`, or, before
+version 4, an `a` and then an `f`. Where a thread frees a block that another asked for in the same phase, the next phase
 begins before it; so no line comes too early. A thread that ends gets a line `stop`, and its number goes to a thread
-that begins later. The program reads versions 1 to 4.
+that begins later. The region has as many pages as the log's blocks need at their most, which is said.
 
 What doesn't fit the format's limits is cut, and said on standard error: a request of more than the region, with its
 free; an alignment above a page; threads beyond the most at once, which share numbers; and all that comes after the most
 operations, bytes or lines of a transcript that a trace may have. Call sites beyond the thirty-first share a heap, which
-a comment in the trace says.
+a comment in the trace says. The status is 0 where the trace was written; with --strict it is 3 where something was cut.
 """
 
 from __future__ import annotations
 
 import argparse
-import heapq
+import os
 import sys
-from collections import Counter
 from collections.abc import Callable
+from itertools import islice
 from pathlib import Path
 from typing import NamedTuple
 
@@ -26,201 +26,112 @@ sys.dont_write_bytecode = True
 HERE = Path(__file__).resolve().parent
 sys.path[:0] = [str(HERE), str(HERE / "record")]
 import recorded
+from conversion import Conversion, after
+from needed_pages import SMALL, Need
 from progress import Progress
-from trace_text import (LEAST_ALIGN, MOST_AGE, MOST_EPOCH, MOST_GUARDED, MOST_HEAPS, MOST_OPERATIONS, MOST_PAGES, MOST_THREADS,
-                        PAGE, Full, Trace, Wanted, room_of)
+from trace_heaps import Heaps
+from trace_text import (LAST_VERSION, MOST_AGE, MOST_EPOCH, MOST_GUARDED, MOST_OPERATIONS, MOST_PAGES, MOST_THREADS,
+                        Full, TooLong, Wanted)
+from whole_file import write_whole
 
-TELL_EACH = 20_000
-
-
-class Block(NamedTuple):
-    """A block that the trace has: the request that its room is of, and the thread and the phase that its name is of."""
-
-    name: int
-    heap: int
-    thread: int
-    phase: int
-    size: int
-    align: int
+INTERRUPTED, CUT = 130, 3
+TELL_EACH, CHECK_EACH = 20_000, 5_000
+NANOSECONDS = 1_000_000
+MOST_MILLISECONDS, MOST_RECORDS = 86_400_000, 1 << 40
 
 
-class Heaps:
-    """Which heap a request is of, and what to say of each."""
+class Made(NamedTuple):
+    """A trace: how it came to be, the pages that its blocks need, and its shared heaps."""
 
-    def __init__(self, by: str, log: recorded.Log) -> None:
-        self.by, self.requests, self.sites, self.count = by, Counter(), {}, 1
-        self.names = {heap: f"up to {16 << heap:,} bytes" for heap in range(MOST_HEAPS)} if by == "size" else {}
-        if by == "site":
-            self.rank(log)
-
-    def rank(self, log: recorded.Log) -> None:
-        """The call sites with the most requests get a heap each, and the others the last one."""
-        asked = Counter(call.site for call in recorded.calls_of(log) if call and call.block)
-        ranked, parts = [site for site, _ in asked.most_common()], recorded.read_parts(log)
-        self.sites = {site: min(at, MOST_HEAPS - 1) for at, site in enumerate(ranked)}
-        self.names = {heap: recorded.name_of(site, parts) for heap, site in enumerate(ranked[:MOST_HEAPS])}
-        self.count = max(1, len(self.names))
-        if len(ranked) > MOST_HEAPS:
-            self.names[MOST_HEAPS - 1] = f"{len(ranked) - MOST_HEAPS + 1:,} other call sites"
-
-    def of(self, call: recorded.Call) -> int:
-        """By size there is a heap for each power of two from 16 on."""
-        heap = self.sites.get(call.site, 0)
-        if self.by == "size":
-            heap = min(max(call.size - 1, 15).bit_length() - 4, MOST_HEAPS - 1)
-        self.count = max(self.count, heap + 1)
-        self.requests[heap] += 1
-        return heap
-
-    def comments(self) -> list[str]:
-        heaps = sorted(self.requests.items()) if self.names else []
-        return [f"# heap {heap}: {count:,} requests, {self.names[heap]}" for heap, count in heaps]
+    conversion: Conversion
+    need: Need
+    shared: list[int]
 
 
-class Numbers:
-    """The numbers of the program's threads in the trace: that of a thread which has ended is taken again."""
+class Reading(NamedTuple):
+    """A trace of the log, and the last of its records by which all fits into the pages that are needed until then."""
 
-    def __init__(self, most: int) -> None:
-        self.most, self.of, self.users, self.free, self.shared = most, {}, Counter(), [], 0
-
-    def number(self, thread: int) -> int:
-        if thread not in self.of:
-            self.of[thread] = self.taken(thread)
-            self.users[self.of[thread]] += 1
-        return self.of[thread]
-
-    def taken(self, thread: int) -> int:
-        if self.free:
-            return heapq.heappop(self.free)
-        if len(self.users) < self.most:
-            return len(self.users) + 1
-        self.shared += 1
-        return thread % self.most + 1
-
-    def end(self, thread: int) -> int | None:
-        """The number of a thread that has ended, if no other has it."""
-        number = self.of.get(thread)
-        if number is None:
-            return None
-        self.users[number] -= 1
-        if self.users[number] > 0:
-            return None
-        heapq.heappush(self.free, number)
-        return number
+    conversion: Conversion
+    fitting: int
 
 
-class Conversion:
-    """The program's blocks by address as the calls come, and the trace of them. A block that is left out is None."""
-
-    def __init__(self, options: argparse.Namespace, heaps: Heaps) -> None:
-        self.heaps, self.is_sized, self.cut = heaps, options.sized, Counter()
-        self.wanted = Wanted(options.version, options.pages, options.age,
-                             options.tick, options.passes, options.idle, options.idle_age, options.guard)
-        self.trace, self.numbers = Trace(self.wanted), Numbers(options.threads)
-        self.blocks: dict[int, Block | None] = {}
-        self.moving: dict[int, Block | None] = {}
-        self.names = 0
-
-    def take(self, call: recorded.Call | None) -> None:
-        if call is None:
-            self.cut["calls that the log has no record of: they found no room, or the program was killed in them"] += 1
-        elif call.kind == "e":
-            if number := self.numbers.end(call.thread):
-                self.trace.stop(number)
-        elif call.kind == "f":
-            self.take_free(call)
-        elif call.kind == "<":
-            self.moving.pop(call.thread, None)
-            if call.old in self.blocks:
-                self.moving[call.thread] = self.blocks.pop(call.old)
-        elif call.kind == ">":
-            self.take_move(call)
-        elif call.block:
-            self.ask(call, self.numbers.number(call.thread), None)
-        else:
-            self.cut["requests that the program was refused"] += 1
-
-    def take_free(self, call: recorded.Call) -> None:
-        if call.old in self.blocks:
-            self.give_up(self.blocks.pop(call.old), self.numbers.number(call.thread))
-        else:
-            self.cut["frees of blocks that the log hasn't seen asked for"] += 1
-
-    def take_move(self, call: recorded.Call) -> None:
-        """The end of a realloc. Without a block it was a free if nothing was asked for; else the old block lives on."""
-        number, was_seen = self.numbers.number(call.thread), call.thread in self.moving
-        old = self.moving.pop(call.thread, None)
-        if call.old and not was_seen:
-            self.cut["reallocs of blocks that the log hasn't seen asked for"] += 1
-        if call.block:
-            self.ask(call, number, old)
-        elif call.size:
-            self.cut["requests that the program was refused"] += 1
-            if was_seen:
-                self.blocks[call.old] = old
-        else:
-            self.give_up(old, number)
-
-    def ask(self, call: recorded.Call, number: int, old: Block | None) -> None:
-        """A block for the call, in place of the old one if there is one."""
-        if call.block in self.blocks:
-            self.cut["frees that the log hasn't seen, of blocks that were asked for again: they stand before it"] += 1
-            self.give_up(self.blocks.pop(call.block), number)
-        align = min(max(call.align, LEAST_ALIGN), PAGE)
-        if call.size > PAGE * self.wanted.pages:
-            self.cut[f"requests of more than the region's {self.wanted.pages:,} pages, and their frees"] += 1
-            self.blocks[call.block] = None
-            self.give_up(old, number)
-            return
-        if call.align > PAGE:
-            self.cut[f"alignments above {PAGE:,}, which became that"] += 1
-        self.names += 1
-        if old and self.wanted.version >= 4:
-            self.move(call, number, old, align)
-        else:
-            heap = self.heaps.of(call)
-            self.trace.ask(number, self.names, heap, call.size, align)
-            self.blocks[call.block] = Block(self.names, heap, number, self.trace.phase, call.size, align)
-            self.give_up(old, number)
-
-    def move(self, call: recorded.Call, number: int, old: Block, align: int) -> None:
-        """The block is kept where the new size is within its room; then its room stays that of the old request."""
-        self.wait_for(old, number)
-        self.trace.move(number, self.names, old.name, call.size, align)
-        is_kept = max(call.size, 1) <= room_of(self.wanted.version, old.size, old.align)[0]
-        size, align = (old.size, old.align) if is_kept else (call.size, align)
-        self.blocks[call.block] = Block(self.names, old.heap, number, self.trace.phase, size, align)
-
-    def give_up(self, block: Block | None, number: int) -> None:
-        if block is None:
-            return
-        self.wait_for(block, number)
-        if self.is_sized:
-            self.trace.free_sized(number, block.name, block.size, block.align)
-        else:
-            self.trace.free(number, block.name)
-
-    def wait_for(self, block: Block, number: int) -> None:
-        """The block's name may be used by this thread: by its own, or in a later phase."""
-        if block.thread != number and block.phase == self.trace.phase:
-            self.trace.begin_phase()
+def read_through(log: recorded.Log, options: argparse.Namespace, pages: int, last: int) -> Reading:
+    """The trace of the part of the log that is wanted, up to the record `last`. Without pages it ends where the pages that are
+    needed until then leave no room for it."""
+    wanted = Wanted(options.version, options.age, options.tick, options.passes, options.idle, options.idle_age, options.guard,
+                    options.tick_ms and options.tick_ms * NANOSECONDS, options.pass_ms and options.pass_ms * NANOSECONDS)
+    conversion = Conversion(wanted, pages, options.threads, options.sized, Heaps(options.heaps, log))
+    progress, records, before = Progress("records", log.records), recorded.records_of(log), options.start - 1
+    at = fitting = before
+    try:
+        conversion.begin_with(after(islice(records, before)))
+        for at, record in enumerate(islice(records, last - before), before):
+            if at % TELL_EACH == 0:
+                progress.tell(at)
+            if at % CHECK_EACH == 0 and not pages:
+                if not fits(conversion, options):
+                    break
+                fitting = at
+            conversion.take(record)
+    except Full as full:
+        conversion.cut_after(at, last, str(full))
+    finally:
+        progress.end()
+    return Reading(conversion, fitting)
 
 
-def converted(log: recorded.Log, options: argparse.Namespace) -> Conversion:
-    conversion, progress = Conversion(options, Heaps(options.heaps, log)), Progress("records", log.records)
-    for at, call in enumerate(recorded.calls_of(log)):
-        if at % TELL_EACH == 0:
-            progress.tell(at)
-        try:
-            conversion.take(call)
-        except Full as full:
-            left = f"records of the log, all after number {at:,}, for a trace has at most {full}"
-            conversion.cut[left] = log.records - at
-            break
-    progress.end()
+def region(conversion: Conversion, options: argparse.Namespace) -> int:
+    """How many pages the blocks so far need, of those that the version has."""
+    shared = shared_heaps(options.shared, conversion)
+    return min(conversion.needed.need(shared).wanted, MOST_PAGES[options.version])
+
+
+def fits(conversion: Conversion, options: argparse.Namespace) -> bool:
+    return conversion.trace.fits(region(conversion, options))
+
+
+def made(log: recorded.Log, options: argparse.Namespace) -> Made:
+    """The trace, with as many pages as its blocks need where no number is named. Where these leave no room for all of it, it is
+    made once more of the records that fit; or, where hardly any do, of what fits with these pages."""
+    last = min(log.records, options.start - 1 + options.most)
+    conversion, fitting = read_through(log, options, options.pages or 0, last)
+    if not options.pages and fits(conversion, options):
+        conversion.trace.pages = region(conversion, options)
+    elif not options.pages and fitting < options.start + CHECK_EACH:
+        conversion, _ = read_through(log, options, region(conversion, options), last)
+    elif not options.pages:
+        conversion, _ = read_through(log, options, 0, fitting)
+        conversion.trace.pages = region(conversion, options)
+        conversion.cut_after(fitting, last, str(TooLong()))
     if conversion.numbers.shared:
         conversion.cut["threads that share another's number"] = conversion.numbers.shared
-    return conversion
+    shared = shared_heaps(options.shared, conversion)
+    return Made(conversion, conversion.needed.need(shared), shared)
+
+
+def shared_heaps(which: str | int | None, conversion: Conversion) -> list[int]:
+    if which is None:
+        return []
+    return list(range(conversion.heaps.count)) if which == "all" else conversion.needed.small(which)
+
+
+def about_pages(made: Made, options: argparse.Namespace) -> list[str]:
+    """How many pages the region has and why, and a warning where the blocks don't fit."""
+    (least, wanted), pages = made.need, made.conversion.trace.pages
+    why = f"the blocks fill {least:,} at their most, and leave holes"
+    if options.pages:
+        why = f"as told; {why}, so {wanted:,} would do"
+    elif wanted > pages:
+        why = f"the most of this version; {why}, so {wanted:,} would do"
+    said = [f"version {options.version}, {pages:,} pages: {why}"]
+    if least > pages:
+        cure = f"--pages {wanted} has room for them"
+        if wanted > MOST_PAGES[options.version]:
+            cure = f"--version {LAST_VERSION} has more pages"
+        if wanted > MOST_PAGES[LAST_VERSION]:
+            cure = "--from and --most take a part of the log that may need less"
+        said.append(f"warning: what lives passes the region, so requests will be refused; {cure}")
+    return said
 
 
 def number_within(least: int, most: int) -> Callable[[str], int]:
@@ -231,31 +142,50 @@ def number_within(least: int, most: int) -> Callable[[str], int]:
     return number
 
 
-def read_options() -> argparse.Namespace:
-    parser = argparse.ArgumentParser(description=__doc__, formatter_class=argparse.RawDescriptionHelpFormatter)
-    every = number_within(1, MOST_OPERATIONS)
-    parser.add_argument("log", type=Path, help="a log of tools/record/record")
-    parser.add_argument("-o", dest="file", type=Path, help="the trace (standard output)")
-    parser.add_argument("--version", type=int, choices=MOST_PAGES, default=1, help="the version of the trace (1)")
-    parser.add_argument("--heaps", choices=["one", "site", "size"], default="one",
-                        help="one heap, or one for each call site, or one for each power of two of sizes (one)")
-    parser.add_argument("--pages", type=number_within(1, max(MOST_PAGES.values())),
-                        help="the pages of the region (the most that the version has)")
-    parser.add_argument("--threads", type=number_within(1, MOST_THREADS),
-                        help="the most threads at once (16, or 8 with guards)")
-    parser.add_argument("--age", type=number_within(1, MOST_AGE), default=2, help="the age of the header (2)")
-    parser.add_argument("--tick", type=every, metavar="N", help="a tick after each N operations of threads")
-    parser.add_argument("--pass", type=every, metavar="N", dest="passes",
-                        help="a pass after each N operations of threads")
+def heaps_to_share(text: str) -> str | int:
+    return text if text == "all" else SMALL if text == "small" else number_within(1, max(MOST_PAGES.values()))(text)
+
+
+def add_options_of_scavenger(parser: argparse.ArgumentParser) -> None:
+    every, milliseconds = number_within(1, MOST_OPERATIONS), number_within(1, MOST_MILLISECONDS)
+    for what, name in (("tick", "tick"), ("pass", "passes")):
+        one = parser.add_mutually_exclusive_group()
+        one.add_argument(f"--{what}", type=every, metavar="N", dest=name, help=f"a {what} after each N operations of threads")
+        one.add_argument(f"--{what}-ms", type=milliseconds, metavar="M", help=f"a {what} each M milliseconds of the program")
     parser.add_argument("--idle", type=every, metavar="N", help="an idle line after each N operations of threads")
     parser.add_argument("--idle-age", type=number_within(0, MOST_EPOCH), default=1, metavar="E",
                         help="the epochs of an idle line (1)")
+
+
+def add_options(parser: argparse.ArgumentParser) -> None:
+    parser.add_argument("log", type=Path, help="a log of tools/record/record")
+    parser.add_argument("-o", dest="file", type=Path, help="the trace (standard output)")
+    parser.add_argument("--version", type=int, choices=MOST_PAGES, default=LAST_VERSION, help=f"that of the trace ({LAST_VERSION})")
+    parser.add_argument("--from", type=number_within(1, MOST_RECORDS), default=1, metavar="N", dest="start",
+                        help="from this record of the log on, where first what lives then is asked for (1)")
+    parser.add_argument("--most", type=number_within(1, MOST_RECORDS), default=MOST_RECORDS, metavar="N",
+                        help="at most so many records of the log (all)")
+    parser.add_argument("--heaps", choices=["one", "site", "size"], default="one",
+                        help="one heap, or one for each call site, or one for each power of two of sizes (one)")
+    parser.add_argument("--shared", type=heaps_to_share, metavar="all|small|N",
+                        help=f"each heap is shared, or each whose slots fit into N pages, {SMALL} if small")
+    parser.add_argument("--pages", type=number_within(1, max(MOST_PAGES.values())),
+                        help="the pages of the region (as many as the blocks need)")
+    parser.add_argument("--threads", type=number_within(1, MOST_THREADS),
+                        help="the most threads at once (16, or 8 with guards)")
+    parser.add_argument("--age", type=number_within(1, MOST_AGE), default=2, help="the age of the header (2)")
+    add_options_of_scavenger(parser)
     parser.add_argument("--sized", action="store_true", help="a free names its size and alignment (from version 2 on)")
-    parser.add_argument("--guard", type=every, metavar="N",
+    parser.add_argument("--guard", type=number_within(1, MOST_OPERATIONS), metavar="N",
                         help="each N-th request of a thread for whole pages is guarded (from version 4 on)")
+    parser.add_argument("--strict", action="store_true", help=f"status {CUT} where a line tells of a cut, or warns")
+
+
+def read_options() -> argparse.Namespace:
+    parser = argparse.ArgumentParser(description=__doc__, formatter_class=argparse.RawDescriptionHelpFormatter)
+    add_options(parser)
     options = parser.parse_args()
-    options.pages = options.pages or MOST_PAGES[options.version]
-    if options.pages > MOST_PAGES[options.version]:
+    if options.pages and options.pages > MOST_PAGES[options.version]:
         parser.error(f"version {options.version} has at most {MOST_PAGES[options.version]:,} pages")
     if options.sized and options.version < 2:
         parser.error("frees with a size come with version 2")
@@ -267,22 +197,52 @@ def read_options() -> argparse.Namespace:
     return options
 
 
+def read_log(options: argparse.Namespace) -> recorded.Log:
+    log = recorded.read_head(options.log)
+    if (options.tick_ms or options.pass_ms) and not log.has_times:
+        raise recorded.LogFault(f"{log.path}: an earlier recorder made it, which noted no times; --tick and --pass count operations")
+    if options.start > max(log.records, 1):
+        raise recorded.LogFault(f"{log.path}: it has {log.records:,} records, and none is number {options.start:,}")
+    return log
+
+
+def write(made: Made, file: Path | None) -> None:
+    """To the file or to standard output."""
+    conversion = made.conversion
+    text = "".join(conversion.trace.text(conversion.heaps.count, made.shared, conversion.heaps.comments()))
+    try:
+        if file:
+            write_whole(file, text)
+        else:
+            sys.stdout.write(text)
+            sys.stdout.flush()
+    except OSError as fault:
+        if not file:
+            os.dup2(os.open(os.devnull, os.O_WRONLY), sys.stdout.fileno())
+        sys.exit(f"trace_of: {file or 'standard output'}: {fault.strerror}")
+
+
+def convert(options: argparse.Namespace) -> int:
+    """Writes the trace, and answers the status."""
+    it = made(read_log(options), options)
+    write(it, options.file)
+    trace, heaps = it.conversion.trace, it.conversion.heaps
+    said = [f"{trace.operations:,} operations of {trace.counts[0]} threads in {trace.phase:,} phases and {heaps.count} heaps; "
+            f"{trace.live:,} blocks live at the end", *about_pages(it, options)]
+    said += [f"cut: {count:,} {what}" for what, count in it.conversion.cut.items()]
+    for line in said:
+        print(f"trace_of: {line}", file=sys.stderr)
+    return CUT if options.strict and len(said) > 2 else 0
+
+
 def main() -> None:
     options = read_options()
     try:
-        conversion = converted(recorded.read_head(options.log), options)
+        sys.exit(convert(options))
     except recorded.LogFault as fault:
         sys.exit(f"trace_of: {fault}")
-    trace, heaps = conversion.trace, conversion.heaps
-    text = trace.text(heaps.count, heaps.comments())
-    try:
-        options.file.write_text(text) if options.file else sys.stdout.write(text)
-    except OSError as fault:
-        sys.exit(f"trace_of: {options.file or 'standard output'}: {fault.strerror}")
-    print(f"trace_of: {trace.operations:,} operations of {trace.threads} threads in {trace.phase:,} phases and "
-          f"{heaps.count} heaps; {trace.live:,} blocks live at the end", file=sys.stderr)
-    for what, count in conversion.cut.items():
-        print(f"trace_of: cut: {count:,} {what}", file=sys.stderr)
+    except KeyboardInterrupt:
+        sys.exit(INTERRUPTED)
 
 
 if __name__ == "__main__":

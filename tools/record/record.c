@@ -4,7 +4,8 @@
    all threads. A record's place is its number, which one atomic addition takes, so no two threads write the same place,
    and what was written stays when the program is killed. A free takes its number before the block is given up, and a
    request takes it once it has the block; so in the log, too, no address is given twice without a free in between. A
-   realloc does both and has two records.
+   realloc does both and has two records. A record's time is read just before its number is taken, so those of two
+   threads may stand the other way round.
 
    All that a process knows of its log lies in memory that the kernel wipes in a forked child. So a child finds nothing,
    and begins a log of its own at its first call, however it was forked. */
@@ -23,17 +24,20 @@
 #include <stdlib.h>
 #include <string.h>
 #include <sys/mman.h>
+#include <time.h>
 #include <unistd.h>
 #include <unwind.h>
 
 #define API __attribute__((visibility("default")))
 #define CALLER __builtin_return_address(0)
 
-enum { PAGE = 4096, IN_CHUNK = 65536, CHUNKS = 32768, EARLY = 16384, MOST_NAMES = 100 };
+/* The log grows by chunks. The first two have IN_FIRST records, each later one twice as many as the one before, up to
+   IN_CHUNK: so a process that asks for little has a small file. */
+enum { PAGE = 4096, IN_FIRST = 1024, IN_CHUNK = 65536, CHUNKS = 32768, EARLY = 16384, MOST_NAMES = 100 };
 
 /* tools/record/recorded.py reads these two. The kind is written last: a record of kind 0 was never finished. */
 struct record {
-    uint64_t block, old, size, site;
+    uint64_t block, old, size, site, nanoseconds;
     uint32_t thread;
     uint8_t align_log;
     _Atomic uint8_t kind;
@@ -69,6 +73,7 @@ static __thread struct {
 
 static void *(*next_malloc)(size_t), *(*next_calloc)(size_t, size_t), *(*next_realloc)(void *, size_t);
 static void *(*next_memalign)(size_t, size_t), *(*next_aligned_alloc)(size_t, size_t);
+static void *(*next_valloc)(size_t), *(*next_pvalloc)(size_t);
 static int (*next_posix_memalign)(void **, size_t, size_t);
 static void (*next_free)(void *);
 
@@ -97,6 +102,8 @@ static bool is_resolved(void) {
     next_memalign = dlsym(RTLD_NEXT, "memalign");
     next_aligned_alloc = dlsym(RTLD_NEXT, "aligned_alloc");
     next_posix_memalign = dlsym(RTLD_NEXT, "posix_memalign");
+    next_valloc = dlsym(RTLD_NEXT, "valloc");
+    next_pvalloc = dlsym(RTLD_NEXT, "pvalloc");
     next_malloc = dlsym(RTLD_NEXT, "malloc");
     return true;
 }
@@ -144,7 +151,7 @@ static void begin(void) {
     if (!head) return;
     state->process = head->process = (uint32_t)getpid();
     if (readlink("/proc/self/exe", head->program, sizeof head->program - 1) < 0) head->program[0] = 0;
-    memcpy(head->magic, "paslog1\n", 8);
+    memcpy(head->magic, "paslog2\n", 8);
     state->head = head;
     state->is_off = false;
 }
@@ -176,20 +183,32 @@ static bool is_on(void) {
     return !state->is_off;
 }
 
-/* The chunk of this number, if there is room; there is no second try. No descriptor is kept, which the program might
-   close, or that a child would inherit. */
-static struct record *grown(uint64_t number) {
+/* Which chunk has the record of this number, and how many stand before it and in it. */
+struct place {
+    uint64_t chunk, first, room;
+};
+
+static inline struct place place_of(uint64_t number) {
+    enum { SMALL = __builtin_ctz(IN_CHUNK / IN_FIRST) };
+    if (number >= IN_CHUNK) return (struct place){SMALL + number / IN_CHUNK, number / IN_CHUNK * IN_CHUNK, IN_CHUNK};
+    if (number < IN_FIRST) return (struct place){0, 0, IN_FIRST};
+    uint64_t log = 63 - __builtin_clzl(number / IN_FIRST), first = (uint64_t)IN_FIRST << log;
+    return (struct place){log + 1, first, first};
+}
+
+/* The chunk, if there is room; there is no second try. No descriptor is kept, which the program might close, or that a
+   child would inherit. */
+static struct record *grown(struct place place) {
     int kept = errno;
     take_lock();
-    struct record *chunk = state->chunks[number];
+    struct record *chunk = state->chunks[place.chunk];
     if (!chunk && !state->is_full) {
-        size_t length = IN_CHUNK * sizeof *chunk;
         int file = open(path, O_RDWR | O_CLOEXEC);
         if (file < 0) say("can't be opened", errno);
-        if (file >= 0) chunk = map_part(file, PAGE + (off_t)(number * length), length);
+        if (file >= 0) chunk = map_part(file, PAGE + (off_t)(place.first * sizeof *chunk), place.room * sizeof *chunk);
         if (file >= 0) close(file);
         state->is_full = !chunk;
-        atomic_store_explicit(&state->chunks[number], chunk, memory_order_release);
+        atomic_store_explicit(&state->chunks[place.chunk], chunk, memory_order_release);
     }
     atomic_store(&state->lock, false);
     errno = kept;
@@ -197,12 +216,13 @@ static struct record *grown(uint64_t number) {
 }
 
 static struct record *next_place(void) {
-    uint64_t number = atomic_fetch_add(&state->head->records, 1), chunk = number / IN_CHUNK;
+    uint64_t number = atomic_fetch_add(&state->head->records, 1);
+    struct place place = place_of(number);
     struct record *records = NULL;
-    if (chunk < CHUNKS) records = atomic_load_explicit(&state->chunks[chunk], memory_order_acquire);
-    if (!records && chunk < CHUNKS && !state->is_full) records = grown(chunk);
+    if (place.chunk < CHUNKS) records = atomic_load_explicit(&state->chunks[place.chunk], memory_order_acquire);
+    if (!records && place.chunk < CHUNKS && !state->is_full) records = grown(place);
     if (!records) atomic_fetch_add(&state->head->lost, 1);
-    return records ? records + number % IN_CHUNK : NULL;
+    return records ? records + (number - place.first) : NULL;
 }
 
 /* This thread's number in this process's log. */
@@ -240,16 +260,23 @@ static uint64_t site_of(void *caller) {
     return walk.site;
 }
 
+static uint64_t now(void) {
+    struct timespec at;
+    clock_gettime(CLOCK_MONOTONIC, &at);
+    return (uint64_t)at.tv_sec * 1000000000 + (uint64_t)at.tv_nsec;
+}
+
 static void note(char kind, void *block, const void *old, size_t size, size_t align, void *caller) {
     if (!is_on()) return;
     uint32_t thread = this_thread();
-    uint64_t site = caller ? site_of(caller) : 0;
+    uint64_t site = caller ? site_of(caller) : 0, nanoseconds = now();
     struct record *record = next_place();
     if (!record) return;
     record->block = (uintptr_t)block;
     record->old = (uintptr_t)old;
     record->size = size;
     record->site = site;
+    record->nanoseconds = nanoseconds;
     record->thread = thread;
     record->align_log = align ? (uint8_t)__builtin_ctzl(align) : 0;
     atomic_store_explicit(&record->kind, kind, memory_order_release);
@@ -332,4 +359,20 @@ API int posix_memalign(void **block, size_t align, size_t size) {
     int error = next_posix_memalign(block, align, size);
     note('p', error ? NULL : *block, NULL, size, align, CALLER);
     return error;
+}
+
+/* A block at a page's start. A pvalloc asks for whole pages. */
+static void *paged(void *(*call)(size_t), char kind, size_t size, size_t asked, void *caller) {
+    void *block = call(size);
+    note(kind, block, NULL, asked, (size_t)sysconf(_SC_PAGESIZE), caller);
+    return block;
+}
+
+API void *valloc(size_t size) {
+    return is_resolved() && next_valloc ? paged(next_valloc, 'v', size, size, CALLER) : NULL;
+}
+
+API void *pvalloc(size_t size) {
+    size_t page = (size_t)sysconf(_SC_PAGESIZE), asked = (size + page - 1) / page * page;
+    return is_resolved() && next_pvalloc ? paged(next_pvalloc, 'w', size, asked, CALLER) : NULL;
 }

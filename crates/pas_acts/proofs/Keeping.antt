@@ -30,7 +30,7 @@ use Rattle.pas_guard.specs.declared.book.Guard.{Guard}
 use Rattle.pas_guard.specs.declared.book.GuardBook.{GuardBook}
 use Rattle.pas_answers.specs.Answers.{Books, with_book, Progress}
 use Rattle.pas_answers.specs.Calls.{MayStand}
-use Rattle.pas_answers.specs.Guarding.{Tried, IsTried, after_trying, after_giving, IsLowered, after_lowering}
+use Rattle.pas_answers.specs.Guarding.{Tried, try_steps, IsTried, after_trying, after_giving, IsLowered, after_lowering}
 use Rattle.pas_answers.specs.Keeping.{owed_by_keeper, cost_of_try, MayTry, TriesRequest, MayLowerAll, LowersAll}
 use Rattle.pas_answers.specs.Reaching.{AnswersOp, AnswersTried, AnswersGuarded, Advances}
 use Rattle.pas_answers.proofs.OwnRecords.{swept_each, try_each}
@@ -141,6 +141,7 @@ has_tried {f} {k} {σ} {σ'} {book} {book'} {out} {out'} {p} {block} later r at 
     record {
       tried = tried;
       is = subst (λ (gs : List Guard). IsTried f k r v gs tried) (sym at.book) got.1;
+      short = of_seat s (λ (j : ℕ) (g : Profile). length steps ≤ try_steps g r (guards_in book)) did.short;
       block_is = refl;
       given = subst (λ (g : Profile). MayStand g block) s.profile given;
       stands = record {

@@ -14,7 +14,7 @@ use Rattle.pas_guard.specs.Books.{FitsBook, guards_in, size_of_book}
 use Rattle.pas_guard.specs.declared.book.GuardBook.{GuardBook}
 use Rattle.pas_answers.specs.Answers.{Progress}
 use Rattle.pas_answers.specs.Calls.{MayStand}
-use Rattle.pas_answers.specs.Guarding.{Tried, IsTried, after_trying}
+use Rattle.pas_answers.specs.Guarding.{Tried, try_steps, IsTried, after_trying}
 use Rattle.pas_answers.specs.Keeping.{owed_by_keeper, cost_of_try}
 use Rattle.pas_answers.specs.Reaching.{Reaches}
 use Rattle.pas_answers.specs.Ways.{EachOf}
@@ -49,10 +49,12 @@ pub record KeeperAt (f : Profile) (keeper : ℕ) (has : KeeperHas) (later : Late
   pub places : length (guards_in has.book) + later.guards ≤ size_of_book has.book
 
 -- The keeper tried the request, and gave this block or none. What it said came to its own records. It is what the replay does for a guarded request first. Where it gave a
--- block the request pays for what the keeper said and for what it owes more then; else what it owed pays, and the request is left to its thread.
+-- block the request pays for what the keeper said and for what it owes more then; else what it owed pays, and the request is left to its thread. The steps are those of a sweep
+-- and a raise at most.
 pub record KeeperTries (f : Profile) (keeper : ℕ) (r : Request) (block : Option Block) (old new : KeeperHas) (later : LaterKept) (p : Progress) : Type 0 where
   pub tried : Tried
   pub is : IsTried f keeper r (part keeper p.list) (p.books keeper) tried
+  pub short : length tried.steps ≤ try_steps f r (guards_in old.book)
   pub block_is : tried.block ≡ block
   pub given : MayStand f block
   pub stands : KeeperAt f keeper new later (after_trying p keeper tried)

@@ -1,8 +1,10 @@
 -- What a keeper's steps and records keep: they are tidy, and each record can be shown.
-use Rattle.std.proofs.Common.{ℕ, ◌+◌, Bool, true, false, ◌||◌, List, [], ◌∷◌, ◌++◌, Option, Some, None, refl, sym, subst, append_assoc}
+use Rattle.std.proofs.Common.{ℕ, ◌+◌, ◌*◌, ◌≤◌, Bool, true, false, ◌||◌, List, [], ◌∷◌, ◌++◌, length, Option, Some, None, Result, refl, ap, sym, ◌∙◌, subst, arith, append_assoc, length-append}
 use Rattle.std.specs.Prelude.{MatchOption}
+use Rattle.pas_profile.specs.declared.event.NoRoom.{NoRoom}
 use Rattle.pas_profile.specs.declared.name.Block.{Block}
 use Rattle.pas_profile.specs.declared.profile.Profile.{Profile}
+use Rattle.pas_steps.specs.Desks.{Standing}
 use Rattle.pas_steps.specs.Events.{events_by}
 use Rattle.pas_steps.specs.Kinds.{Backing, Giving, LookLife, returning}
 use Rattle.pas_steps.specs.Views.{View}
@@ -10,7 +12,10 @@ use Rattle.pas_steps.specs.declared.step.Made.{Made}
 use Rattle.pas_trace.specs.declared.item.Request.{Request}
 use Rattle.pas_report.specs.declared.record.Record.{Record}
 use Rattle.pas_report.proofs.Showable.{AreOfRegion}
+use Rattle.pas_cache.specs.Caches.{Cached}
+use Rattle.pas_cache.specs.Calls.{AllocatesPages}
 use Rattle.pas_cache.specs.Serves.{pages_of}
+use Rattle.pas_large.specs.Named.{missed_steps}
 use Rattle.pas_rights.specs.Gives.{give_steps}
 use Rattle.pas_scan.specs.Runs.{large_directory}
 use Rattle.pas_guard.specs.Seeks.{seeking}
@@ -19,7 +24,7 @@ use Rattle.pas_guard.specs.Sweeps.{is_over, sweeping, SweptOne, Swept, SweepStep
 use Rattle.pas_guard.specs.declared.book.Guard.{Guard}
 use Rattle.pas_guard.proofs.Raised.{raised_backs, raised_leaves}
 use Rattle.pas_answers.specs.Answers.{wanted_by, records_of}
-use Rattle.pas_answers.specs.Guarding.{said_of_guard, Tried, IsTried}
+use Rattle.pas_answers.specs.Guarding.{said_of_guard, Tried, try_steps, guarded_steps, IsTried}
 use Rattle.pas_answers.proofs.Parts.{of_front}
 use Rattle.pas_answers.proofs.Shown.{EachShown, each_both, records_shown}
 use Rattle.pas_answers.proofs.Tidy.{Tidy, tidy_over, tidy_none, tidy_both}
@@ -66,3 +71,23 @@ try_shown f keeper r v guards t is of =
     let said = said_of_guard keeper r.name (pages_of (wanted_by f r)) t.block in
     subst EachShown (sym is.records_are) (each_both is.lowered (events ++ said) (swept_shown false keeper guards is.left is.lowered is.swept is.sweep.swept)
     (each_both events said (records_shown f keeper is.raised (is.swept ++ v) raised) (guard_shown keeper r.name (pages_of (wanted_by f r)) t.block)))
+
+-- ---- short
+pub try_short : (f : Profile) (keeper : ℕ) (r : Request) (v : View) (guards : List Guard) (t : Tried) → IsTried f keeper r v guards t → length t.steps ≤ try_steps f r guards
+try_short f keeper r v guards t is =
+    let all = ap (λ (xs : List Made). length xs) is.steps_are ∙ length-append is.raised is.swept in
+    let swept = is.sweep.few in
+    let raised = is.raise.few in
+    omega (arith, all, swept, raised)
+
+missed_few : (found : Option ℕ) (n : ℕ) → missed_steps found n ≤ 48 * n
+missed_few None n = omega arith
+missed_few (Some first) n = omega arith
+
+pub whole_short : {σ σ' : Standing} {tells : Bool} {found : Option ℕ} {c c' : Cached} {answer : Result Block NoRoom} (keeper : ℕ) (r : Request) (v : View) (guards : List Guard) (t : Tried) → IsTried σ.seat.profile keeper r v guards t
+    → (call : AllocatesPages (wanted_by σ.seat.profile r) found tells c c' σ σ' answer) → length t.steps + length call.steps ≤ guarded_steps σ.seat.profile r guards
+whole_short {σ} {found = found} keeper r v guards t is call =
+    let tried = try_short σ.seat.profile keeper r v guards t is in
+    let missed = missed_few found (pages_of (wanted_by σ.seat.profile r)) in
+    let short = call.short in
+    omega (arith, tried, missed, short)

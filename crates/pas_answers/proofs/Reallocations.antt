@@ -31,7 +31,7 @@ use Rattle.pas_answers.specs.Fit.{IsFitWhat, cost_of_what}
 use Rattle.pas_answers.specs.Indexes.{unless_suited, IsNamedFor, request_made}
 use Rattle.pas_answers.specs.Moves.{flush_of_full, MayMove, Moves}
 use Rattle.pas_answers.proofs.Frees.{fits_task, stands_for, taken_few}
-use Rattle.pas_answers.proofs.Requests.{named_for, is_given, block_stands}
+use Rattle.pas_answers.proofs.Requests.{may_request, named_for, is_given, block_stands}
 
 -- ---- what is asked
 -- the flush of a full log makes an event for each logged name at most
@@ -39,11 +39,11 @@ flush_few : (t : Bool) (n : ℕ) → nat_le 64 n ≡ t → (if t then 64 else 0)
 flush_few true n is = let le = leb-true 64 n is in omega (arith, le)
 flush_few false n is = omega arith
 
-pub can_move : {σ : Standing} (c : Cached) (name n heap size align spare : ℕ) → CanCall σ (MayPerform σ.seat.profile c (Remake name n heap size align) spare) → CanCall σ (MayMove σ.seat.profile c (cost_of_size size) spare)
-can_move {σ} c name n heap size align spare can =
+pub can_move : {σ : Standing} (c : Cached) (name n heap size align spare there : ℕ) → CanCall σ (MayPerform σ.seat.profile c (Remake name n heap size align) spare) → CanCall σ (MayMove σ.seat.profile (wanted_for σ.seat.profile there size align) c spare)
+can_move {σ} c name n heap size align spare there can =
     let flush : flush_of_full c.log ≤ length c.log = flush_few (nat_le 64 (length c.log)) (length c.log) refl in
     let room = can.met.room in
-    record { view = can.view; whole = can.whole; stood = can.stood; met = record { rest = can.met.rest; room = omega (arith, room, flush) } }
+    record { view = can.view; whole = can.whole; stood = can.stood; met = may_request σ.seat.profile c there size align (spare - flush_of_full c.log) can.view can.met.rest (omega (arith, room, flush)) }
 
 -- whatever the old name and its heap are
 pub can_resize : {σ : Standing} {task : Task} {name n heap size align : ℕ} (c : Cached) (spare : ℕ) → task ≡ Task.Remake name n heap size align → CanCall σ (MayPerform σ.seat.profile c (what_of task) spare) → (m h : ℕ) → CanCall σ (MayPerform σ.seat.profile c (Remake name m h size align) spare)

@@ -62,7 +62,7 @@ use Rattle.pas_guard.specs.declared.book.GuardBook.{GuardBook}
 use Rattle.pas_guard.proofs.Raised.{raised_backs, raised_few, raised_leaves}
 use Rattle.pas_answers.specs.Answers.{wanted_by, records_of, IsGiven}
 use Rattle.pas_answers.specs.Calls.{IsBlockOf, MayStand}
-use Rattle.pas_answers.specs.Guarding.{said_of_guard, TryEnds, IsTried}
+use Rattle.pas_answers.specs.Guarding.{said_of_guard, TryEnds, try_steps, IsTried}
 use Rattle.pas_answers.specs.Keeping.{owed_by_keeper, MayTry, cost_of_try, TriesRequest, MayLowerAll, LowersAll}
 use Rattle.pas_answers.proofs.Records.{IsShown, shown_new, shown_longer}
 
@@ -461,11 +461,20 @@ module _ {σ σ1 σ2 : Standing} (r : Request) (book book1 book2 : GuardBook) (o
       last ∙ ap (λ (rs : List Record). rs ++ guard) (events ∙ ap (λ (rs : List Record). records_in out1 ++ rs) own ∙ ap (λ (rs : List Record). rs ++ records_of es) s.added ∙ append_assoc (records_in out) s.more (records_of es))
       ∙ append_assoc (records_in out) (s.more ++ records_of es) guard ∙ ap (λ (rs : List Record). records_in out ++ rs) (append_assoc s.more (records_of es) guard)
 
+  short : length steps ≤ try_steps f r (guards_in book)
+  short =
+      let raise : RaiseSteps f r.heap (pages_of (wanted_by f r)) guards1 guards2 answer u.steps = subst (λ (m : ℕ). RaiseSteps f r.heap m guards1 guards2 answer u.steps) (count_wanted f r n is large) raise_so in
+      let all = length-append u.steps s.steps in
+      let swept = s.sweep.few in
+      let raised = raise.few in
+      omega (arith, all, swept, raised)
+
   pub tries : (out2 out3 : Records) (old new : List Event) → IsAlignment r.align → IsShown σ1 old → IsShown σ2 new → records_in out2 ≡ records_in out1 ++ map Record.Event (drop (length old) new)
       → records_in out3 ≡ records_in out2 ++ said_of_guard k r.name (pages_of (wanted_by f r)) answer → room_of out3 ≡ room_of out → size_of_book book2 ≡ size_of_book book → TriesRequest r book book2 out out3 σ σ2 answer
   tries out2 out3 old new alignment before after events last room size = record {
     steps = steps;
     calls = both_call;
+    short = short;
     few = λ v met agreed. few_both v agreed;
     tried = λ v l stood met. let agreed = both_agreed v l stood met in (told v, is_tried v alignment met agreed, told_are out2 out3 old new before after events last v l stood met, paid v agreed);
     room = room;

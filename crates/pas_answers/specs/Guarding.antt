@@ -1,5 +1,5 @@
 -- Guarded requests in a replay: what a keeper does for one, and at the close.
-use Rattle.std.specs.Prelude.{ℕ, ◌+◌, ◌-◌, ◌/◌, ◌≡◌, true, false, List, [], ◌∷◌, ◌++◌, Option, None, Some}
+use Rattle.std.specs.Prelude.{ℕ, ◌+◌, ◌-◌, ◌*◌, ◌/◌, ◌≡◌, true, false, List, [], ◌∷◌, ◌++◌, length, Option, None, Some}
 use Rattle.std.specs.List.{AllByRecursion}
 use Rattle.pas_profile.specs.Blocks.{address_of}
 use Rattle.pas_profile.specs.declared.name.Block.{Block}
@@ -34,6 +34,14 @@ said_of_guard keeper name k (Some block) = Record.Said keeper (Said.Guarded (add
 abbrev pub TryEnds : Profile → ℕ → Request → View → List Made → Option Block → Type 0
 TryEnds f keeper r v steps None = AllByRecursion (IsDeedOf (wanted_by f r).directory) (events_by keeper v steps)
 TryEnds f keeper r v steps (Some block) = IsGiven keeper (wanted_by f r) v steps block
+
+-- how many steps that takes at most: those of a sweep over the guards that are up, and of a raise
+abbrev pub try_steps : Profile → Request → List Guard → ℕ
+try_steps f r guards = 25 * length guards + (71 * f.pages + 12 * pages_of (wanted_by f r) + 26)
+
+-- .. and the whole request, where the thread makes it itself after that
+abbrev pub guarded_steps : Profile → Request → List Guard → ℕ
+guarded_steps f r guards = try_steps f r guards + (56 * f.pages + 60 * pages_of (wanted_by f r) + 66)
 
 -- The keeper, who fits its book, looks at each guard that is up, and lowers those whose blocks have ended. Then it raises a guard for the request, where a search finds a
 -- run for it, two pages longer than the block: it gives the block, and holds the two outer pages, which it read as not backed. It gives none only where each such run has a

@@ -17,7 +17,7 @@ use Rattle.pas_report.specs.declared.record.Record.{Record}
 use Rattle.pas_guard.specs.Books.{FitsBook, size_of_book, guards_in}
 use Rattle.pas_guard.specs.declared.book.Guard.{Guard}
 use Rattle.pas_guard.specs.declared.book.GuardBook.{GuardBook}
-use Rattle.pas_answers.specs.Guarding.{IsTried, IsLowered}
+use Rattle.pas_answers.specs.Guarding.{try_steps, IsTried, IsLowered}
 
 -- ---- what is owed in the end: a keeper may still make a deed of each page that it doesn't know, and says of each guard that it is lowered
 abbrev pub owed_by_keeper : Profile → List Guard → View → ℕ
@@ -38,10 +38,11 @@ cost_of_try size None = 0
 cost_of_try size (Some block) = cost_of_size size + 2
 
 -- The keeper tried the request, and fits its book again. What it made and said is paid for by the request, where it gave a block, and by what it owed, which pay for what it
--- owes then, too.
+-- owes then, too. At most 25 steps for each guard that was up, 71 for each page of the region, 12 for each page that is asked for, and 26 more.
 pub record TriesRequest (r : Request) (book book' : GuardBook) (out out' : Records) (desk desk' : Standing) (block : Option Block) : Type 0 where
   pub steps : List Made
   pub calls : Calls desk desk' (FitsBook desk.seat.profile (guards_in book)) (λ v w. FitsBook desk.seat.profile (guards_in book') w) steps
+  pub short : length steps ≤ try_steps desk.seat.profile r (guards_in book)
   pub few : (v : View) → FitsBook desk.seat.profile (guards_in book) v → Agreed desk.seat.profile v steps
       → length (events_by desk.seat.actor v steps) + unknown_pages desk.seat.profile (steps ++ v) ≤ cost_of_size r.size + unknown_pages desk.seat.profile v
   pub tried : (v : View) (l : Whole) → desk.stands v l → FitsBook desk.seat.profile (guards_in book) v → (said : List Record)

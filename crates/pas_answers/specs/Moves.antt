@@ -1,16 +1,15 @@
 -- How a block gets another size.
-use Rattle.std.specs.Prelude.{ℕ, ◌+◌, ◌≤◌, ◌≡◌, true, false, nat_le, if◌then◌else◌, List, [], ◌++◌, length, Option, Result, Ok, Err}
+use Rattle.std.specs.Prelude.{ℕ, ◌-◌, ◌≡◌, true, false, nat_le, if◌then◌else◌, List, [], ◌++◌, length, Option, Result, Ok, Err}
 use Rattle.pas_profile.specs.declared.event.NoRoom.{NoRoom}
 use Rattle.pas_profile.specs.declared.name.Block.{Block}
 use Rattle.pas_profile.specs.declared.profile.Profile.{Profile}
 use Rattle.pas_steps.specs.Desks.{Standing}
 use Rattle.pas_steps.specs.Kinds.{Only}
-use Rattle.pas_steps.specs.Unknown.{unknown_pages}
 use Rattle.pas_steps.specs.Views.{View}
 use Rattle.pas_steps.specs.declared.step.Made.{Made}
 use Rattle.pas_cache.specs.Caches.{Cached, AtRest}
 use Rattle.pas_free_log.specs.Logs.{entry_of}
-use Rattle.pas_cache.specs.Calls.{Rests, TakesEntry, IsNamed}
+use Rattle.pas_cache.specs.Calls.{MayRequest, Rests, TakesEntry, IsNamed}
 use Rattle.pas_cache.specs.Kinds.{allocating}
 use Rattle.pas_cache.specs.Serves.{Wanted, ServesRequest, IsBlockFor, MakesAtMost}
 use Rattle.pas_cache.specs.declared.moving.Moved.{Moved}
@@ -24,10 +23,9 @@ use Rattle.pas_free_log.specs.declared.log.Entry.{Entry}
 abbrev pub flush_of_full : List Entry → ℕ
 flush_of_full log = if nat_le 64 (length log) then 64 else 0
 
--- the actor is at rest, and there is room for the request, the deeds that aren't known, and the flush of a full log
-pub record MayMove (f : Profile) (c : Cached) (cost spare : ℕ) (v : View) : Type 0 where
-  pub rest : AtRest f c v
-  pub room : cost + unknown_pages f v + flush_of_full c.log ≤ spare
+-- the actor may make the request with what the flush of a full log leaves of the room
+abbrev pub MayMove : Profile → Wanted → Cached → ℕ → View → Type 0
+MayMove f wanted c spare v = MayRequest f wanted c (spare - flush_of_full c.log) v
 
 -- It suits as it is: nothing was done, and no door was asked.
 pub record Keeps (Same : Type 0) (old : Block) (size align : ℕ) (c c' : Cached) (steps : List Made) : Type 0 where

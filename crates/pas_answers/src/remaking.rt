@@ -10,7 +10,6 @@ use pas_steps::Desk;
 pub trait Remake {
     ghost use Rattle.std.specs.Prelude.{◌≡◌, ◌<◌, ◌+◌, ◌-◌, ◌/◌, ◌^◌};
     ghost use Rattle.pas_profile.specs.Profiles.{IsAdmitted};
-    ghost use Rattle.pas_trace.specs.Reasons.{cost_of_size};
     ghost use Rattle.pas_steps.specs.Desks.{CanCall};
     ghost use Rattle.pas_cache.specs.Caches.{cached};
     ghost use Rattle.pas_cache.specs.Names.{IsInRegion};
@@ -20,7 +19,7 @@ pub trait Remake {
     /// The block gets so many bytes, where none count as one, at a multiple of the alignment: it is kept exactly where it suits. Otherwise another block of
     /// its heap is allocated, and then the old name is logged. Where the request is refused, the old block stands as it did, and nothing is logged.
     ///
-    /// There is room for the request, for the deed of each page that isn't known, and for 64 events more where 64 names are logged.
+    /// There is room for the request, as `serve` says, and for 64 events more where 64 names are logged.
     fn remake<D: Desk, O: Door>(
         &self,
         cache: &mut ThreadCache,
@@ -33,7 +32,7 @@ pub trait Remake {
         requires admitted { IsAdmitted (D.standing desk.old).seat.profile size align old.heap }
         requires region { IsInRegion (D.standing desk.old).seat.profile old.name }
         requires turn { old.name.turn < 2 ^ 40 - 1 }
-        requires can { CanCall (D.standing desk.old) (MayMove (D.standing desk.old).seat.profile (cached cache.old) (cost_of_size size) (D.spare_of desk.old)) }
+        requires can { CanCall (D.standing desk.old) (MayMove (D.standing desk.old).seat.profile (wanted_for (D.standing desk.old).seat.profile old.heap size align) (cached cache.old) (D.spare_of desk.old)) }
         ensures moves { Moves (O.answers door.old door.new old.heap ((size + 4096 - 1) / 4096)) (door.new ≡ door.old) (wanted_for (D.standing desk.old).seat.profile old.heap size align) old size align (cached cache.old) (cached cache.new) (D.standing desk.old) (D.standing desk.new) result }
         ensures home { D.home desk.new ≡ D.home desk.old };
 }

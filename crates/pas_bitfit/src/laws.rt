@@ -12,9 +12,9 @@ ghost use Rattle.pas_bitfit.specs.Runs.{NoneFits};
 
 use pas_steps::Desk;
 
-/// Where the steps of a request stand together in a legal list, which is so where no other actor made a step meanwhile, it is refused only where, before, no
+/// Where the steps of a request stand together in a legal list, which is so where no other actor made a step meanwhile, it is refused exactly where, before, no
 /// page without a deed was there and no offered bit-fit page of the heap had an aligned run of free grains that is long enough. Where all actors were at rest
-/// then and none had a right, it isn't answered by `Held`.
+/// then and none had a right, the refusal is `NoSpace`.
 pub fn a_lone_request_finds_what_there_is<D: Desk>(desk: &D, later: &D)
     ensures { (heap room align : ℕ) (answer : Result Block NoRoom) (call : Allocates heap room align D.tells (D.standing desk.now) (D.standing later.now) answer) (l : Whole)
         → IsDirectoryOf (D.standing desk.now).seat.profile (bitfit_directory heap) → Legal (D.standing desk.now).seat.profile (triples (D.standing desk.now).seat.actor (call.0.after ++ call.0.searched) ++ l)

@@ -1,10 +1,11 @@
 -- When the refusal of a request is true of the states before and after it, and when what a door named for it serves it.
-use Rattle.std.specs.Prelude.{ℕ, List, Option, Result}
+use Rattle.std.specs.Prelude.{ℕ, ◌≡◌, ◌≢◌, false, List, Option, Result}
 use Rattle.pas_profile.specs.declared.directory.Route.{Route}
 use Rattle.pas_profile.specs.declared.event.NoRoom.{NoRoom}
 use Rattle.pas_profile.specs.declared.name.Block.{Block}
 use Rattle.pas_profile.specs.declared.profile.Profile.{Profile}
-use Rattle.pas_steps.specs.Lists.{Whole}
+use Rattle.pas_steps.specs.Lists.{Whole, part}
+use Rattle.pas_steps.specs.Views.{has_right}
 use Rattle.pas_search.specs.Telling.{IsTrueReason}
 use Rattle.pas_steps.specs.declared.step.Made.{Made}
 use Rattle.pas_large.specs.Alone.{GoesByDoor}
@@ -21,6 +22,10 @@ IsTrulyRefusedBy Route.Large f wanted locals entry exit room = HasNoUsableRun f 
 -- run of usable ones. The reason is true after.
 abbrev pub IsTrulyRefused : Profile → Wanted → List Slots → Whole → Whole → NoRoom → Type 0
 IsTrulyRefused f wanted locals entry exit room = IsTrulyRefusedBy wanted.route f wanted locals entry exit room
+
+-- no actor but this one has a right
+abbrev pub OthersHaveNone : ℕ → Whole → Type 0
+OthersHaveNone k l = (j page : ℕ) → k ≢ j → has_right (part j l) page ≡ false
 
 -- ---- what a door names
 abbrev pub GoesByDoorOn : Route → Profile → Wanted → Option ℕ → Whole → List Made → Result Block NoRoom → Type 0

@@ -24,8 +24,8 @@ fn keeper_count(plan: &Plan) -> u8
     }
 }
 
-/// Whether the transcript is a right one of the plan, in the order of the text: yes; or the number of the first line that no right transcript has at its
-/// place, or of the line that is wanting where the text ends too early. A last line without its newline isn't right.
+/// Whether the transcript is a right one of the plan, in the order of the text: yes; or the number of the first line that can't follow the lines
+/// before it, or of the line that is wanting where the text ends too early. A last line without its newline isn't right.
 ///
 /// NoMemory where memory was wanting. Takes one pass over the plan and the transcript, some looks at each page and grain of the region, and memory in
 /// proportion to the region, the names of the plan and its threads.

@@ -1,23 +1,27 @@
 -- A request for a run whose actor alone made steps meanwhile.
-use Rattle.std.proofs.Common.{◌≡◌, Bool, [], ◌++◌, Result, Err, MatchResult, subst}
+use Rattle.std.proofs.Common.{◌≡◌, Bool, List, [], ◌++◌, Result, Ok, Err, MatchResult}
 use Rattle.pas_profile.specs.Profiles.{IsValid, IsDirectoryOf}
 use Rattle.pas_profile.specs.declared.directory.Directory.{Directory}
 use Rattle.pas_profile.specs.declared.event.NoRoom.{NoRoom}
 use Rattle.pas_profile.specs.declared.name.Block.{Block}
+use Rattle.pas_profile.specs.declared.profile.Profile.{Profile}
 use Rattle.pas_steps.specs.Desks.{Standing, triples}
 use Rattle.pas_steps.specs.Evidence.{IsAntitone}
 use Rattle.pas_steps.specs.Lists.{Whole, part, Legal}
+use Rattle.pas_steps.specs.declared.step.Made.{Made}
 use Rattle.pas_search.specs.Alone.{FindsWhatThereIs}
 use Rattle.pas_search.specs.Searches.{MaySearch, IsRefused}
-use Rattle.pas_search.proofs.Alone.{found_before}
+use Rattle.pas_search.proofs.Alone.{IsFoundOrRefused, found_before}
 use Rattle.pas_choice.specs.Allocates.{IsGiven, AllocatesRun}
 use Rattle.pas_choice.specs.Choices.{Choice}
 use Rattle.pas_choice.specs.declared.choosing.Run.{Run}
+
+found_or_refused : {Found : Type 0} (choice : Choice Found) (run : Found → Run) (f : Profile) (d : Directory) (searched after : List Made) (answer : Result Block NoRoom) → MatchResult answer (IsGiven choice run f d searched after) (λ why. IsRefused choice.no_fit f d searched why × (after ≡ [])) → IsFoundOrRefused choice.no_fit f d searched answer
+found_or_refused choice run f d searched after (Ok block) is = record { page = is.page; of_region = is.served.page; choice = is.served.choice; kept = choice.kept is.found; shows = is.served.shows }
+found_or_refused choice run f d searched after (Err why) refused = refused.0
 
 pub run_alone : {Found : Type 0} {σ σ' : Standing} (choice : Choice Found) (run : Found → Run) (d : Directory) (tells : Bool) (answer : Result Block NoRoom) → (call : AllocatesRun choice run d tells σ σ' answer) → (l : Whole)
     → IsValid σ.seat.profile → IsDirectoryOf σ.seat.profile d → IsAntitone choice.no_fit → Legal σ.seat.profile (triples σ.seat.actor (call.after ++ call.searched) ++ l) → MaySearch d (part σ.seat.actor l) → FindsWhatThereIs choice.no_fit σ.seat.profile d l answer
 run_alone {σ = σ} choice run d tells answer call l valid of fewer legal may =
     let f = σ.seat.profile in
-    let refused : (room : NoRoom) → answer ≡ Err room → IsRefused choice.no_fit f d call.searched room
-    = λ room is. (subst (λ a. MatchResult a (IsGiven choice run f d call.searched call.after) (λ why. IsRefused choice.no_fit f d call.searched why × (call.after ≡ []))) is call.outcome).0 in
-    found_before choice.no_fit f d σ.seat.actor l call.after call.searched valid of fewer legal call.searches may answer refused
+    found_before choice.no_fit f d σ.seat.actor l call.after call.searched valid of fewer legal call.searches may answer (found_or_refused choice run f d call.searched call.after answer call.outcome)

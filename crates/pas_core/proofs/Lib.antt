@@ -8,3 +8,4 @@ pub mod Rights
 mod Agreement
 pub mod Nexts
 pub mod OneActor
+pub mod Choosing

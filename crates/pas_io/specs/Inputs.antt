@@ -1,5 +1,7 @@
 -- What was read of a source.
 use Rattle.std.specs.Prelude.{ℕ, ◌<◌, ◌≤◌, ◌≡◌, List, [], Option, Some, take, drop, length}
+use Rattle.pas_io.specs.declared.reach.Reach.{Reach}
+use Rattle.pas_io.specs.declared.reach.Reach.TheVariants.{Within, AtEnd}
 use Rattle.pas_io.specs.declared.whole.Input.{Input}
 use Rattle.pas_io.specs.declared.whole.Input.TheVariants.{Whole, TooLong}
 
@@ -17,6 +19,11 @@ IsShort most TooLong = Unit {0}
 abbrev pub IsReadOut : Input → Option (List ℕ) → Type 0
 IsReadOut (Whole bytes) rest = rest ≡ Some []
 IsReadOut TooLong rest = Unit {0}
+
+-- the last read met the end where the bytes are all the input, and none did where there are more
+abbrev pub IsReadUp : Input → Reach → Type 0
+IsReadUp (Whole bytes) reach = reach ≡ AtEnd
+IsReadUp TooLong reach = reach ≡ Within
 
 -- n of the bytes were taken, which stand in the buffer's front, and the others are left
 pub record HasRead (told : List ℕ) (rest : Option (List ℕ)) (buffer : List ℕ) (n : ℕ) : Type 0 where

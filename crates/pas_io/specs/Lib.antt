@@ -1,3 +1,4 @@
+pub mod Reached
 pub mod Told
 pub mod Unread
 pub mod Taken

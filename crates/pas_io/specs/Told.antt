@@ -1,5 +1,5 @@
--- What sources and sinks tell. A source tells the bytes that it has left, and a sink those that it holds, as `Some`; one over a real file or
--- terminal tells nothing, as `None`. Each counts its faults.
+-- What sources and sinks tell. A source tells the bytes that it has left, and a sink those that it holds, as `Some`; one over standard input or
+-- output tells nothing, as `None`. Each counts its faults.
 use Rattle.std.specs.Prelude.{ℕ, ◌-◌, ◌^◌, ◌<◌, ◌≤◌, ◌≡◌, ◌⊎◌, List, [], ◌++◌, Option, None, Some, take, drop, length}
 
 -- a count of faults rose in a call: it is greater afterwards, or at its last value

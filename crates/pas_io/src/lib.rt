@@ -1,10 +1,11 @@
 //! Where bytes come from, and where they go.
 //!
-//! Sources and sinks count their faults, and those in memory also tell their bytes to contracts. Only `RealSource` and `RealSink` reach
-//! the system, of whose bytes no contract can speak.
+//! Sources and sinks count their faults and may tell their bytes to contracts; a source also says how far it was read. Only `RealSource` and `RealSink` reach the
+//! system: they tell the bytes that the reader and the writer below them tell.
 #![tactic(auto)]
 
 pub mod memory;
+pub mod reach;
 pub mod real;
 mod schedule;
 pub mod sure;
@@ -13,8 +14,11 @@ pub mod whole;
 
 ghost use Rattle.std.specs.Prelude.{◌≡◌, ◌≢◌, ◌<◌, ◌≤◌, ◌+◌, ℕ, List, [], Option, length, take, IfOk, OnErr};
 ghost use Rattle.pas_io.specs.Told.{Rose, KeepsTold, MovesTold, Writes};
+ghost use Rattle.pas_io.specs.Reached.{HasGone, HasRun};
+ghost use Rattle.pas_io.specs.declared.reach.Reach.{Reach};
 
 pub use memory::{MemorySink, MemorySource};
+pub use reach::Reach;
 pub use real::{RealSink, RealSource};
 pub use sure::{SureSink, SureSource};
 pub use whole::write_all;
@@ -31,12 +35,17 @@ pub trait Source {
     /// How often a read failed. The count ends at 2^64 - 1.
     ghost faults: { Self → ℕ };
 
+    /// How far it was read.
+    ghost reach: { Self → Reach };
+
     /// Moves the next bytes into the front of the buffer, and answers how many. None is the end, or no place in the buffer.
-    /// A read that fails loses no byte, and is counted as one fault; no other read is counted.
+    /// A read that fails loses no byte, and is counted as one fault; no other read is counted. Whoever has met the end is to read no more.
     fn read(&mut self, buffer: &mut [u8]) -> Result<usize, Failed>
         ensures within { IfOk result (λ n. n ≤ length buffer.old) }
         ensures moves { IfOk result (λ n. MovesTold (rest self.old) (rest self.new) buffer.old buffer.new n) }
+        ensures ends { IfOk result (HasRun (reach self.old) (reach self.new) buffer.old) }
         ensures keeps { OnErr result (KeepsTold (rest self.old) (rest self.new)) }
+        ensures goes { OnErr result (HasGone (reach self.old) (reach self.new)) }
         ensures sound { IfOk result (λ n. faults self.new ≡ faults self.old) }
         ensures failed { OnErr result (Rose (faults self.old) (faults self.new)) }
         ensures count { faults self.old ≤ faults self.new }

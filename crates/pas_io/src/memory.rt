@@ -1,6 +1,7 @@
 //! A source and a sink in memory, whose calls fail as they are told.
 ghost use Rattle.std.specs.Prelude.{◌≤◌, vec_len};
 
+use crate::reach::Reach;
 use crate::schedule::Schedule;
 use crate::unread::Unread;
 use crate::{Failed, Sink, Source};
@@ -10,21 +11,25 @@ use crate::{Failed, Sink, Source};
 pub struct MemorySource {
     unread: Unread,
     schedule: Schedule,
+    reach: Reach,
 }
 
 impl MemorySource {
     ghost use Rattle.std.specs.Prelude.{◌≡◌, Some};
+    ghost use Rattle.pas_io.specs.declared.reach.Reach.TheVariants as Reach;
 
     /// A source of these bytes. The calls, counted from 1, whose numbers are listed fail; no byte is lost by that.
     pub fn new(bytes: Vec<u8>, fails: Vec<u64>) -> MemorySource
         ensures rest { ⟦<MemorySource as Source>⟧.rest result ≡ Some bytes.items }
         ensures faults { ⟦<MemorySource as Source>⟧.faults result ≡ 0 }
+        ensures reach { ⟦<MemorySource as Source>⟧.reach result ≡ Reach.Within }
         ensures fails { result.schedule.fails ≡ fails }
         ensures calls { result.schedule.calls ≡ 0 }
     {
         MemorySource {
             unread: Unread::new(bytes),
             schedule: Schedule::new(fails),
+            reach: Reach::Within,
         }
     }
 }
@@ -32,6 +37,7 @@ impl MemorySource {
 impl Source for MemorySource {
     ghost use Rattle.std.specs.Prelude.{◌≡◌, ◌≤◌, ◌+◌, Some, length, IfOk, IsErr, OnErr, ◌↔◌};
     ghost use Rattle.pas_io.specs.Told.{Rose, MovesTold};
+    ghost use Rattle.pas_io.specs.Reached.{HasGone, HasRun};
     ghost use Rattle.pas_io.specs.Unread.{left};
     ghost use Rattle.pas_io.specs.Schedules.{CallFails, Called};
 
@@ -39,11 +45,15 @@ impl Source for MemorySource {
 
     ghost faults = { λ s. s.schedule.faults };
 
+    ghost reach = { λ s. s.reach };
+
     fn read(&mut self, buffer: &mut [u8]) -> Result<usize, Failed>
         ensures fails { IsErr result ↔ CallFails self.old.schedule }
         ensures called { Called self.old.schedule self.new.schedule }
         ensures within { IfOk result (λ n. n ≤ length buffer.old) }
         ensures moves { IfOk result (λ n. MovesTold (Some (left self.old.unread)) (Some (left self.new.unread)) buffer.old buffer.new n) }
+        ensures ends { IfOk result (HasRun self.old.reach self.new.reach buffer.old) }
+        ensures goes { OnErr result (HasGone self.old.reach self.new.reach) }
         ensures keeps { OnErr result (Some (left self.new.unread) ≡ Some (left self.old.unread)) }
         ensures sound { IfOk result (λ n. self.new.schedule.faults ≡ self.old.schedule.faults) }
         ensures failed { OnErr result (Rose self.old.schedule.faults self.new.schedule.faults) }
@@ -52,9 +62,13 @@ impl Source for MemorySource {
     {
         if self.schedule.next_fails() {
             self.schedule.count_fault();
+            self.reach = self.reach.after(false);
             return Err(Failed);
         }
-        Ok(self.unread.fill(buffer))
+        let has_place = !buffer.is_empty();
+        let count = self.unread.fill(buffer);
+        self.reach = self.reach.after(has_place && count == 0);
+        Ok(count)
     }
 }
 

@@ -1,29 +1,38 @@
-//! A source and a sink of the system. They tell nothing, since no contract can say what the system gives or takes.
+//! A source over any reader and a sink over any writer. They tell the bytes that these tell.
 //!
-//! Proved: each error of the system is a fault and is counted once, and no other call is; no number is above the length of the buffer or of
-//! the piece. Trusted, and only tested by `tests/pipes_and_files.py`: what is said at the two types.
+//! Proved for all of them: each error is a fault and is counted once, and no other call is; no number is above the length of the buffer or of the piece; where the
+//! reader tells what remains, a read moves its next bytes, and where the writer tells what it contains, a write adds those that it answers for. Standard input and
+//! output tell nothing: that they do what is said at the two types is trusted, and tested by `tests/pipes_and_files.py`.
 ghost use Rattle.std.specs.Prelude.{◌≡◌, ◌≤◌};
 ghost use Rattle.pas_io.specs.Told.{Rose};
+ghost use Rattle.pas_io.specs.declared.reach.Reach.TheVariants as Reach;
 
+use crate::reach::Reach;
 use crate::{Failed, Sink, Source};
 use std::io::{Read, Write};
 
 /// What a reader gives. Each of its errors is a failure, and is counted.
 ///
-/// Trusted: a read answers as the reader's one read does, with its next bytes in the front of the buffer and their number, be it a single
-/// byte; no byte is lost between two reads; 0 for a buffer that isn't empty is the end of the input.
+/// Trusted of a reader that tells nothing: its read answers the next bytes, in the front of the buffer, and their number, be it a single byte; no byte is lost between
+/// two reads; 0 for a buffer that isn't empty is the end of the input.
 #[derive(Drop)]
 pub struct RealSource<R> {
     reader: R,
     faults: u64,
+    reach: Reach,
 }
 
 impl<R: Read> RealSource<R> {
     pub fn new(reader: R) -> RealSource<R>
         ensures reader { result.reader ≡ reader }
         ensures faults { result.faults ≡ 0 }
+        ensures reach { result.reach ≡ Reach.Within }
     {
-        RealSource { reader, faults: 0 }
+        RealSource {
+            reader,
+            faults: 0,
+            reach: Reach::Within,
+        }
     }
 }
 
@@ -32,10 +41,17 @@ impl<R: Read> Source for RealSource<R> {
 
     ghost faults = { λ s. s.faults };
 
+    ghost reach = { λ s. s.reach };
+
     fn read(&mut self, buffer: &mut [u8]) -> Result<usize, Failed> {
+        let has_place = !buffer.is_empty();
         match self.reader.read(buffer) {
-            Ok(count) => Ok(count),
+            Ok(count) => {
+                self.reach = self.reach.after(has_place && count == 0);
+                Ok(count)
+            }
             Err(_) => {
+                self.reach = self.reach.after(false);
                 self.faults = self.faults.saturating_add(1);
                 Err(Failed)
             }
@@ -45,8 +61,8 @@ impl<R: Read> Source for RealSource<R> {
 
 /// Where a writer puts bytes. Each of its errors is a failure, and so is a write that takes no byte of a piece that isn't empty. Each is counted.
 ///
-/// Trusted: a write answers as the writer's one write does, with the number of bytes that it took from the front of the piece, and these come
-/// after those of the writes before; the writer holds no byte back that it answered for.
+/// Trusted of a writer that tells nothing: its write answers the number of bytes that it took from the front of the piece, these come after those of the writes before,
+/// and it holds no byte back that it answered for.
 #[derive(Drop)]
 pub struct RealSink<W> {
     writer: W,

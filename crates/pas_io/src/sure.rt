@@ -2,7 +2,10 @@
 ghost use Rattle.std.specs.Prelude.{◌≡◌, ◌≢◌, ◌≤◌, [], Some, None, length, take, IsOk, IfOk, OnErr};
 ghost use Rattle.pas_io.specs.Told.{Rose, MovesTold, Writes};
 ghost use Rattle.pas_io.specs.Unread.{left};
+ghost use Rattle.pas_io.specs.Reached.{HasRun};
+ghost use Rattle.pas_io.specs.declared.reach.Reach.TheVariants as Reach;
 
+use crate::reach::Reach;
 use crate::unread::Unread;
 use crate::{Failed, Sink, Source};
 
@@ -10,15 +13,18 @@ use crate::{Failed, Sink, Source};
 #[derive(Drop)]
 pub struct SureSource {
     unread: Unread,
+    reach: Reach,
 }
 
 impl SureSource {
     /// A source of these bytes.
     pub fn new(bytes: Vec<u8>) -> SureSource
-        ensures { ⟦<SureSource as Source>⟧.rest result ≡ Some bytes.items }
+        ensures rest { ⟦<SureSource as Source>⟧.rest result ≡ Some bytes.items }
+        ensures reach { ⟦<SureSource as Source>⟧.reach result ≡ Reach.Within }
     {
         SureSource {
             unread: Unread::new(bytes),
+            reach: Reach::Within,
         }
     }
 }
@@ -28,12 +34,18 @@ impl Source for SureSource {
 
     ghost faults = { λ s. 0 };
 
+    ghost reach = { λ s. s.reach };
+
     fn read(&mut self, buffer: &mut [u8]) -> Result<usize, Failed>
         ensures sure { IsOk result }
         ensures within { IfOk result (λ n. n ≤ length buffer.old) }
         ensures moves { IfOk result (λ n. MovesTold (Some (left self.old.unread)) (Some (left self.new.unread)) buffer.old buffer.new n) }
+        ensures ends { IfOk result (HasRun self.old.reach self.new.reach buffer.old) }
     {
-        Ok(self.unread.fill(buffer))
+        let has_place = !buffer.is_empty();
+        let count = self.unread.fill(buffer);
+        self.reach = self.reach.after(has_place && count == 0);
+        Ok(count)
     }
 }
 

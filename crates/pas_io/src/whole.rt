@@ -1,7 +1,9 @@
 //! Reading and writing whole texts.
 ghost use Rattle.std.specs.Prelude.{◌≡◌, ◌<◌, ◌≤◌, ◌+◌, ◌-◌, ◌^◌, ℕ, List, Some, length, IfOk, OnOk, OnErr, IsErrOf};
 ghost use Rattle.pas_io.specs.Told.{Rose, Writes, WritesFront};
-ghost use Rattle.pas_io.specs.Inputs.{HasRead, IsInput, IsReadOut, IsShort, Takes};
+ghost use Rattle.pas_io.specs.Inputs.{HasRead, IsInput, IsReadOut, IsReadUp, IsShort, Takes};
+ghost use Rattle.pas_io.specs.Reached.{StopsAtEnd};
+ghost use Rattle.pas_io.specs.declared.reach.Reach.TheVariants as Reach;
 
 use crate::{Failed, Sink, Source};
 use std::alloc::Global;
@@ -30,6 +32,9 @@ fn fill<S: Source>(source: &mut S, buffer: &mut [u8], start: usize) -> Result<us
     ensures reads { IfOk result (λ n. (told : List ℕ) → HasRead told (S.rest source.old) buffer.old start → HasRead told (S.rest source.new) buffer.new n) }
     ensures all { IfOk result (λ n. n < length buffer.old → (told : List ℕ) → HasRead told (S.rest source.old) buffer.old start → n ≡ length told) }
     ensures takes { (told : List ℕ) → HasRead told (S.rest source.old) buffer.old start → Takes told (S.rest source.new) (length buffer.old) }
+    ensures stops { S.reach source.old ≡ Reach.Within → StopsAtEnd (S.reach source.new) }
+    ensures goes { IfOk result (λ n. n ≡ length buffer.old → S.reach source.old ≡ Reach.Within → S.reach source.new ≡ Reach.Within) }
+    ensures ends { IfOk result (λ n. n < length buffer.old → S.reach source.old ≡ Reach.Within → S.reach source.new ≡ Reach.AtEnd) }
     ensures sound { IfOk result (λ n. S.faults source.new ≡ S.faults source.old) }
     ensures stopped { OnErr result ((told : List ℕ) → HasRead told (S.rest source.old) buffer.old start → Takes told (S.rest source.new) (length buffer.old - 1)) }
     ensures failed { OnErr result (Rose (S.faults source.old) (S.faults source.new)) }
@@ -86,6 +91,8 @@ pub fn read_all<S: Source>(alloc: Global, source: &mut S, most: usize) -> Result
     ensures input { IfOk result (λ input. (told : List ℕ) → S.rest source.old ≡ Some told → IsInput most told input) }
     ensures short { IfOk result (IsShort most) }
     ensures ended { IfOk result (λ input. (told : List ℕ) → S.rest source.old ≡ Some told → IsReadOut input (S.rest source.new)) }
+    ensures stops { S.reach source.old ≡ Reach.Within → StopsAtEnd (S.reach source.new) }
+    ensures ends { IfOk result (λ input. S.reach source.old ≡ Reach.Within → IsReadUp input (S.reach source.new)) }
     ensures takes { (told : List ℕ) → S.rest source.old ≡ Some told → Takes told (S.rest source.new) (most + 1) }
     ensures sound { IfOk result (λ input. S.faults source.new ≡ S.faults source.old) }
     ensures memory { IsErrOf result Stop.Memory → S.faults source.new ≡ S.faults source.old }

@@ -9,7 +9,6 @@ use Rattle.pas_profile.specs.declared.event.NoRoom.{NoRoom}
 use Rattle.pas_profile.specs.declared.event.NoRoom.TheVariants.{Held}
 use Rattle.pas_profile.specs.declared.name.Block.{Block}
 use Rattle.pas_profile.specs.declared.profile.Profile.{Profile}
-use Rattle.pas_profile.proofs.Codecs.{deed_word_of-positive}
 use Rattle.pas_steps.specs.Agreement.{Agreed}
 use Rattle.pas_steps.specs.Calls.{nothing, Does}
 use Rattle.pas_steps.specs.Desks.{Standing, triples}
@@ -26,11 +25,11 @@ use Rattle.pas_steps.proofs.Apart.{only_both}
 use Rattle.pas_steps.proofs.Parts.{part_of_own, part_of_others}
 use Rattle.pas_steps.proofs.Past.{once_later}
 use Rattle.pas_core.proofs.Nexts.{agreed_steps}
-use Rattle.pas_core.proofs.OneActor.{legal_earlier, in_hands, is_with_own}
-use Rattle.pas_core.proofs.Rights.{own_eligible, spot_of, is_with, spotted}
+use Rattle.pas_core.proofs.OneActor.{legal_earlier}
 use Rattle.pas_scan.specs.Runs.{large_directory}
 use Rattle.pas_scan.specs.Usable.{DeedReadHere}
-use Rattle.pas_search.specs.Telling.{IsInHands, IsTrueReason}
+use Rattle.pas_search.specs.Telling.{IsTrueReason}
+use Rattle.pas_search.proofs.Alone.{none_in_hands, OwnLacks, still_lacks}
 use Rattle.pas_large.specs.Allocates.{IsRefusedLarge, IsServedNamed, IsScanned, AllocatesLarge}
 use Rattle.pas_large.specs.Alone.{GoesByDoor, FindsTheRunThereIs}
 use Rattle.pas_large.specs.Evidence.{BadHere, IsVain}
@@ -105,14 +104,12 @@ module _ (f : Profile) (k : ℕ) (l : Whole) (d : Directory) (n : ℕ) (searched
   nobody : ((p j : ℕ) → has_right (part j l) p ≡ false) → (p j : ℕ) → has_right (part j w) p ≡ false
   nobody = nobody_after k l (after ++ searched) (is.still.from (part k l) met (agreed_steps f k l (after ++ searched) valid legal))
 
-  none_in_hands : IsDirectoryOf f d → ((p j : ℕ) → has_right (part j l) p ≡ false) → (p : ℕ) → IsInHands f d w p → ⊥
-  none_in_hands of none p hands =
-      let at = spotted f w legal p in
-      let with = in_hands (spot_of w p) _ at.deed (λ z. deed_word_of-positive d (sym hands.of_directory ∙ z)) (sym (own_eligible f w legal p d of hands.of_directory) ∙ hands.not_offered) (sym at.parked ∙ hands.not_parked) in
-      true≢false (sym (at.has with.0 ∙ ap (is_with with.0) with.1 ∙ is_with_own with.0) ∙ nobody none p with.0)
-
   pub none_held : IsDirectoryOf f d → ((p j : ℕ) → has_right (part j l) p ≡ false) → (p : ℕ) → why ≡ Held p → ⊥
-  none_held of none p held = none_in_hands of none p (subst (IsTrueReason f d w) held reason_after).0
+  none_held of none p held = none_in_hands f d w p of legal (λ j. nobody none p j) (subst (IsTrueReason f d w) held reason_after).0
+
+  -- nor has the actor itself one of a page of the directory, whoever had others
+  pub own_lacks : OwnLacks k d w
+  own_lacks = still_lacks f k l d (after ++ searched) valid legal (λ p known. met.lacks p (inr known)) (is.still.from (part k l) met (agreed_steps f k l (after ++ searched) valid legal))
 
 -- ---- the whole request
 -- the run that was named, or the scan, after what was tried with that run
@@ -120,11 +117,12 @@ abbrev IsOutcome : Profile → Directory → ℕ → Option ℕ → List Made �
 IsOutcome f d n found tried rest answer = IsServedNamed f d n found tried rest answer ⊎ IsScanned f d n found tried rest answer
 
 -- a refusal of it is true
-pub record IsRefusedAlone (f : Profile) (d : Directory) (n : ℕ) (l exit : Whole) (why : NoRoom) : Type 0 where
+pub record IsRefusedAlone (f : Profile) (k : ℕ) (d : Directory) (n : ℕ) (l exit : Whole) (why : NoRoom) : Type 0 where
   pub before : HasNoUsableRun f d n l
   pub after : HasNoUsableRun f d n exit
   pub reason : IsTrueReason f d exit why
   pub not_held : IsDirectoryOf f d → ((p j : ℕ) → has_right (part j l) p ≡ false) → (p : ℕ) → why ≡ Held p → ⊥
+  pub own_lacks : OwnLacks k d exit
 
 module _ (f : Profile) (k : ℕ) (l : Whole) (d : Directory) (n : ℕ) (found : Option ℕ) (tried rest : List Made) (valid : IsValid f) (kind : IsKind d.kind) (old : Only claiming_old tried) (returns : Always ReturnsDuly tried) (legal : Legal f (triples k (rest ++ tried) ++ l)) (met : MayFind d (part k l)) where
   -- the state after what was tried
@@ -156,15 +154,16 @@ module _ (f : Profile) (k : ℕ) (l : Whole) (d : Directory) (n : ℕ) (found : 
     later : (p : ℕ) → IsUsablePage d l p → IsUsablePage d mid p
     later p = usable_later f k l d p valid kind met tried at_mid old returns (is.misses.left p) still
 
-    refused_scan : IsRefusedAlone f d n l (triples k (rest ++ tried) ++ l) why
+    refused_scan : IsRefusedAlone f k d n l (triples k (rest ++ tried) ++ l) why
     refused_scan = record {
       before = λ first low le usable. no_run_before f k mid d n is.searched is.after why valid by_scan legal_mid met_mid first low le (λ p here. later p (usable p here));
       after = subst (HasNoUsableRun f d n) exit_is (no_run_after f k mid d n is.searched is.after why valid by_scan legal_mid met_mid);
       reason = subst (λ x. IsTrueReason f d x why) exit_is (reason_after f k mid d n is.searched is.after why valid by_scan legal_mid met_mid);
       not_held = λ of none. none_held f k mid d n is.searched is.after why valid by_scan legal_mid met_mid of (nobody_after k l tried still none);
+      own_lacks = subst (OwnLacks k d) exit_is (own_lacks f k mid d n is.searched is.after why valid by_scan legal_mid met_mid);
     }
 
-  pub refused_alone : (why : NoRoom) → IsOutcome f d n found tried rest (Err why) → IsRefusedAlone f d n l (triples k (rest ++ tried) ++ l) why
+  pub refused_alone : (why : NoRoom) → IsOutcome f d n found tried rest (Err why) → IsRefusedAlone f k d n l (triples k (rest ++ tried) ++ l) why
   refused_alone why (inl served) = absurd (let bad : Err why ≡ Ok served.0 = served.1 in cc)
   refused_alone why (inr is) = refused_scan why is
 
@@ -197,7 +196,7 @@ request_alone {σ} heap n found tells answer call l valid lt legal met =
     let f = σ.seat.profile in
     let k = σ.seat.actor in
     let d = large_directory heap in
-    let refused : (why : NoRoom) → answer ≡ Err why → IsRefusedAlone f d n l (triples k (call.rest ++ call.tried) ++ l) why
+    let refused : (why : NoRoom) → answer ≡ Err why → IsRefusedAlone f k d n l (triples k (call.rest ++ call.tried) ++ l) why
     = λ why is. refused_alone f k l d n found call.tried call.rest valid tt call.old call.returns legal met why (subst (IsOutcome f d n found call.tried call.rest) is call.outcome) in
     record {
       by_door = goes_by_door f k l d n found call.tried call.rest valid tt call.old call.returns legal met answer call.outcome;

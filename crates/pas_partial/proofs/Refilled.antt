@@ -99,6 +99,7 @@ module _ (heap class : ℕ) (is : IsClass class) {tells : Bool} {σ σ1 : Standi
         some = some;
         took = searches.outcome.serves;
         choice = searches.outcome.choice;
+        shows = searches.outcome.shows;
         marks = searches.outcome.marks;
         few = searches.outcome.few;
         events = searches.outcome.events;

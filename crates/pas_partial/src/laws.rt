@@ -13,9 +13,9 @@ ghost use Rattle.pas_partial.specs.Refills.{shared_directory, shared_slots};
 
 use pas_steps::Desk;
 
-/// Where the steps of a refill stand together in a legal list, which is so where no other actor made a step meanwhile, it is refused only where, before, no
+/// Where the steps of a refill stand together in a legal list, which is so where no other actor made a step meanwhile, it is refused exactly where, before, no
 /// page without a deed was there and no offered shared page of the heap had a free slot of the class. Where all actors were at rest then and none had a
-/// right, it isn't answered by `Held`.
+/// right, the refusal is `NoSpace`.
 pub fn a_lone_refill_finds_what_there_is<D: Desk>(desk: &D, later: &D)
     ensures { (heap class : ℕ) (answer : Result TheSlots NoRoom) (call : Refills (shared_slots heap class) D.tells (D.standing desk.now) (D.standing later.now) answer) (l : Whole)
         → IsDirectoryOf (D.standing desk.now).seat.profile (shared_directory heap) → Legal (D.standing desk.now).seat.profile (triples (D.standing desk.now).seat.actor (call.after ++ call.searched) ++ l)

@@ -1,8 +1,8 @@
 //! Checks of transcripts.
 
 use crate::calls::{ROOM, may_be_cut_off, outcome_of, stops_at_read, writes};
-use crate::traces::{TRACE, TRANSCRIPT};
-use crate::{alone, at_once, in_turn, queue};
+use crate::traces::{TRACE, TRANSCRIPT, filling};
+use crate::{alone, at_once, guarded, in_turn, queue};
 use std::alloc::AllocError;
 use std::sync::Wait;
 use std::test::Fail;
@@ -202,5 +202,28 @@ fn transcripts_are_accepted(rt: HostRuntime) -> Result<(), Fail> {
     assert!(rt; are_accepted(&rt, in_turn::TRACES.as_slice(), in_turn::TEXTS.as_slice())?);
     assert!(rt; are_accepted(&rt, at_once::TRACES.as_slice(), at_once::TEXTS.as_slice())?);
     assert!(rt; are_accepted(&rt, queue::TRACES.as_slice(), queue::TEXTS.as_slice())?);
+    assert!(rt; are_accepted(&rt, guarded::TRACES.as_slice(), guarded::TEXTS.as_slice())?);
+    Ok(())
+}
+
+/// Whether a check accepts what `order` writes of the trace.
+fn is_accepted<R: AllocGlobal + Threads + Wait + Sync>(
+    rt: &R,
+    trace: &[u8],
+) -> Result<bool, AllocError> {
+    let order = outcome_of(rt, &["order"], trace, &[], &[], ROOM)?;
+    let mut input = Vec::from_slice(rt.alloc(), trace)?;
+    input.extend_from_slice(b"transcript\n".as_slice())?;
+    input.extend_from_slice(&order.taken)?;
+    let check = outcome_of(rt, &["check"], &input, &[], &[], ROOM)?;
+    Ok(order.status == 0 && check.is(0, b"yes\n".as_slice()))
+}
+
+#[test]
+fn full_pages_and_logs_are_accepted(rt: HostRuntime) -> Result<(), Fail> {
+    let slots = filling(rt.alloc(), 2, 86, 48)?;
+    assert!(rt; is_accepted(&rt, &slots)?);
+    let log = filling(rt.alloc(), 1, 65, 16)?;
+    assert!(rt; is_accepted(&rt, &log)?);
     Ok(())
 }

@@ -127,64 +127,83 @@ fn one_of_two_threads_ends_a_block(rt: HostRuntime) -> Result<(), Fail> {
     Ok(())
 }
 
-/// The run on page 2 went to the index with the operations of thread 2. That on page 1 ended as thread 1 was stopped, and this thread has no operation after
-/// it: so page 2 is named for the last request, where a scan would take page 1.
-const ENDED_RUNS: &str = "pas 1 pages 4 threads 2 heaps 1 age 2\n\
-     a 1 1 0 4096 16\n\
+/// The runs on pages 2 and 3 went to the index of heap 1 with the operations of thread 2. That on page 1 ended as thread 1 was stopped, and this thread has no
+/// operation after it: so page 2 is named for the next request, where a scan would take page 1, and page 3 for the one after it, as page 2 has left the index.
+/// The last one is served by a scan.
+const ENDED_RUNS: &str = "pas 1 pages 4 threads 2 heaps 2 age 2\n\
+     a 1 1 1 4096 16\n\
      f 1 1\n\
      phase\n\
-     a 2 2 0 4096 16\n\
+     a 2 2 1 4096 16\n\
+     a 2 3 1 4096 16\n\
      f 2 2\n\
+     f 2 3\n\
      flush 2\n\
      phase\n\
      idle 0\n\
      phase\n\
-     a 2 3 0 4096 16\n";
+     a 2 4 1 4096 16\n\
+     a 2 5 1 4096 16\n\
+     a 2 6 1 4096 16\n";
 
 /// What that comes to in the order of the text.
-const BY_THE_INDEX: &str = "1 deed page 1 heap 0 large\n\
+const BY_THE_INDEX: &str = "1 deed page 1 heap 1 large\n\
      1 back page 1\n\
-     1 give 0x00001000 turn 0 room 4096 heap 0\n\
+     1 give 0x00001000 turn 0 room 4096 heap 1\n\
      phase 2\n\
-     2 deed page 2 heap 0 large\n\
+     2 deed page 2 heap 1 large\n\
      2 back page 2\n\
-     2 give 0x00002000 turn 0 room 4096 heap 0\n\
+     2 give 0x00002000 turn 0 room 4096 heap 1\n\
+     2 deed page 3 heap 1 large\n\
+     2 back page 3\n\
+     2 give 0x00003000 turn 0 room 4096 heap 1\n\
      2 freed 0x00002000 turn 0 epoch 0\n\
+     2 freed 0x00003000 turn 0 epoch 0\n\
      phase 3\n\
      1 freed 0x00001000 turn 0 epoch 0\n\
      0 stopped 1\n\
      0 stopped 2\n\
      phase 4\n\
-     2 give 0x00002000 turn 1 room 4096 heap 0\n\
+     2 give 0x00002000 turn 1 room 4096 heap 1\n\
+     2 give 0x00003000 turn 1 room 4096 heap 1\n\
+     2 give 0x00001000 turn 1 room 4096 heap 1\n\
      close\n\
      report\n\
-     page 1 heap 0 large live 0 free 256 stamp 0 marks backed+offered+hinted\n\
-     page 2 heap 0 large live 1 free 0 stamp 0 marks backed+parked+hinted\n\
-     total deeds 2 backed 2 live 1 given 3 ended 2\n";
+     page 1 heap 1 large live 1 free 0 stamp 0 marks backed+parked+hinted\n\
+     page 2 heap 1 large live 1 free 0 stamp 0 marks backed+parked+hinted\n\
+     page 3 heap 1 large live 1 free 0 stamp 0 marks backed+parked+hinted\n\
+     total deeds 3 backed 3 live 3 given 6 ended 3\n";
 
 /// On threads the scavenger's lines stand first.
-const BY_THE_SHARED_INDEX: &str = "1 deed page 1 heap 0 large\n\
+const BY_THE_SHARED_INDEX: &str = "1 deed page 1 heap 1 large\n\
      1 back page 1\n\
-     1 give 0x00001000 turn 0 room 4096 heap 0\n\
+     1 give 0x00001000 turn 0 room 4096 heap 1\n\
      phase 2\n\
-     2 deed page 2 heap 0 large\n\
+     2 deed page 2 heap 1 large\n\
      2 back page 2\n\
-     2 give 0x00002000 turn 0 room 4096 heap 0\n\
+     2 give 0x00002000 turn 0 room 4096 heap 1\n\
+     2 deed page 3 heap 1 large\n\
+     2 back page 3\n\
+     2 give 0x00003000 turn 0 room 4096 heap 1\n\
      2 freed 0x00002000 turn 0 epoch 0\n\
+     2 freed 0x00003000 turn 0 epoch 0\n\
      phase 3\n\
      0 stopped 1\n\
      0 stopped 2\n\
      1 freed 0x00001000 turn 0 epoch 0\n\
      phase 4\n\
-     2 give 0x00002000 turn 1 room 4096 heap 0\n\
+     2 give 0x00002000 turn 1 room 4096 heap 1\n\
+     2 give 0x00003000 turn 1 room 4096 heap 1\n\
+     2 give 0x00001000 turn 1 room 4096 heap 1\n\
      close\n\
      report\n\
-     page 1 heap 0 large live 0 free 256 stamp 0 marks backed+offered+hinted\n\
-     page 2 heap 0 large live 1 free 0 stamp 0 marks backed+parked+hinted\n\
-     total deeds 2 backed 2 live 1 given 3 ended 2\n";
+     page 1 heap 1 large live 1 free 0 stamp 0 marks backed+parked+hinted\n\
+     page 2 heap 1 large live 1 free 0 stamp 0 marks backed+parked+hinted\n\
+     page 3 heap 1 large live 1 free 0 stamp 0 marks backed+parked+hinted\n\
+     total deeds 3 backed 3 live 3 given 6 ended 3\n";
 
 #[test]
-fn an_index_names_the_run_that_ended(rt: HostRuntime) -> Result<(), Fail> {
+fn an_index_names_each_run_that_ended_once(rt: HostRuntime) -> Result<(), Fail> {
     assert!(rt; writes(&rt, &["order"], ENDED_RUNS, 0, BY_THE_INDEX)?);
     assert!(rt; writes(&rt, &["run"], ENDED_RUNS, 0, BY_THE_SHARED_INDEX)?);
     Ok(())

@@ -1,7 +1,8 @@
 -- A block gets another size.
-use Rattle.std.proofs.Common.{◌≡◌, ℕ, ◌≤◌, ◌++◌, true, false, if◌then◌else◌, [], length, Option, Result, Ok, Err, refl, ap, sym, ◌∙◌, subst, arith}
-use Rattle.std.specs.Prelude.{nat_le}
+use Rattle.std.proofs.Common.{◌≡◌, ℕ, ◌+◌, ◌≤◌, ◌++◌, Bool, true, false, if◌then◌else◌, [], length, Option, Result, Ok, Err, inl, inr, refl, ap, sym, ◌∙◌, subst, arith}
+use Rattle.std.specs.Prelude.{◌-◌, nat_le}
 use Rattle.std.proofs.lemmas.Bool.{le-leb}
+use Rattle.pas_profile.specs.declared.directory.Route.{Route}
 use Rattle.pas_profile.specs.declared.event.FreeFault.{FreeFault}
 use Rattle.pas_profile.specs.declared.event.FreeFault.TheVariants.{Outside, Unaligned}
 use Rattle.pas_profile.specs.declared.event.NoRoom.{NoRoom}
@@ -13,21 +14,73 @@ use Rattle.pas_steps.specs.Desks.{Seat, Standing, CanCall}
 use Rattle.pas_steps.specs.Events.{events_by}
 use Rattle.pas_steps.proofs.Called.{call_none, call_then, next_call}
 use Rattle.pas_steps.proofs.SpareRoom.{Spares, spare_falls}
+use Rattle.pas_steps.proofs.Unknown.{none_unknown}
+use Rattle.pas_steps.specs.Views.{View}
 use Rattle.pas_steps.proofs.Adding.{adds_none, can_call}
 use Rattle.pas_cache.specs.Caches.{Cached, AtRest}
-use Rattle.pas_cache.specs.Calls.{MayRequest, IsNamed, TakesEntry, Frees}
+use Rattle.pas_cache.specs.Calls.{MayAllocate, MayAllocatePages, MayRequestBy, MayRequest, Allocates, AllocatesPages, AllocatesBy, AllocatesRequest, IsNamed, TakesEntry, Frees}
 use Rattle.pas_free_log.specs.Logs.{entry_of}
 use Rattle.pas_cache.specs.Names.{IsInRegion, IsFaultOf}
-use Rattle.pas_cache.specs.Serves.{Wanted, wanted_for}
+use Rattle.pas_cache.specs.Serves.{Wanted, wanted_for, pages_of}
 use Rattle.pas_cache.specs.declared.moving.Moved.TheVariants.{Kept, New}
 use Rattle.pas_answers.specs.Calls.{Serves}
-use Rattle.pas_answers.proofs.Requests.{may_request}
+use Rattle.pas_answers.proofs.Requests.{serves}
 use Rattle.pas_answers.specs.Answers.{suits}
 use Rattle.pas_answers.specs.Moves.{flush_of_full, MayMove, Moves}
 
 -- ---- the request
-pub can_serve : {σ : Standing} (c : Cached) (heap size align spare : ℕ) → CanCall σ (MayMove σ.seat.profile c (cost_of_size size) spare) → CanCall σ (MayRequest σ.seat.profile (wanted_for σ.seat.profile heap size align) c spare)
-can_serve {σ} c heap size align spare can = can_call adds_none can (λ v l stood met. let room = met.room in may_request σ.seat.profile c heap size align spare v met.rest (omega (arith, room)))
+small_room : (f : Profile) (c : Cached) (less spare : ℕ) (v : View) → less ≤ spare → MayAllocate f c less v → MayAllocate f c spare v
+small_room f c less spare v le may = let two = may.room.0 in record {
+  rest = may.rest;
+  room = (omega (arith, two, le), elim may.room.1 [ inl all ↦ inl all | inr more ↦ inr (omega (arith, more, le)) ]);
+}
+
+more_room : (route : Route) (f : Profile) (c : Cached) (n less spare : ℕ) (v : View) → less ≤ spare → MayRequestBy route f c n less v → MayRequestBy route f c n spare v
+more_room (Route.Class class) f c n less spare v le may = small_room f c less spare v le may
+more_room Route.Bitfit f c n less spare v le may = small_room f c less spare v le may
+more_room Route.Large f c n less spare v le may = let room = may.room in record { rest = may.rest; room = omega (arith, room, le) }
+
+at_rest : (route : Route) (f : Profile) (c : Cached) (n spare : ℕ) (v : View) → MayRequestBy route f c n spare v → AtRest f c v
+at_rest (Route.Class class) f c n spare v may = may.rest
+at_rest Route.Bitfit f c n spare v may = may.rest
+at_rest Route.Large f c n spare v may = may.rest
+
+pub can_serve : {σ : Standing} (c : Cached) (heap size align spare : ℕ) → CanCall σ (MayMove σ.seat.profile (wanted_for σ.seat.profile heap size align) c spare) → CanCall σ (MayRequest σ.seat.profile (wanted_for σ.seat.profile heap size align) c spare)
+can_serve {σ} c heap size align spare can =
+    let w = wanted_for σ.seat.profile heap size align in
+    can_call adds_none can (λ v l stood met. more_room w.route σ.seat.profile c (pages_of w) (spare - flush_of_full c.log) spare v (omega arith) met)
+
+-- ---- what it leaves of the room
+small_left : {σ σ1 : Standing} (wanted : Wanted) (tells : Bool) (c c1 : Cached) (answer : Result Block NoRoom) (less spare spare1 : ℕ) → Allocates wanted tells c c1 σ σ1 answer → CanCall σ (MayAllocate σ.seat.profile c less) → Spares σ spare → Spares σ1 spare1
+    → (spare ≤ spare1 + less) × (1 ≤ less)
+small_left {σ} wanted tells c c1 answer less spare spare1 did can law law1 =
+    let f = σ.seat.profile in
+    let v = can.view in
+    let room = can.met.room.0 in
+    let few = did.few σ.seat.actor v can.met.rest (did.calls.adds.agreed v can.whole can.stood can.met.rest) in
+    let paid = few.paid in
+    let most = few.most in
+    let falls = spare_falls spare spare1 (length (events_by σ.seat.actor v did.steps)) did.calls.adds (record { view = v; whole = can.whole; stood = can.stood; met = can.met.rest }) law law1 refl in
+    let within : length (events_by σ.seat.actor v did.steps) ≤ less = elim can.met.room.1 [
+      | inl all ↦ let none = none_unknown f v all in omega (arith, paid, none, room)
+      | inr more ↦ omega (arith, most, more)
+    ] in
+    (omega (arith, falls, within), omega (arith, room))
+
+large_left : {σ σ1 : Standing} (wanted : Wanted) (found : Option ℕ) (tells : Bool) (c c1 : Cached) (block : Block) (less spare spare1 : ℕ) → AllocatesPages wanted found tells c c1 σ σ1 (Ok block) → CanCall σ (MayAllocatePages σ.seat.profile c (pages_of wanted) less) → Spares σ spare → Spares σ1 spare1
+    → (spare ≤ spare1 + less) × (1 ≤ less)
+large_left {σ} wanted found tells c c1 block less spare spare1 did can law law1 =
+    let v = can.view in
+    let room = can.met.room in
+    let few = did.few σ.seat.actor v can.met.rest (did.calls.adds.agreed v can.whole can.stood can.met.rest) in
+    let falls = spare_falls spare spare1 (length (events_by σ.seat.actor v did.steps)) did.calls.adds (record { view = v; whole = can.whole; stood = can.stood; met = can.met.rest }) law law1 refl in
+    (omega (arith, falls, few, room), omega (arith, room))
+
+left_by : (σ σ1 : Standing) (route : Route) (wanted : Wanted) (found : Option ℕ) (tells : Bool) (c c1 : Cached) (block : Block) (less spare spare1 : ℕ) → AllocatesBy route wanted found tells c c1 σ σ1 (Ok block) → CanCall σ (MayRequestBy route σ.seat.profile c (pages_of wanted) less)
+    → Spares σ spare → Spares σ1 spare1 → (spare ≤ spare1 + less) × (1 ≤ less)
+left_by σ σ1 (Route.Class class) wanted found tells c c1 block less spare spare1 did can law law1 = small_left wanted tells c c1 (Ok block) less spare spare1 did can law law1
+left_by σ σ1 Route.Bitfit wanted found tells c c1 block less spare spare1 did can law law1 = small_left wanted tells c c1 (Ok block) less spare spare1 did can law law1
+left_by σ σ1 Route.Large wanted found tells c c1 block less spare spare1 did can law law1 = large_left wanted found tells c c1 block less spare spare1 did can law law1
 
 -- ---- what it comes to
 pub kept : {σ : Standing} (Answers : Option ℕ → Type 0) (Same : Type 0) (wanted : Wanted) (old : Block) (size align : ℕ) (c : Cached) → suits old size align ≡ true → Same → Moves Answers Same wanted old size align c c σ σ (Ok Kept)
@@ -39,18 +92,26 @@ refused Answers Same wanted found old size align c c1 room unsuited named s = re
 full_log : (n : ℕ) → n ≡ 64 → nat_le 64 n ≡ true
 full_log n e = le-leb 64 n (omega (arith, e))
 
-pub room_to_free : {σ σ1 : Standing} (cost spare spare1 : ℕ) (wanted : Wanted) (found : Option ℕ) (c c1 : Cached) (block : Block) → Serves cost wanted found c c1 σ σ1 (Ok block) → CanCall σ (MayMove σ.seat.profile c cost spare) → Spares σ spare → Spares σ1 spare1 → length c1.log ≡ 64 → 64 ≤ spare1
-room_to_free {σ} cost spare spare1 wanted found c c1 block s can law law1 full =
-    let rest = can.met.rest in let agreed = s.calls.adds.agreed can.view can.whole can.stood rest in
-    let few = s.few σ.seat.actor can.view rest agreed in
-    let falls = spare_falls spare spare1 (length (events_by σ.seat.actor can.view s.steps)) s.calls.adds (record { view = can.view; whole = can.whole; stood = can.stood; met = rest }) law law1 refl in
+pub room_to_free : {σ σ1 : Standing} {Answers : Option ℕ → Type 0} {Same : Type 0} {tells : Bool} (heap size align spare spare1 : ℕ) (c c1 : Cached) (block : Block) → AllocatesRequest Answers Same (wanted_for σ.seat.profile heap size align) tells c c1 σ σ1 (Ok block)
+    → CanCall σ (MayMove σ.seat.profile (wanted_for σ.seat.profile heap size align) c spare) → Spares σ spare → Spares σ1 spare1 → length c1.log ≡ 64 → 64 ≤ spare1
+room_to_free {σ} {σ1} {tells = tells} heap size align spare spare1 c c1 block r can law law1 full =
+    let w = wanted_for σ.seat.profile heap size align in
+    let s = serves c c1 heap size align r in
     let at : length c.log ≡ 64 = ap length (sym s.log_is) ∙ full in
-    let flush : flush_of_full c.log ≡ 64 = ap (λ t. if t then 64 else 0) (full_log (length c.log) at) in
-    let room = can.met.room in omega (arith, few, falls, flush, room)
+    let flush : spare - flush_of_full c.log ≡ spare - 64 = ap (λ t. spare - (if t then 64 else 0)) (full_log (length c.log) at) in
+    let left = left_by σ σ1 w.route w r.found tells c c1 block (spare - flush_of_full c.log) spare spare1 r.allocates can law law1 in
+    let most = left.0 in
+    let some = left.1 in
+    omega (arith, flush, most, some)
 
-pub can_free : {σ σ1 : Standing} (cost spare : ℕ) (wanted : Wanted) (found : Option ℕ) (c c1 : Cached) (block : Block) → Serves cost wanted found c c1 σ σ1 (Ok block) → CanCall σ (MayMove σ.seat.profile c cost spare) → CanCall σ1 (AtRest σ1.seat.profile c1)
-can_free {σ} {σ1} cost spare wanted found c c1 block s can =
-    subst (λ (t : Seat). CanCall σ1 (AtRest t.profile c1)) (sym s.calls.adds.seat_is) (next_call s.calls (record { view = can.view; whole = can.whole; stood = can.stood; met = can.met.rest }) (λ v met rests. rests))
+pub can_free : {σ σ1 : Standing} {Answers : Option ℕ → Type 0} {Same : Type 0} {tells : Bool} (heap size align spare : ℕ) (c c1 : Cached) (block : Block) → AllocatesRequest Answers Same (wanted_for σ.seat.profile heap size align) tells c c1 σ σ1 (Ok block)
+    → CanCall σ (MayMove σ.seat.profile (wanted_for σ.seat.profile heap size align) c spare) → CanCall σ1 (AtRest σ1.seat.profile c1)
+can_free {σ} {σ1} heap size align spare c c1 block r can =
+    let f = σ.seat.profile in
+    let w = wanted_for f heap size align in
+    let s = serves c c1 heap size align r in
+    subst (λ (t : Seat). CanCall σ1 (AtRest t.profile c1)) (sym s.calls.adds.seat_is)
+    (next_call s.calls (record { view = can.view; whole = can.whole; stood = can.stood; met = at_rest w.route f c (pages_of w) (spare - flush_of_full c.log) can.view can.met }) (λ v met rests. rests))
 
 -- the old name is on a page of the region, at a multiple of 16
 pub no_fault : (f : Profile) (name : Name) (fault : FreeFault) → IsInRegion f name → IsFaultOf f name fault → ⊥

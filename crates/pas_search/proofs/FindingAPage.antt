@@ -14,7 +14,7 @@ use Rattle.pas_steps.proofs.Past.{once_later, once_earlier, once_map}
 use Rattle.pas_steps.specs.Evidence.{UnfitHere, ZeroHere, DeedHere, ParkedHere, ParkedLater, LeftHere, LacksAfter, MissingHere, HeldHere, Accounted, AllDeeds, ReadsDeed, KeptHere, Searched, NoDeedHere, GetsRight, GetsHere, IsAntitone}
 use Rattle.pas_scan.specs.Marks.{is_marked}
 use Rattle.pas_scan.specs.Scan.{IsMember, AllParked, IsVerdict, last_block, Judges}
-use Rattle.pas_search.specs.Serving.{Rule}
+use Rattle.pas_search.specs.Serving.{Rule, ShowsFit}
 use Rattle.pas_search.specs.Searches.{search_steps, Searching, AllAccounted, IsRefusal, IsRefused, MaySearch, DeedMadeHere, IsHeld, IsServed, SearchRoom, BareRoom, FromOffered, ByDeed, SearchesOffered, ServesBare, SearchesBare, Searches}
 use Rattle.pas_search.proofs.PagesThatServe.{no_deeds, served_search, deeds_serves, AreVain, reads_vain, vain_lacks, vain_search, searched, vain_searching, ready, got_search, finds}
 use Rattle.pas_search.proofs.ForBackEnds.{events_quiet, room_kept}
@@ -140,21 +140,22 @@ module _ {F : Type 0} (rule : Rule F) (f : Profile) (k : ℕ) (l : Whole) (d : D
   first : Legal f l
   first = legal_before f k xs l legal
 
-  served_told : (served : Served F) → IsServed rule f d xs served → IsLowestOffered rule.no_fit f d l served.page ⊎ IsLowestBare rule.no_fit f d l served.page
-  served_told served is = let p : ℕ = served.page in elim is.choice [
+  -- a page that was chosen, and of which this was read with the right
+  pub could_serve : (p : ℕ) (kept : ℕ → Bool) → IsPage f p → FromOffered rule.no_fit d p xs ⊎ ByDeed rule.no_fit f d p xs → ShowsFit rule.no_fit kept f p (MaySearch d) xs xs → IsLowestOffered rule.no_fit f d l p ⊎ IsLowestBare rule.no_fit f d l p
+  could_serve p kept here choice shows = elim choice [
     | inl from ↦
         let read = one_told f k l d p xs legal from.offered in
         let deed : word_after (triples k read.0 ++ l) (Word.Deed p) ≡ deed_word_of d = offered_deed f (triples k read.0 ++ l) d p of read.1 read.3 in
         let lacks : has_right (part k l) p ≡ false = entry_lacks f k l d p read.0 valid first (may.rights p) deed in
         inl (record {
           this = record {
-            of_region = is.page;
+            of_region = here;
             offered = (spotted f l first p).eligible (number_of d) ∙ ap (is_offered (number_of d)) (sym (spot_same f k l p read.0 read.1 lacks read.2)) ∙ sym ((spotted f (triples k read.0 ++ l) read.1 p).eligible (number_of d)) ∙ read.3;
-            fits = fit_entry rule.no_fit f k l p is.shows.readings xs fewer valid legal searches is.shows.fits is.shows.read (is.shows.held.from (part k l) may agreed);
+            fits = fit_entry rule.no_fit f k l p shows.readings xs fewer valid legal searches shows.fits shows.read (shows.held.from (part k l) may agreed);
           };
           lowest = λ other fit. not_below p other (λ lt. no_fit_there rule f k l d p xs fewer legal searches from.searched other lt fit);
         })
-    | inr deed ↦ inr (by_deed rule f k l d p xs fewer is.page legal searches deed.made_here)
+    | inr deed ↦ inr (by_deed rule f k l d p xs fewer here legal searches deed.made_here)
   ]
 
   -- ---- a refusal
@@ -219,7 +220,7 @@ module _ {F : Type 0} (rule : Rule F) (f : Profile) (k : ℕ) (l : Whole) (d : D
   reason (Held p) is = (held_in_hands (Held p) is p is.answer, λ other lt hands. accounted_out (Held p) is other (is.answer.lower (part k l) agreed other hands.of_region.0 lt) hands)
 
   pub all_told : (answer : Result (Served F) NoRoom) → MatchResult answer (IsServed rule f d xs) (IsRefused rule.no_fit f d xs) → IsTold (λ (s : Served F). s.page) rule.no_fit f d l w answer
-  all_told (Ok served) h = served_told served h
+  all_told (Ok served) h = could_serve served.page (rule.kept served.found) h.page h.choice h.shows
   all_told (Err room) h = (entry_none room h, exit_none room h, reason room h)
 
 -- ---- an offered page serves

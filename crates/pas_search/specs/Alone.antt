@@ -2,7 +2,7 @@
 use Rattle.std.specs.Prelude.{ℕ, ◌≡◌, Result, Ok, Err}
 use Rattle.pas_profile.specs.declared.directory.Directory.{Directory}
 use Rattle.pas_profile.specs.declared.event.NoRoom.{NoRoom}
-use Rattle.pas_profile.specs.declared.event.NoRoom.TheVariants.{Held}
+use Rattle.pas_profile.specs.declared.event.NoRoom.TheVariants.{NoSpace, Held}
 use Rattle.pas_profile.specs.declared.profile.Profile.{Profile}
 use Rattle.pas_steps.specs.Evidence.{Readings}
 use Rattle.pas_steps.specs.Lists.{Whole}
@@ -15,8 +15,10 @@ abbrev pub page_found : {F : Type 0} → Result (Served F) NoRoom → Result ℕ
 page_found (Ok served) = Ok served.page
 page_found (Err room) = Err room
 
--- Where a request was refused, no page could serve it in the state before, the list l. Where all were at rest there besides, and none had a right, no page is
--- said to be held.
+-- The request was refused exactly where no page could serve it in the state before, the list l. Where all were at rest there besides, and none had a right, no
+-- page is said to be held, so the answer is then `NoSpace`.
 pub record FindsWhatThereIs {A : Type 0} (no_fit : Readings → Type 0) (f : Profile) (d : Directory) (l : Whole) (answer : Result A NoRoom) : Type 0 where
   pub none_fits : (room : NoRoom) → answer ≡ Err room → HasNoFit no_fit f d l
+  pub refused : HasNoFit no_fit f d l → (found : A) → answer ≡ Ok found → ⊥
   pub not_held : AllRest f l → (page : ℕ) → answer ≡ Err (Held page) → ⊥
+  pub no_space : AllRest f l → HasNoFit no_fit f d l → answer ≡ Err NoSpace

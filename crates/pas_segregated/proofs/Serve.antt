@@ -104,6 +104,7 @@ module _ (heap class : ℕ) {tells : Bool} {σ σ' : Standing} (served : Served 
       some = searches.outcome.serves.some;
       took = searches.outcome.serves;
       choice = searches.outcome.choice;
+      shows = searches.outcome.shows;
       marks = searches.outcome.marks;
       few = searches.outcome.few;
       events = searches.outcome.events;

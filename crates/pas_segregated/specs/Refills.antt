@@ -14,10 +14,11 @@ use Rattle.pas_steps.specs.Kinds.{returning, Only}
 use Rattle.pas_steps.specs.declared.step.Made.{Made}
 use Rattle.pas_search.specs.Kinds.{AreSearch, EventsAt}
 use Rattle.pas_search.specs.Searches.{search_steps, MaySearch, FromOffered, ByDeed, KeepsItsMarks, FewEvents, IsRefused}
+use Rattle.pas_search.specs.Serving.{ShowsFit}
 use Rattle.pas_search.specs.Telling.{IsTold}
 use Rattle.pas_segregated.specs.Masks.{AreStarts}
 use Rattle.pas_bits.specs.Masks.{HasMember}
-use Rattle.pas_segregated.specs.Takes.{TookSlots, NoSlot}
+use Rattle.pas_segregated.specs.Takes.{TookSlots, NoSlot, in_starts}
 use Rattle.pas_segregated.specs.Stops.{class_directory, home_of, in_slots, LeavesWhere, MayStopAt}
 use Rattle.pas_segregated.specs.declared.slots.Slots.{Slots}
 
@@ -49,9 +50,9 @@ pub record GetsSlots (d : Directory) (slots : Slots) (v w : View) : Type 0 where
   pub backed : knows_backed w slots.page ≡ true
   pub may_stop : MayStopAt d slots w
 
--- The slots are of the class and of a page of the directory, with its right where that is an exclusive one. The search took them; its page is the
--- lowest offered one that has a free slot, or the lowest without a deed, and it is neither offered, parked nor hinted by it; one event backs it, and one more makes its deed. A shared page is left then, by
--- at most eleven steps and without an event.
+-- The slots are of the class and of a page of the directory, with its right where that is an exclusive one. The search took them, whose grains it read as
+-- free; its page is the lowest offered one that has a free slot, or the lowest without a deed, and it is neither offered, parked nor hinted by it; one event
+-- backs it, and one more makes its deed. A shared page is left then, by at most eleven steps and without an event.
 pub record GivesSlots (fill : Filling) (f : Profile) (searched after : List Made) (slots : Slots) : Type 0 where
   pub page : IsPage f slots.page
   pub class_is : slots.class ≡ fill.class
@@ -60,6 +61,7 @@ pub record GivesSlots (fill : Filling) (f : Profile) (searched after : List Made
   pub some : HasMember slots.starts
   pub took : fill.took slots.page searched slots.starts
   pub choice : FromOffered fill.no_fit fill.directory slots.page searched ⊎ ByDeed fill.no_fit f fill.directory slots.page searched
+  pub shows : ShowsFit fill.no_fit (in_starts fill.class slots.starts) f slots.page (MaySearch fill.directory) searched searched
   pub marks : KeepsItsMarks f fill.directory slots.page searched
   pub few : FewEvents f fill.directory 1 searched
   pub events : EventsAt fill.directory slots.page searched

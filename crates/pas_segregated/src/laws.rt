@@ -13,9 +13,9 @@ ghost use Rattle.pas_segregated.specs.declared.slots.Slots.{Slots as TheSlots};
 
 use pas_steps::Desk;
 
-/// Where the steps of a refill of a class stand together in a legal list, which is so where no other actor made a step meanwhile, it is refused only
+/// Where the steps of a refill of a class stand together in a legal list, which is so where no other actor made a step meanwhile, it is refused exactly
 /// where, before, no page without a deed was there and no offered page of the class had a free slot. Where all actors were at rest then and none had a right,
-/// it isn't answered by `Held`.
+/// the refusal is `NoSpace`.
 pub fn a_lone_refill_finds_what_there_is<D: Desk>(desk: &D, later: &D)
     ensures { (heap class : ℕ) (answer : Result TheSlots NoRoom) (call : Refills (exclusive_slots heap class) D.tells (D.standing desk.now) (D.standing later.now) answer) (l : Whole)
         → IsDirectoryOf (D.standing desk.now).seat.profile (class_directory heap class) → Legal (D.standing desk.now).seat.profile (triples (D.standing desk.now).seat.actor (call.after ++ call.searched) ++ l)

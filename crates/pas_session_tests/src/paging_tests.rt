@@ -3,13 +3,14 @@ ghost use Rattle.std.specs.Prelude.{IfOk};
 
 use crate::seating::alone;
 use pas_cache::ThreadCache;
-use pas_large::{Door, NoIndex, PlainDoor};
+use pas_large::{Door, NoIndex, PlainDoor, SharedDoor};
 use pas_large_index::LargeIndex;
 use pas_profile::*;
 use pas_steps::Desk;
 use pas_trials::reuse_pages;
 use pas_utility::Utility;
 use std::alloc::Global;
+use std::sync::{Mutex, Wait};
 use std::test::Fail;
 
 const PROFILE: Profile = Profile {
@@ -54,4 +55,20 @@ fn without_an_index_the_pages_are_scanned(rt: HostRuntime) -> Result<(), Fail> {
     let (answer, steps) = reuse(rt.alloc(), &mut NoIndex)?;
     assert!(rt; is_of_last_two(&answer) && steps > 44);
     Ok(())
+}
+
+/// Whether a door to indexes that threads share names each page that was settled once, and to its heap alone.
+fn names_pages_once<R: Wait>(rt: &R) -> bool {
+    let indexes = [Mutex::new(LargeIndex::new()), Mutex::new(LargeIndex::new())];
+    let mut door = SharedDoor::new(rt, &indexes);
+    door.settle(1, Range { first: 2, pages: 2 });
+    door.settle(2, Range { first: 4, pages: 1 });
+    let others = [door.find(0, 1), door.find(1, 3), door.find(2, 1)];
+    let own = [door.find(1, 1), door.find(1, 1), door.find(1, 1)];
+    others == [None; 3] && own == [Some(2), Some(3), None]
+}
+
+#[test]
+fn a_shared_door_names_pages_once(rt: HostRuntime) {
+    assert!(rt; names_pages_once(&rt));
 }

@@ -1,16 +1,14 @@
 -- A ledger's seat, and a pass whose actor it took in.
-use Rattle.std.proofs.Common.{◌≡◌, ℕ, ◌+◌, ◌<◌, List, [], ◌∷◌, refl, sym, ap, ◌∙◌, subst, arith}
-use mathlib.Core.HLevel.{is_prop→PathP}
+use Rattle.std.proofs.Common.{◌≡◌, ℕ, ◌<◌, List, [], ◌∷◌, refl, sym, ap, ◌∙◌, subst, arith}
 use Rattle.atomic_table.specs.Table.{Me, Splits, Allows}
-use Rattle.pas_profile.specs.Layouts.{words_of}
 use Rattle.pas_profile.specs.declared.profile.Profile.{Profile}
 use Rattle.pas_steps.specs.Views.{View}
 use Rattle.pas_shared.specs.declared.rule.Entry.{Entry}
 use Rattle.pas_shared.specs.declared.rule.Part.{Part}
 use Rattle.pas_shared.specs.declared.rule.Roster.{Roster}
-use Rattle.pas_shared.specs.declared.rule.Roster.TheVariants.{Listed, Settled}
+use Rattle.pas_shared.specs.declared.rule.Roster.TheVariants.{Unused, Listed, Settled, Benched}
 use Rattle.pas_shared.specs.declared.region.SharedRegion.{SharedRegion}
-use Rattle.pas_shared.specs.Ruled.{Holds, alone, entries_in, parts_in, all_but_last, last_alone, SeesAll}
+use Rattle.pas_shared.specs.Ruled.{Holds, alone, joined, looks_in, parts_in, seen_in, all_but_last, last_alone, AreEarlier, SeesAll}
 use Rattle.pas_shared.proofs.Ruling.{splits_last, looks}
 
 -- there is a first word
@@ -18,15 +16,34 @@ pub some_word : (region : SharedRegion) → 0 < region.table.shared.table_id.wor
 some_word region = let many = region.keyed.1 in omega (arith, many)
 
 -- ---- the seat of a ledger
-pub settled_is : (me : Me (Unit {0}) Roster) (es : List Entry) (ps : List Part) → me ≡ (Settled es ps, []) → me ≡ (Settled (entries_in me.0) (parts_in me.0), [])
-settled_is me es ps is = subst (λ (m : Me (Unit {0}) Roster). m ≡ (Settled (entries_in m.0) (parts_in m.0), [])) (sym is) refl
+pub settled_is : (me : Me (Unit {0}) Roster) (es : List (List Entry)) (ps : List Part) → me ≡ (Settled es ps, []) → me ≡ (Settled (looks_in me.0) (parts_in me.0), [])
+settled_is me es ps is = subst (λ (m : Me (Unit {0}) Roster). m ≡ (Settled (looks_in m.0) (parts_in m.0), [])) (sym is) refl
 
-pub splits_last_as : (f : Profile) (id : ℕ) (me : Me (Unit {0}) Roster) (es : List Entry) (p : Part) (ps : List Part) → me ≡ (Settled es (p ∷ ps), []) → Splits (Holds f) id me.0 (all_but_last me.0) (last_alone me.0)
+pub splits_last_as : (f : Profile) (id : ℕ) (me : Me (Unit {0}) Roster) (es : List (List Entry)) (p : Part) (ps : List Part) → me ≡ (Settled es (p ∷ ps), []) → Splits (Holds f) id me.0 (all_but_last me.0) (last_alone me.0)
 splits_last_as f id me es p ps is = subst (λ (m : Me (Unit {0}) Roster). Splits (Holds f) id m.0 (all_but_last m.0) (last_alone m.0)) (sym is) (splits_last f id es p ps)
 
-pub looks_as : (f : Profile) (slots id i : ℕ) (me : Me (Unit {0}) Roster) (es : List Entry) (ps : List Part) → me ≡ (Settled es ps, []) → Allows (Holds f) slots id me i (λ n. n) (λ n after. SeesAll me after)
+pub looks_as : (f : Profile) (slots id i : ℕ) (me : Me (Unit {0}) Roster) (es : List (List Entry)) (ps : List Part) → me ≡ (Settled es ps, []) → Allows (Holds f) slots id me i (λ n. n) (λ n after. SeesAll me after)
 looks_as f slots id i me es ps is = subst (λ (m : Me (Unit {0}) Roster). Allows (Holds f) slots id m i (λ n. n) (λ n after. SeesAll m after)) (sym is) (looks f slots id i es ps)
 
 -- it took this actor in last
-pub took_last : (me : Me (Unit {0}) Roster) (p : Part) (ps : List Part) → me ≡ (Settled (entries_in me.0) (parts_in me.0), []) → parts_in me.0 ≡ p ∷ ps → me ≡ (Settled (entries_in me.0) (p ∷ ps), [])
-took_last me p ps is last = is ∙ ap (λ (qs : List Part). (Settled (entries_in me.0) qs, [])) last
+pub took_last : (me : Me (Unit {0}) Roster) (p : Part) (ps : List Part) → me ≡ (Settled (looks_in me.0) (parts_in me.0), []) → parts_in me.0 ≡ p ∷ ps → me ≡ (Settled (looks_in me.0) (p ∷ ps), [])
+took_last me p ps is last = is ∙ ap (λ (qs : List Part). (Settled (looks_in me.0) qs, [])) last
+
+-- what it saw at the looks before are the first of the steps that it saw at this one
+pub saw_each : (me now : Me (Unit {0}) Roster) → SeesAll me now → AreEarlier (looks_in me.0) (seen_in now.0)
+saw_each me now sees = subst (λ (m : Me (Unit {0}) Roster). AreEarlier (looks_in me.0) (seen_in m.0)) (sym sees.after_is) sees.earlier
+
+-- it names the one actor that it took in
+pub took_alone : (me own now : Me (Unit {0}) Roster) (k : ℕ) (v : View) → me ≡ (Settled (looks_in me.0) (parts_in me.0), []) → parts_in me.0 ≡ [] → own.0 ≡ alone k v → now.0 ≡ joined me.0 own.0
+    → parts_in now.0 ≡ record { actor = k; made = v } ∷ []
+took_alone me own now k v is none its new =
+    let was : me.0 ≡ Settled (looks_in me.0) [] = ap (λ (m : Me (Unit {0}) Roster). m.0) is ∙ ap (λ (ps : List Part). Settled (looks_in me.0) ps) none in
+    ap parts_in new ∙ ap (λ (z : Roster × Roster). parts_in (joined z.0 z.1)) (λ i. (was i, its i))
+
+-- it saw what it saw
+pub seen_by_rest : (u : Roster) → seen_in (all_but_last u) ≡ seen_in u
+seen_by_rest (Unused n) = refl
+seen_by_rest (Listed ps) = refl
+seen_by_rest (Settled es []) = refl
+seen_by_rest (Settled es (p ∷ ps)) = refl
+seen_by_rest (Benched rs) = refl

@@ -1,4 +1,6 @@
 mod Ruling
+mod Pasts
 pub mod GivingBack
 pub mod Opened
 pub mod Pops
+pub mod Benching

@@ -15,7 +15,7 @@ use Rattle.pas_shared.specs.declared.rule.Roster.TheVariants.{Unused}
 use Rattle.pas_shared.specs.declared.pass.SharedPass.{SharedPass}
 use Rattle.pas_shared.specs.Ruled.{Names, all_but_first, first_alone, AreNamed, AllKnow, AreAfterOneList, Holds}
 use Rattle.pas_shared.specs.Passes.{IsOfTable, IsFresh, AreFresh}
-use Rattle.pas_shared.proofs.Ruling.{Apart, SawOf, splits}
+use Rattle.pas_shared.proofs.Ruling.{Apart, SawOf, RowsOf, splits}
 
 -- of the one seat
 know_one : (P : Roster → Type 0) (w : Roster) → P w → AllKnow P (w ∷ [])
@@ -32,7 +32,8 @@ begins f words sized values = record {
   seat_number = λ _. 0;
   named = named;
   apart = know_one Apart (Unused 0) tt;
-  seen = know_one (SawOf []) (Unused 0) ([], refl);
+  seen = know_one (SawOf []) (Unused 0) tt;
+  rows = know_one (RowsOf []) (Unused 0) tt;
 }
   where
     none : (u : Roster) (k : ℕ) (v : View) → Unused 0 ≡ u → Names u k v → [] ≡ v

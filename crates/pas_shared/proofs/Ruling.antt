@@ -1,5 +1,5 @@
 -- The rule of the shared words, step by step and at the close.
-use Rattle.std.proofs.Common.{List, [], ◌∷◌, ◌++◌, sym, subst, ◌≡◌, ◌≢◌, ◌⊎◌, inl, inr, ⊎_elim, ℕ, suc, zero, ◌+◌, ◌<◌, ◌≤◌, length, set, Bool, true, false, eqb, eq-eqb, ne_eqb, refl, ap, ◌∙◌, arith, if◌then◌else◌, get_or}
+use Rattle.std.proofs.Common.{◌==◌, eqb-true, true≢false, List, [], ◌∷◌, ◌++◌, sym, subst, ◌≡◌, ◌≢◌, ◌⊎◌, inl, inr, ⊎_elim, ℕ, suc, zero, ◌+◌, ◌<◌, ◌≤◌, length, set, Bool, true, false, eqb, eq-eqb, ne_eqb, refl, ap, ◌∙◌, arith, if◌then◌else◌, get_or}
 use Rattle.pas_profile.specs.Profiles.{IsValid}
 use Rattle.pas_profile.specs.declared.event.Event.{Event}
 use Rattle.pas_profile.specs.declared.profile.Profile.{Profile}
@@ -26,22 +26,30 @@ use Rattle.atomic_table.proofs.Lists.{at_set, set_again}
 use Rattle.pas_profile.specs.Layouts.{index_of, words_of}
 use Rattle.pas_profile.proofs.Places.{index_lt}
 use Rattle.pas_steps.specs.Effects.{target, new_value}
-use Rattle.pas_steps.specs.Desks.{made, triple}
+use Rattle.pas_steps.specs.Desks.{made, triple, triples}
 use Rattle.pas_steps.specs.declared.step.Step.{Step}
 use Rattle.pas_steps.specs.declared.step.Made.{Made}
+use Rattle.pas_steps.proofs.Parts.{part_of_own, part_of_others}
 use Rattle.pas_steps.proofs.Targets.{target_of_region}
-use Rattle.pas_core.specs.Orders.{with_step}
+use Rattle.pas_core.specs.Orders.{with_step, steps_by}
 use Rattle.pas_core.specs.WordLists.{AreWordsAfter}
+use Rattle.pas_core.proofs.Choosing.{step_taken, step_passed, steps_by_one, steps_by_nobody, no_steps_by_fewer}
 use Rattle.pas_core.proofs.Nexts.{legal_next, agrees_next, with_step_own, with_step_others, one_order_next, words_next}
 use Rattle.pas_shared.specs.declared.exchange.Change.{Change}
 use Rattle.pas_shared.specs.declared.rule.Entry.{Entry}
 use Rattle.pas_shared.specs.declared.rule.Part.{Part}
 use Rattle.pas_shared.specs.declared.rule.Roster.{Roster}
-use Rattle.pas_shared.specs.declared.rule.Roster.TheVariants.{Unused, Listed, Settled}
-use Rattle.pas_shared.specs.Ruled.{HasPart, Names, alone, first_alone, all_but_first, joined, AreNamed, AreAfterOneList, Holds, changed, IsAskedOf, IsAdded, Makes, IsAddedIfKept, parts_in, entries_in, steps_of, seen_in, all_but_last, last_alone, SawNothing, IsEarlier, AreApart, AllKnow, HasAllOf, SeesAll}
+use Rattle.pas_shared.specs.declared.rule.Row.{Row}
+use Rattle.pas_shared.specs.declared.rule.Roster.TheVariants.{Unused, Listed, Settled, Benched}
+use Rattle.pas_shared.specs.Ruled.{HasPart, Names, alone, first_alone, all_but_first, joined, AreNamed, AreAfterOneList, Holds, changed, IsAskedOf, IsAdded, Makes, IsAddedIfKept, parts_in, looks_in, first_look, steps_of, seen_in, SawNothing, IsEarlier, AreEarlier, AreApart, AllKnow, SeesAll, among, made_in, SitsIn, HasRow, entries_by, rows_of, rows_in, IsNoBench, only, isnt, row_of_only, rows_of_only, left_of, picked_of, all_actors, IsEmptyBench, IsRowOf, AreRowsOf, SitsFor, row_with, with_made, SettlesAll}
 use Rattle.std.specs.List.{All}
 use Rattle.std.proofs.lemmas.List.Elements.{All-cons, All-weaker}
 use Rattle.pas_shared.specs.declared.pass.SharedPass.{SharedPass}
+use Rattle.pas_profile.specs.Profiles.{IsWordOf}
+use Rattle.pas_profile.specs.declared.word.Word.{Word}
+use Rattle.pas_steps.specs.States.{profile_of, word_in}
+use Rattle.pas_steps.specs.declared.state.State.{State}
+use Rattle.pas_shared.specs.Left.{IsLeftBy}
 use Rattle.pas_shared.specs.Passes.{view_of, seat_of, IsNamed, AreWordsOf}
 
 -- ==== Every legal list is good.
@@ -79,56 +87,149 @@ none_is_early f l valid legal k page epoch later earlier is = (earlier_run f lat
 -- ==== A step that the view of the stepping seat allows keeps the rule, and every other seat knows what it knew. So does a split and a join.
 
 -- ---- what the seats know after one more step of actor k, whose seat is id
-grows : (own : ℕ → View) (seat_number : ℕ → ℕ) (rosters : List Roster) (id k : ℕ) (v : View) (m : Made) → AreNamed own seat_number rosters → seat_number k ≡ id → own k ≡ v → AreNamed (with_step k m own) seat_number (set rosters id (alone k (m ∷ v)))
-grows own seat_number rosters id k v m h its is i u b x e named = ⊎_elim
-    (λ (t : (i ≡ id) × (alone k (m ∷ v) ≡ u)). here t.0 (subst (λ (y : Roster). Names y b x) (sym t.1) named))
-    (λ (t : (i ≢ id) × (get_elem? rosters i ≡ some u)). there t.0 (h i u b x t.1 named))
-    (at_set rosters id i (alone k (m ∷ v)) u e)
-  where
-    here : i ≡ id → Names (alone k (m ∷ v)) b x → (seat_number b ≡ i) × (with_step k m own b ≡ x)
-    here z (inl p) = (ap seat_number (sym p.0) ∙ (its ∙ sym z), subst (λ (c : ℕ). with_step k m own c ≡ x) p.0 (with_step_own k m own ∙ (ap (λ (y : View). m ∷ y) is ∙ p.1)))
-    here z (inr p) = absurd p
+sits_named : (u : Roster) (k : ℕ) (v : View) → SitsFor u k v → Names u k v
+sits_named u k v (inl is) = subst (λ (y : Roster). Names y k v) (sym is) (inl (refl, refl))
+sits_named u k v (inr (r, is, sits)) = subst (λ (y : Roster). Names y k v) (sym is) (inl sits)
 
+view_with : (own : ℕ → View) (k : ℕ) (m : Made) (l : Whole) (b : ℕ) → own b ≡ part b l → with_step k m own b ≡ part b (triple k m ∷ l)
+view_with own k m l b is = ⊎_elim here there (cases_eq b k)
+  where
+    at_own : own k ≡ part k l → with_step k m own k ≡ part k (triple k m ∷ l)
+    at_own e = with_step_own k m own ∙ (ap (λ (v : View). m ∷ v) e ∙ sym (part_of_own k (m ∷ []) l))
+
+    here : b ≡ k → with_step k m own b ≡ part b (triple k m ∷ l)
+    here e = subst (λ (j : ℕ). with_step k m own j ≡ part j (triple k m ∷ l)) (sym e) (at_own (ap own (sym e) ∙ (is ∙ ap (λ (j : ℕ). part j l) e)))
+
+    there : b ≢ k → with_step k m own b ≡ part b (triple k m ∷ l)
+    there ne = with_step_others b k m own ne ∙ (is ∙ sym (part_of_others b k (m ∷ []) l (λ e. ne (sym e))))
+
+-- all whom the seat names are at it, with their own lists
+abbrev IsNamedAt : (ℕ → View) → (ℕ → ℕ) → ℕ → Roster → Type 0
+IsNamedAt own seat_number id u = (b : ℕ) (x : View) → Names u b x → (seat_number b ≡ id) × (own b ≡ x)
+
+named_with : (own : ℕ → View) (seat_number : ℕ → ℕ) (id k : ℕ) (v : View) (m : Made) (u : Roster) → SitsFor u k v → IsNamedAt own seat_number id u → IsNamedAt (with_step k m own) seat_number id (with_made k m u)
+named_with own seat_number id k v m u (inl is) h = subst (λ (y : Roster). IsNamedAt (with_step k m own) seat_number id (with_made k m y)) (sym is) now
+  where
+    its : (seat_number k ≡ id) × (own k ≡ v)
+    its = h k v (sits_named u k v (inl is))
+
+    now : IsNamedAt (with_step k m own) seat_number id (alone k (m ∷ v))
+    now b x (inl p) = (ap seat_number (sym p.0) ∙ its.0, subst (λ (c : ℕ). with_step k m own c ≡ x) p.0 (with_step_own k m own ∙ (ap (λ (y : View). m ∷ y) its.1 ∙ p.1)))
+    now b x (inr p) = absurd p
+named_with own seat_number id k v m u (inr (r, is, sits)) h = subst (λ (y : Roster). IsNamedAt (with_step k m own) seat_number id (with_made k m y)) (sym is) now
+  where
+    its : (b : ℕ) → among r.actors b ≡ true → (seat_number b ≡ id) × (own b ≡ made_in r b)
+    its b sits = h b (made_in r b) (subst (λ (y : Roster). Names y b (made_in r b)) (sym is) (inl (sits, refl)))
+
+    now : IsNamedAt (with_step k m own) seat_number id (Benched (row_with k m r ∷ []))
+    now b x (inl p) = ((its b p.0).0, view_with own k m (steps_of r.made ++ steps_of r.base) b (its b p.0).1 ∙ p.1)
+    now b x (inr p) = absurd p
+
+grows : (own : ℕ → View) (seat_number : ℕ → ℕ) (rosters : List Roster) (id k : ℕ) (v : View) (m : Made) (u : Roster) → AreNamed own seat_number rosters → get_elem? rosters id ≡ some u → SitsFor u k v → AreNamed (with_step k m own) seat_number (set rosters id (with_made k m u))
+grows own seat_number rosters id k v m u h at sits i y b x e named = ⊎_elim
+    (λ (t : (i ≡ id) × (with_made k m u ≡ y)). let now = named_with own seat_number id k v m u sits (λ c z. h id u c z at) b x (subst (λ (z : Roster). Names z b x) (sym t.1) named) in (now.0 ∙ sym t.0, now.1))
+    (λ (t : (i ≢ id) × (get_elem? rosters i ≡ some y)). there t.0 (h i y b x t.1 named))
+    (at_set rosters id i (with_made k m u) y e)
+  where
     there : i ≢ id → (seat_number b ≡ i) × (own b ≡ x) → (seat_number b ≡ i) × (with_step k m own b ≡ x)
-    there ne p = (p.0, with_step_others b k m own (λ z. ne (sym p.0 ∙ (ap seat_number z ∙ its))) ∙ p.1)
+    there ne p = (p.0, with_step_others b k m own (λ z. ne (sym p.0 ∙ (ap seat_number z ∙ (h id u k v at (sits_named u k v sits)).0))) ∙ p.1)
 
 -- ---- what is so of all seats
-know_set : (P : Roster → Type 0) (rosters : List Roster) (id : ℕ) (w : Roster) → AllKnow P rosters → P w → AllKnow P (set rosters id w)
+pub know_set : (P : Roster → Type 0) (rosters : List Roster) (id : ℕ) (w : Roster) → AllKnow P rosters → P w → AllKnow P (set rosters id w)
 know_set P rosters id w all new i u e = ⊎_elim (λ (t : (i ≡ id) × (w ≡ u)). subst P t.1 new) (λ (t : (i ≢ id) × (get_elem? rosters i ≡ some u)). all i u t.1) (at_set rosters id i w u e)
+
+-- .. where it is so anew of all but the one that changed
+know_others : (P Q : Roster → Type 0) (rosters : List Roster) (id : ℕ) (w : Roster) → ((i : ℕ) (u : Roster) → i ≢ id → get_elem? rosters i ≡ some u → P u → Q u) → AllKnow P rosters → Q w → AllKnow Q (set rosters id w)
+know_others P Q rosters id w still all new i u e = ⊎_elim (λ (t : (i ≡ id) × (w ≡ u)). subst Q t.1 new) (λ (t : (i ≢ id) × (get_elem? rosters i ≡ some u)). still i u t.0 t.1 (all i u t.1)) (at_set rosters id i w u e)
 
 abbrev pub Apart : Roster → Type 0
 Apart u = AreApart (parts_in u)
 
 abbrev pub SawOf : Whole → Roster → Type 0
-SawOf l u = IsEarlier (seen_in u) l
+SawOf l u = AreEarlier (looks_in u) l
 
-pub nothing_seen : (l : Whole) → IsEarlier [] l
-nothing_seen l = (l, sym (append-nil l))
+pub nothing_seen : (l : Whole) → AreEarlier [] l
+nothing_seen l = tt
 
-seen_longer : (s l : Whole) (t : Triple) → IsEarlier s l → IsEarlier s (t ∷ l)
-seen_longer s l t seen = (t ∷ seen.0, ap (λ (m : Whole). t ∷ m) seen.1)
+abbrev pub RowsOf : Whole → Roster → Type 0
+RowsOf l u = AreRowsOf (rows_in u) l
+
+-- what was seen at the first look
+pub first_earlier : (looks : List (List Entry)) (l : Whole) → AreEarlier looks l → IsEarlier (first_look looks) l
+first_earlier [] l seen = (l, sym (append-nil l))
+first_earlier (es ∷ looks) l seen = seen.0
+
+seen_longer : (looks : List (List Entry)) (l : Whole) (t : Triple) → AreEarlier looks l → AreEarlier looks (t ∷ l)
+seen_longer [] l t seen = tt
+seen_longer (es ∷ looks) l t seen = ((t ∷ seen.0.0, ap (λ (m : Whole). t ∷ m) seen.0.1), seen_longer looks l t seen.1)
+
+seen_both : (looks more : List (List Entry)) (l : Whole) → AreEarlier looks l → AreEarlier more l → AreEarlier (looks ++ more) l
+seen_both [] more l one other = other
+seen_both (es ∷ looks) more l one other = (one.0, seen_both looks more l one.1 other)
 
 -- the list as a seat sees it
 abbrev pub entries_for : Whole → List Entry
 entries_for [] = []
 entries_for (t ∷ l) = record { actor = t.actor; made = t.made } ∷ entries_for l
 
-entries_same : (l : Whole) → steps_of (entries_for l) ≡ l
+pub entries_same : (l : Whole) → steps_of (entries_for l) ≡ l
 entries_same [] = refl
 entries_same (t ∷ l) = ap (λ (m : Whole). t ∷ m) (entries_same l)
 
+-- ---- what benches know after one more step
+row_still : (r : Row) (k : ℕ) (m : Made) (l : Whole) → among r.actors k ≡ false → IsRowOf r l → IsRowOf r (triple k m ∷ l)
+row_still r k m l other h = record {
+  since = triple k m ∷ h.since;
+  goes_on = ap (λ (n : Whole). triple k m ∷ n) h.goes_on;
+  made_is = step_passed (among r.actors) (triple k m) h.since other ∙ h.made_is;
+}
+
+row_grown : (r : Row) (k : ℕ) (m : Made) (l : Whole) → among r.actors k ≡ true → IsRowOf r l → IsRowOf (row_with k m r) (triple k m ∷ l)
+row_grown r k m l its h = record {
+  since = triple k m ∷ h.since;
+  goes_on = ap (λ (n : Whole). triple k m ∷ n) h.goes_on;
+  made_is = step_taken (among r.actors) (triple k m) h.since its ∙ ap (λ (n : Whole). triple k m ∷ n) h.made_is;
+}
+
+-- of nobody whom they name
+rows_still : (rs : List Row) (k : ℕ) (m : Made) (l : Whole) → ((x : View) → HasRow rs k x → ⊥) → AreRowsOf rs l → AreRowsOf rs (triple k m ∷ l)
+rows_still [] k m l none h = tt
+rows_still (r ∷ rs) k m l none h = (at (among r.actors k) refl, rows_still rs k m l (λ x has. none x (inr has)) h.1)
+  where
+    at : (b : Bool) → among r.actors k ≡ b → IsRowOf r (triple k m ∷ l)
+    at true its = absurd (none (made_in r k) (inl (its, refl)))
+    at false other = row_still r k m l other h.0
+
+names_rows : (u : Roster) (k : ℕ) (x : View) → HasRow (rows_in u) k x → Names u k x
+names_rows (Unused n) k x h = absurd h
+names_rows (Listed ps) k x h = absurd h
+names_rows (Settled es ps) k x h = absurd h
+names_rows (Benched rs) k x h = h
+
+apart_with : (k : ℕ) (v : View) (m : Made) (u : Roster) → SitsFor u k v → Apart (with_made k m u)
+apart_with k v m u (inl is) = subst (λ (y : Roster). Apart (with_made k m y)) (sym is) ((λ x none. none), tt)
+apart_with k v m u (inr (r, is, sits)) = subst (λ (y : Roster). Apart (with_made k m y)) (sym is) tt
+
+seen_with : (l : Whole) (k : ℕ) (v : View) (m : Made) (u : Roster) → SitsFor u k v → SawOf l (with_made k m u)
+seen_with l k v m u (inl is) = subst (λ (y : Roster). SawOf l (with_made k m y)) (sym is) (nothing_seen l)
+seen_with l k v m u (inr (r, is, sits)) = subst (λ (y : Roster). SawOf l (with_made k m y)) (sym is) (nothing_seen l)
+
+rows_with_step : (l : Whole) (k : ℕ) (v : View) (m : Made) (u : Roster) → SitsFor u k v → RowsOf l u → RowsOf (triple k m ∷ l) (with_made k m u)
+rows_with_step l k v m u (inl is) h = subst (λ (y : Roster). RowsOf (triple k m ∷ l) (with_made k m y)) (sym is) tt
+rows_with_step l k v m u (inr (r, is, sits)) h = subst (λ (y : Roster). RowsOf (triple k m ∷ l) (with_made k m y)) (sym is) (row_grown r k m l sits.0 (subst (RowsOf l) is h).0, tt)
+
 -- ---- a step
-pub adds : (f : Profile) (slots id k : ℕ) (v : View) (s : Step) (i : ℕ) (g : ℕ → ℕ) → IsAskedOf f k v s → i ≡ index_of f.pages (target s) → ((n : ℕ) → new_value (epoch_of v) s n ≡ g n)
-    → Allows (Holds f) slots id (alone k v, []) i g (IsAdded f k v s)
-adds f slots id k v s i g asked at same t h len there fits =
+pub adds : (f : Profile) (slots id k : ℕ) (v : View) (s : Step) (i : ℕ) (g : ℕ → ℕ) (u : Roster) → SitsFor u k v → IsAskedOf f k v s → i ≡ index_of f.pages (target s) → ((n : ℕ) → new_value (epoch_of v) s n ≡ g n)
+    → Allows (Holds f) slots id (u, []) i g (IsAdded f u k v s)
+adds f slots id k v s i g u sits asked at same t h len there fits =
     let n : ℕ = slice_index t.words i in
     let l : Whole = h.whole in
-    let here = h.named id (alone k v) k v there (inl (refl, refl)) in
+    let here = h.named id u k v there (sits_named u k v sits) in
     let its_part : part k l ≡ v = h.one_order k ∙ here.1 in
     let of_word = target_of_region f v s asked.of_region asked.allowed in
     let found : n ≡ slice_index t.words (index_of f.pages (target s)) = ap (slice_index t.words) at in
     let read : n ≡ word_after l (target s) = found ∙ h.words_are.values (target s) of_word in (
-      alone k (made s n ∷ v),
+      with_made k (made s n) u,
       keeps,
       tt,
       record {
@@ -139,43 +240,46 @@ adds f slots id k v s i g asked at same t h len there fits =
         own = with_step k (made s n) h.own;
         one_order = one_order_next l h.own k (made s n) h.one_order;
         seat_number = h.seat_number;
-        named = grows h.own h.seat_number t.views id k v (made s n) h.named here.0 here.1;
-        apart = know_set Apart t.views id (alone k (made s n ∷ v)) h.apart ((λ x none. none), tt);
-        seen = know_set (SawOf (triple k (made s n) ∷ l)) t.views id (alone k (made s n ∷ v)) (λ j u e. seen_longer (seen_in u) l (triple k (made s n)) (h.seen j u e)) (nothing_seen (triple k (made s n) ∷ l));
+        named = grows h.own h.seat_number t.views id k v (made s n) u h.named there sits;
+        apart = know_set Apart t.views id (with_made k (made s n) u) h.apart (apart_with k v (made s n) u sits);
+        seen = know_set (SawOf (triple k (made s n) ∷ l)) t.views id (with_made k (made s n) u) (λ j y e. seen_longer (looks_in y) l (triple k (made s n)) (h.seen j y e)) (seen_with (triple k (made s n) ∷ l) k v (made s n) u sits);
+        rows = know_others (RowsOf l) (RowsOf (triple k (made s n) ∷ l)) t.views id (with_made k (made s n) u)
+            (λ j y ne e. rows_still (rows_in y) k (made s n) l (λ x has. ne (sym (h.named j y k x e (names_rows y k x has)).0 ∙ here.0)))
+            h.rows (rows_with_step l k v (made s n) u sits (h.rows id u there));
       },
       (refl, agrees_next f l k v s n asked.valid h.legal its_part asked.of_region read),
     )
 
 -- A load of the word is the step where that would leave the word as it is. Otherwise words, views and list stay.
-pub adds_if_kept : (f : Profile) (slots id k : ℕ) (v : View) (s : Step) (i : ℕ) → IsAskedOf f k v s → i ≡ index_of f.pages (target s)
-    → Allows (Holds f) slots id (alone k v, []) i (λ n. n) (IsAddedIfKept f k v s)
-adds_if_kept f slots id k v s i asked at t h len there fits = ⊎_elim kept changed (cases_eq (new_value (epoch_of v) s n) n)
+pub adds_if_kept : (f : Profile) (slots id k : ℕ) (v : View) (s : Step) (i : ℕ) (u : Roster) → SitsFor u k v → IsAskedOf f k v s → i ≡ index_of f.pages (target s)
+    → Allows (Holds f) slots id (u, []) i (λ n. n) (IsAddedIfKept f u k v s)
+adds_if_kept f slots id k v s i u sits asked at t h len there fits = ⊎_elim kept changed (cases_eq (new_value (epoch_of v) s n) n)
   where
     n : ℕ
     n = slice_index t.words i
 
     Answer : Type 0
-    Answer = (w : Roster) × (a : Act (Unit {0})) × Valid t.homes [] a × Holds f (stepped t i n id [] w a) × IsAddedIfKept f k v s n (w, carried_after [] a)
+    Answer = (w : Roster) × (a : Act (Unit {0})) × Valid t.homes [] a × Holds f (stepped t i n id [] w a) × IsAddedIfKept f u k v s n (w, carried_after [] a)
 
     kept : new_value (epoch_of v) s n ≡ n → Answer
     kept e =
-        let added = adds f slots id k v s i (new_value (epoch_of v) s) asked at (λ x. refl) t h len there fits in
+        let added = adds f slots id k v s i (new_value (epoch_of v) s) u sits asked at (λ x. refl) t h len there fits in
         (added.0, added.1, added.2, subst (λ x. Holds f (stepped t i x id [] added.0 added.1)) e added.3, record { kept = λ same. added.4; changed = λ ne. absurd (ne e) })
 
     changed : new_value (epoch_of v) s n ≢ n → Answer
     changed ne = (
-      alone k v,
+      u,
       keeps,
       tt,
-      subst (λ (z : List ℕ × List Roster). AreAfterOneList f z.0 z.1) (λ j. (sym (set-get_or t.words i 0) j, sym (set_again t.views id (alone k v) there) j)) h,
+      subst (λ (z : List ℕ × List Roster). AreAfterOneList f z.0 z.1) (λ j. (sym (set-get_or t.words i 0) j, sym (set_again t.views id u there) j)) h,
       record { kept = λ same. absurd (ne same); changed = λ other. refl },
     )
 
 -- ---- a call: what the table asks of it, at a seat and a key that are known by equations
-at_call : {f key : Profile} {here there : TableId} {m slots id k : ℕ} {v : View} {i : ℕ} {me : Me (Unit {0}) Roster} (s : Step) (g : ℕ → ℕ) (told : ℕ → Me (Unit {0}) Roster → Type 0)
+at_call : {f key : Profile} {here there : TableId} {m slots id k : ℕ} {v : View} {i : ℕ} {u : Roster} {me : Me (Unit {0}) Roster} (s : Step) (g : ℕ → ℕ) (told : ℕ → Me (Unit {0}) Roster → Type 0)
     → (here ≡ there) × (key ≡ f) × (m ≡ words_of f.pages f.heaps)
-    → me ≡ (alone k v, []) → IsAskedOf f k v s → i ≡ index_of f.pages (target s)
-    → Allows (Holds f) slots id (alone k v, []) i g told
+    → me ≡ (u, []) → IsAskedOf f k v s → i ≡ index_of f.pages (target s)
+    → Allows (Holds f) slots id (u, []) i g told
     → (here ≡ there) × (i < m) × Allows (Holds key) slots id me i g told
 at_call {f = f} {m = m} {slots = slots} {id = id} {v = v} {i = i} s g told place seated asked at allows =
     let low : index_of f.pages (target s) < words_of f.pages f.heaps = index_lt f.pages f.heaps (target s) (target_of_region f v s asked.of_region asked.allowed) in
@@ -183,35 +287,35 @@ at_call {f = f} {m = m} {slots = slots} {id = id} {v = v} {i = i} s g told place
     (place.0, below, subst (λ (z : Profile × Me (Unit {0}) Roster). Allows (Holds z.0) slots id z.1 i g told) (λ j. (sym place.1 j, sym seated j)) allows)
 
 -- for the step that a match has shown to be s
-pub may_make : {f key : Profile} {here there : TableId} {m slots id k : ℕ} {v : View} {chosen step s : Step} {i e : ℕ} {g : ℕ → ℕ} {me : Me (Unit {0}) Roster}
+pub may_make : {f key : Profile} {here there : TableId} {m slots id k : ℕ} {v : View} {u : Roster} {chosen step s : Step} {i e : ℕ} {g : ℕ → ℕ} {me : Me (Unit {0}) Roster}
     → (here ≡ there) × (key ≡ f) × (m ≡ words_of f.pages f.heaps)
-    → (me ≡ (alone k v, [])) × (chosen ≡ step) × IsAskedOf f k v step
+    → (me ≡ (u, [])) × SitsFor u k v × (chosen ≡ step) × IsAskedOf f k v step
     → (i ≡ index_of f.pages (target step)) × (e ≡ epoch_of v)
     → step ≡ s → ((n : ℕ) → new_value e s n ≡ g n)
-    → (here ≡ there) × (i < m) × Allows (Holds key) slots id me i g (IsAdded f k v chosen)
-may_make {f = f} {slots = slots} {id = id} {k = k} {v = v} {chosen = chosen} {s = s} {i = i} {g = g} place asked at shown new =
-    let ok : IsAskedOf f k v s = subst (IsAskedOf f k v) shown asked.2 in
+    → (here ≡ there) × (i < m) × Allows (Holds key) slots id me i g (IsAdded f u k v chosen)
+may_make {f = f} {slots = slots} {id = id} {k = k} {v = v} {u = u} {chosen = chosen} {s = s} {i = i} {g = g} place asked at shown new =
+    let ok : IsAskedOf f k v s = subst (IsAskedOf f k v) shown asked.3 in
     let at' : i ≡ index_of f.pages (target s) = at.0 ∙ ap (λ x. index_of f.pages (target x)) shown in
     let new' : (n : ℕ) → new_value (epoch_of v) s n ≡ g n = λ n. ap (λ x. new_value x s n) (sym at.1) ∙ new n in
-    at_call s g (IsAdded f k v chosen) place asked.0 ok at' (subst (λ x. Allows (Holds f) slots id (alone k v, []) i g (IsAdded f k v x)) (sym (asked.1 ∙ shown)) (adds f slots id k v s i g ok at' new'))
+    at_call s g (IsAdded f u k v chosen) place asked.0 ok at' (subst (λ x. Allows (Holds f) slots id (u, []) i g (IsAdded f u k v x)) (sym (asked.2 ∙ shown)) (adds f slots id k v s i g u asked.1 ok at' new'))
 
 -- for a load that is the step only where that would leave the word as it is
-pub may_look_first : {f key : Profile} {here there : TableId} {m slots id k : ℕ} {v : View} {s : Step} {i : ℕ} {me : Me (Unit {0}) Roster}
+pub may_look_first : {f key : Profile} {here there : TableId} {m slots id k : ℕ} {v : View} {u : Roster} {s : Step} {i : ℕ} {me : Me (Unit {0}) Roster}
     → (here ≡ there) × (key ≡ f) × (m ≡ words_of f.pages f.heaps)
-    → (me ≡ (alone k v, [])) × IsAskedOf f k v s
+    → (me ≡ (u, [])) × SitsFor u k v × IsAskedOf f k v s
     → i ≡ index_of f.pages (target s)
-    → (here ≡ there) × (i < m) × Allows (Holds key) slots id me i (λ n. n) (IsAddedIfKept f k v s)
-may_look_first {f = f} {slots = slots} {id = id} {k = k} {v = v} {s = s} {i = i} place asked at = at_call s (λ n. n) (IsAddedIfKept f k v s) place asked.0 asked.1 at (adds_if_kept f slots id k v s i asked.1 at)
+    → (here ≡ there) × (i < m) × Allows (Holds key) slots id me i (λ n. n) (IsAddedIfKept f u k v s)
+may_look_first {f = f} {slots = slots} {id = id} {k = k} {v = v} {u = u} {s = s} {i = i} place asked at = at_call s (λ n. n) (IsAddedIfKept f u k v s) place asked.0 asked.2 at (adds_if_kept f slots id k v s i u asked.1 asked.2 at)
 
 -- for the exchange after such a load, which found a word that the change alters
-pub may_change : {f key : Profile} {here there : TableId} {m slots id k : ℕ} {v : View} {s : Step} {i n : ℕ} {g : ℕ → ℕ} {me : Me (Unit {0}) Roster} (change : Change)
+pub may_change : {f key : Profile} {here there : TableId} {m slots id k : ℕ} {v : View} {u : Roster} {s : Step} {i n : ℕ} {g : ℕ → ℕ} {me : Me (Unit {0}) Roster} (change : Change)
     → (here ≡ there) × (key ≡ f) × (m ≡ words_of f.pages f.heaps)
-    → IsAskedOf f k v s → i ≡ index_of f.pages (target s) → Makes v s change
-    → IsAddedIfKept f k v s n me → changed change n ≢ n
+    → SitsFor u k v × IsAskedOf f k v s → i ≡ index_of f.pages (target s) → Makes v s change
+    → IsAddedIfKept f u k v s n me → changed change n ≢ n
     → ((x : ℕ) → changed change x ≡ g x)
-    → (here ≡ there) × (i < m) × Allows (Holds key) slots id me i g (IsAdded f k v s)
+    → (here ≡ there) × (i < m) × Allows (Holds key) slots id me i g (IsAdded f u k v s)
 may_change {n = n} change place asked at makes looked altered new =
-    may_make place (looked.changed (λ same. altered (sym (makes n) ∙ same)), refl, asked) (at, refl) refl (λ x. makes x ∙ new x)
+    may_make place (looked.changed (λ same. altered (sym (makes n) ∙ same)), asked.0, refl, asked.1) (at, refl) refl (λ x. makes x ∙ new x)
 
 pub either_if : (b : Bool) (x y : ℕ) → (if b then x else y) ≡ either b x y
 either_if true x y = refl
@@ -224,11 +328,11 @@ at_end [] a b (suc j) e = absurd (some-ne-none b (sym e))
 at_end (x ∷ xs) a b zero e = inl e
 at_end (x ∷ xs) a b (suc j) e = ⊎_elim inl (λ (t : (j ≡ length xs) × (a ≡ b)). inr (ap suc t.0, t.1)) (at_end xs a b j e)
 
-know_end : (P : Roster → Type 0) (rosters : List Roster) (w : Roster) → AllKnow P rosters → P w → AllKnow P (rosters ++ w ∷ [])
+pub know_end : (P : Roster → Type 0) (rosters : List Roster) (w : Roster) → AllKnow P rosters → P w → AllKnow P (rosters ++ w ∷ [])
 know_end P rosters w all new i u e = ⊎_elim (λ was. all i u was) (λ (t : (i ≡ length rosters) × (w ≡ u)). subst P t.1 new) (at_end rosters w u i e)
 
 -- .. of the one whose view is cut in two, and of the new one
-know_split : (P : Roster → Type 0) (rosters : List Roster) (id : ℕ) (left right : Roster) → AllKnow P rosters → P left → P right → AllKnow P (set rosters id left ++ right ∷ [])
+pub know_split : (P : Roster → Type 0) (rosters : List Roster) (id : ℕ) (left right : Roster) → AllKnow P rosters → P left → P right → AllKnow P (set rosters id left ++ right ∷ [])
 know_split P rosters id left right all one other = know_end P (set rosters id left) right (know_set P rosters id left all one) other
 
 pub splits : (f : Profile) (id n : ℕ) → Splits (Holds f) id (Unused n) (all_but_first (Unused n)) (first_alone (Unused n))
@@ -242,6 +346,7 @@ splits f id n s h there = record {
   named = all_named;
   apart = know_split Apart s.views id (Unused (n + 1)) (alone n []) h.apart tt ((λ x none. none), tt);
   seen = know_split (SawOf h.whole) s.views id (Unused (n + 1)) (alone n []) h.seen (nothing_seen h.whole) (nothing_seen h.whole);
+  rows = know_split (RowsOf h.whole) s.views id (Unused (n + 1)) (alone n []) h.rows tt tt;
 }
   where
     k : ℕ
@@ -285,6 +390,34 @@ has_either [] qs k v h = inr h
 has_either (p ∷ ps) qs k v (inl h) = inl (inl h)
 has_either (p ∷ ps) qs k v (inr h) = ⊎_elim (λ t. inl (inr t)) inr (has_either ps qs k v h)
 
+pub row_either : (rs qs : List Row) (k : ℕ) (v : View) → HasRow (rs ++ qs) k v → HasRow rs k v ⊎ HasRow qs k v
+row_either [] qs k v h = inr h
+row_either (r ∷ rs) qs k v (inl h) = inl (inl h)
+row_either (r ∷ rs) qs k v (inr h) = ⊎_elim (λ t. inl (inr t)) inr (row_either rs qs k v h)
+
+entries_are : (k : ℕ) (v : View) → steps_of (entries_by k v) ≡ triples k v
+entries_are k [] = refl
+entries_are k (m ∷ v) = ap (λ (l : Whole). triple k m ∷ l) (entries_are k v)
+
+among_one : (n k : ℕ) → among (n ∷ []) k ≡ true → n ≡ k
+among_one n k h = at (n == k) refl h
+  where
+    at : (b : Bool) → (n == k) ≡ b → (if n == k then true else false) ≡ true → n ≡ k
+    at true e h = eqb-true n k e
+    at false e h = absurd (true≢false (sym h ∙ ap (λ (b : Bool). if b then true else false) e))
+
+-- a row of one actor names it alone
+row_of_one : (p : Part) (k : ℕ) (v : View) → SitsIn (record { actors = p.actor ∷ []; made = entries_by p.actor p.made; base = [] }) k v → (p.actor ≡ k) × (p.made ≡ v)
+row_of_one p k v sits =
+    let its : p.actor ≡ k = among_one p.actor k sits.0 in
+    let all : part p.actor (steps_of (entries_by p.actor p.made) ++ []) ≡ p.made = ap (λ (l : Whole). part p.actor (l ++ [])) (entries_are p.actor p.made) ∙ (part_of_own p.actor p.made [] ∙ append-nil p.made) in
+    (its, sym all ∙ (ap (λ (j : ℕ). part j (steps_of (entries_by p.actor p.made) ++ [])) its ∙ sits.1))
+
+rows_of_parts : (ps : List Part) (k : ℕ) (v : View) → HasRow (rows_of ps) k v → HasPart ps k v
+rows_of_parts [] k v h = absurd h
+rows_of_parts (p ∷ ps) k v (inl h) = inl (row_of_one p k v h)
+rows_of_parts (p ∷ ps) k v (inr h) = inr (rows_of_parts ps k v h)
+
 names_either : (u w : Roster) (k : ℕ) (v : View) → Names (joined u w) k v → Names u k v ⊎ Names w k v
 names_either (Listed ps) (Listed qs) k v h = ⊎_elim inr inl (has_either qs ps k v h)
 names_either (Listed ps) (Unused n) k v h = inl h
@@ -292,6 +425,13 @@ names_either (Listed ps) (Settled es qs) k v h = ⊎_elim inr inl (has_either qs
 names_either (Settled es ps) (Listed qs) k v h = ⊎_elim inr inl (has_either qs ps k v h)
 names_either (Settled es ps) (Unused n) k v h = inl h
 names_either (Settled es ps) (Settled ds qs) k v h = ⊎_elim inr inl (has_either qs ps k v h)
+names_either (Listed ps) (Benched qs) k v h = inl h
+names_either (Settled es ps) (Benched qs) k v h = inl h
+names_either (Benched rs) (Listed ps) k v h = ⊎_elim (λ t. inr (rows_of_parts ps k v t)) inl (row_either (rows_of ps) rs k v h)
+names_either (Benched rs) (Benched qs) k v h = ⊎_elim inr inl (row_either qs rs k v h)
+names_either (Benched rs) (Unused n) k v h = inl h
+names_either (Benched rs) (Settled es ps) k v h = inl h
+names_either (Unused n) (Benched qs) k v h = inr h
 names_either (Unused n) (Listed qs) k v h = inr h
 names_either (Unused n) (Unused m) k v h = inr h
 names_either (Unused n) (Settled es qs) k v h = inr h
@@ -314,6 +454,13 @@ apart_joined (Listed ps) (Settled es qs) one other never = apart_both qs ps othe
 apart_joined (Settled es ps) (Listed qs) one other never = apart_both qs ps other one never
 apart_joined (Settled es ps) (Unused n) one other never = one
 apart_joined (Settled es ps) (Settled ds qs) one other never = apart_both qs ps other one never
+apart_joined (Listed ps) (Benched qs) one other never = one
+apart_joined (Settled es ps) (Benched qs) one other never = one
+apart_joined (Benched rs) (Listed ps) one other never = tt
+apart_joined (Benched rs) (Benched qs) one other never = tt
+apart_joined (Benched rs) (Unused n) one other never = tt
+apart_joined (Benched rs) (Settled es ps) one other never = tt
+apart_joined (Unused n) (Benched qs) one other never = tt
 apart_joined (Unused n) (Listed qs) one other never = other
 apart_joined (Unused n) (Unused m) one other never = other
 apart_joined (Unused n) (Settled es qs) one other never = other
@@ -324,10 +471,56 @@ seen_joined (Listed ps) (Unused n) l one other = one
 seen_joined (Listed ps) (Settled es qs) l one other = one
 seen_joined (Settled es ps) (Listed qs) l one other = one
 seen_joined (Settled es ps) (Unused n) l one other = one
-seen_joined (Settled es ps) (Settled ds qs) l one other = one
+seen_joined (Settled es ps) (Settled ds qs) l one other = seen_both es ds l one other
+seen_joined (Listed ps) (Benched qs) l one other = one
+seen_joined (Settled es ps) (Benched qs) l one other = one
+seen_joined (Benched rs) (Listed ps) l one other = one
+seen_joined (Benched rs) (Benched qs) l one other = one
+seen_joined (Benched rs) (Unused n) l one other = one
+seen_joined (Benched rs) (Settled es ps) l one other = one
+seen_joined (Unused n) (Benched qs) l one other = other
 seen_joined (Unused n) (Listed qs) l one other = other
 seen_joined (Unused n) (Unused m) l one other = other
 seen_joined (Unused n) (Settled es qs) l one other = other
+
+rows_both : (qs rs : List Row) (l : Whole) → AreRowsOf qs l → AreRowsOf rs l → AreRowsOf (qs ++ rs) l
+rows_both [] rs l one other = other
+rows_both (q ∷ qs) rs l one other = (one.0, rows_both qs rs l one.1 other)
+
+just_one : (n j : ℕ) → among (n ∷ []) j ≡ (j == n)
+just_one n j = ⊎_elim
+    (λ (e : j ≡ n). ap (λ (b : Bool). if b then true else false) (eq-eqb n j (sym e)) ∙ sym (eq-eqb j n e))
+    (λ (ne : j ≢ n). ap (λ (b : Bool). if b then true else false) (ne_eqb n j (λ e. ne (sym e))) ∙ sym (ne_eqb j n ne))
+    (cases_eq j n)
+
+rows_of_theirs : (ps : List Part) (l : Whole) → ((k : ℕ) (v : View) → HasPart ps k v → part k l ≡ v) → AreRowsOf (rows_of ps) l
+rows_of_theirs [] l own = tt
+rows_of_theirs (p ∷ ps) l own = (
+  record {
+    since = l;
+    goes_on = sym (append-nil l);
+    made_is = steps_by_one (among (p.actor ∷ [])) p.actor l (just_one p.actor) ∙ (ap (triples p.actor) (own p.actor p.made (inl (refl, refl))) ∙ sym (entries_are p.actor p.made));
+  },
+  rows_of_theirs ps l (λ k v has. own k v (inr has)),
+)
+
+rows_joined : (u w : Roster) (l : Whole) → RowsOf l u → RowsOf l w → ((k : ℕ) (v : View) → Names w k v → part k l ≡ v) → RowsOf l (joined u w)
+rows_joined (Listed ps) (Listed qs) l one other own = tt
+rows_joined (Listed ps) (Unused n) l one other own = tt
+rows_joined (Listed ps) (Settled es qs) l one other own = tt
+rows_joined (Listed ps) (Benched qs) l one other own = tt
+rows_joined (Settled es ps) (Listed qs) l one other own = tt
+rows_joined (Settled es ps) (Unused n) l one other own = tt
+rows_joined (Settled es ps) (Settled ds qs) l one other own = tt
+rows_joined (Settled es ps) (Benched qs) l one other own = tt
+rows_joined (Benched rs) (Listed ps) l one other own = rows_both (rows_of ps) rs l (rows_of_theirs ps l own) one
+rows_joined (Benched rs) (Benched qs) l one other own = rows_both qs rs l other one
+rows_joined (Benched rs) (Unused n) l one other own = one
+rows_joined (Benched rs) (Settled es ps) l one other own = one
+rows_joined (Unused n) (Listed qs) l one other own = other
+rows_joined (Unused n) (Unused m) l one other own = other
+rows_joined (Unused n) (Settled es qs) l one other own = other
+rows_joined (Unused n) (Benched qs) l one other own = other
 
 pub joins : (f : Profile) (id : ℕ) (u : Roster) (other : ℕ) (w : Roster) → Joins (Holds f) id u other w (joined u w) (Listed [])
 joins f id u other w s h here apart there = record {
@@ -340,6 +533,7 @@ joins f id u other w s h here apart there = record {
   named = all_named;
   apart = know_set Apart (set s.views id (joined u w)) other (Listed []) (know_set Apart s.views id (joined u w) h.apart (apart_joined u w (h.apart id u here) (h.apart other w theirs) at_one)) tt;
   seen = know_set (SawOf h.whole) (set s.views id (joined u w)) other (Listed []) (know_set (SawOf h.whole) s.views id (joined u w) h.seen (seen_joined u w h.whole (h.seen id u here) (h.seen other w theirs))) (nothing_seen h.whole);
+  rows = know_set (RowsOf h.whole) (set s.views id (joined u w)) other (Listed []) (know_set (RowsOf h.whole) s.views id (joined u w) h.rows (rows_joined u w h.whole (h.rows id u here) (h.rows other w theirs) own_part)) tt;
 }
   where
     seat_number : ℕ → ℕ
@@ -347,6 +541,9 @@ joins f id u other w s h here apart there = record {
 
     theirs : get_elem? s.views other ≡ some w
     theirs = ⊎_elim (λ (t : (other ≡ id) × (joined u w ≡ w)). absurd (apart t.0)) (λ (t : (other ≢ id) × (get_elem? s.views other ≡ some w)). t.1) (at_set s.views id other (joined u w) w there)
+
+    own_part : (k : ℕ) (v : View) → Names w k v → part k h.whole ≡ v
+    own_part k v named = h.one_order k ∙ (h.named other w k v theirs named).1
 
     at_one : AtOne u w
     at_one k v x mine its = apart (sym (h.named other w k x theirs its).0 ∙ (h.named id u k v here mine).0)
@@ -380,44 +577,67 @@ has_right (p ∷ ps) qs k v h = inr (has_right ps qs k v h)
 kept : (u : Roster) (n : ℕ) (w : View) (k : ℕ) (v : View) → HasPart (parts_in u) k v → HasPart (parts_in (joined u (alone n w))) k v
 kept (Unused m) n w k v h = absurd h
 kept (Listed ps) n w k v h = has_right (record { actor = n; made = w } ∷ []) ps k v h
+kept (Benched rs) n w k v h = absurd h
 kept (Settled es ps) n w k v h = has_right (record { actor = n; made = w } ∷ []) ps k v h
 
-taken_in : (u : Roster) (n : ℕ) (w : View) → HasPart (parts_in (joined u (alone n w))) n w
-taken_in (Unused m) n w = inl (refl, refl)
-taken_in (Listed ps) n w = inl (refl, refl)
-taken_in (Settled es ps) n w = inl (refl, refl)
+taken_in : (u : Roster) (n : ℕ) (w : View) → IsNoBench u → HasPart (parts_in (joined u (alone n w))) n w
+taken_in (Unused m) n w list = inl (refl, refl)
+taken_in (Listed ps) n w list = inl (refl, refl)
+taken_in (Settled es ps) n w list = inl (refl, refl)
+taken_in (Benched rs) n w list = absurd list
+
+pub no_bench_still : (u : Roster) (n : ℕ) (w : View) → IsNoBench u → IsNoBench (joined u (alone n w))
+no_bench_still (Unused m) n w list = tt
+no_bench_still (Listed ps) n w list = tt
+no_bench_still (Settled es ps) n w list = tt
+no_bench_still (Benched rs) n w list = list
 
 -- what it saw stays
 pub seen_still : (u : Roster) (n : ℕ) (w : View) → seen_in (joined u (alone n w)) ≡ seen_in u
 seen_still (Unused m) n w = refl
 seen_still (Listed ps) n w = refl
 seen_still (Settled es ps) n w = refl
+seen_still (Benched rs) n w = refl
 
 -- one more pass
-pub takes_in : (u : Roster) (me : Me (Unit {0}) Roster) (p : SharedPass) (rest : List SharedPass) → me ≡ (joined u p.place.seat.me.0, []) → All (IsNamed u) rest → All (IsNamed me.0) (p ∷ rest)
-takes_in u me p rest is h =
+pub takes_in : (u : Roster) (me : Me (Unit {0}) Roster) (p : SharedPass) (rest : List SharedPass) → IsNoBench u → me ≡ (joined u p.place.seat.me.0, []) → All (IsNamed u) rest → All (IsNamed me.0) (p ∷ rest)
+takes_in u me p rest list is h =
     let n = p.place.actor in
     let w = view_of p in
     let now : me.0 ≡ joined u (alone n w) = ap (λ m. m.0) is ∙ ap (λ m. joined u m.0) p.place.named in
     subst (λ (k : Roster). All (IsNamed k) (p ∷ rest)) (sym now)
-    (All-cons (IsNamed (joined u (alone n w))) p rest (taken_in u n w) (All-weaker (IsNamed u) (IsNamed (joined u (alone n w))) (λ q. kept u n w q.place.actor (view_of q)) rest h))
+    (All-cons (IsNamed (joined u (alone n w))) p rest (taken_in u n w list) (All-weaker (IsNamed u) (IsNamed (joined u (alone n w))) (λ q. kept u n w q.place.actor (view_of q)) rest h))
 
 names_shown : (u : Roster) (k : ℕ) (v : View) → HasPart (parts_in u) k v → Names u k v
 names_shown (Unused n) k v h = absurd h
 names_shown (Listed ps) k v h = h
 names_shown (Settled es ps) k v h = h
+names_shown (Benched rs) k v h = absurd h
 
-pub ends : (f key : Profile) (id : ℕ) (u : Roster) (words : List ℕ) (slots : List (Unit {0})) (passes : List SharedPass) → key ≡ f → Final (Seen (Holds key) id u) words slots → All (IsNamed u) passes
-    → (after : AreWordsOf f passes (λ w. slice_index words (index_of f.pages w))) × IsEarlier (seen_in u) after.whole
-ends f key id u words slots passes known (s, h, words_are, homes, there) named = subst (λ (g : Profile). (after : AreWordsOf g passes (λ w. slice_index words (index_of g.pages w))) × IsEarlier (seen_in u) after.whole) known (
+-- what the region was left with shows of each pass
+pub ends : (f : Profile) (u : Roster) (state : State) (passes : List SharedPass) → (left : IsLeftBy f u state) → All (IsNamed u) passes
+    → (after : AreWordsOf f passes (word_in state)) × IsEarlier (seen_in u) after.whole
+ends f u state passes left named = (
   record {
-    whole = h.0.whole;
-    legal = h.0.legal;
-    parts = All-weaker (IsNamed u) (λ (p : SharedPass). part (seat_of p).actor h.0.whole ≡ view_of p) (λ p has. h.0.one_order p.place.actor ∙ (h.0.named id u p.place.actor (view_of p) h.1 (names_shown u _ _ has)).1) passes named;
-    words = λ w hw. ap (λ (ws : List ℕ). slice_index ws (index_of key.pages w)) (sym words_are) ∙ h.0.words_are.values w hw;
+    whole = left.holds.whole;
+    legal = left.holds.legal;
+    parts = All-weaker (IsNamed u) (λ (p : SharedPass). part (seat_of p).actor left.holds.whole ≡ view_of p) (λ p has. left.holds.one_order p.place.actor ∙ (left.holds.named left.seat u p.place.actor (view_of p) left.there (names_shown u _ _ has)).1) passes named;
+    words = λ w hw. left.values w hw ∙ left.holds.words_are.values w hw;
   },
-  h.0.seen id u h.1,
+  first_earlier (looks_in u) left.holds.whole (left.holds.seen left.seat u left.there),
 )
+
+-- the table at the end held the rule
+pub left_by : (f key : Profile) (id : ℕ) (u : Roster) (words : List ℕ) (slots : List (Unit {0})) (state : State) → key ≡ f → Final (Seen (Holds key) id u) words slots → profile_of state ≡ f → ((w : Word) → IsWordOf f w → word_in state w ≡ slice_index words (index_of f.pages w)) → IsLeftBy f u state
+left_by f key id u words slots state known (s, h, words_are, homes, there) profiled values = record {
+  profile = profiled;
+  words = words;
+  rosters = s.views;
+  holds = subst (λ (z : Profile × List ℕ). AreAfterOneList z.0 z.1 s.views) (λ i. (known i, words_are i)) h.0;
+  seat = id;
+  there = h.1;
+  values = values;
+}
 
 pub read_at : (xs : List ℕ) (i a d : ℕ) → get_elem? xs i ≡ some a → get_or xs i d ≡ a
 read_at [] i a d e = absurd (some-ne-none a (sym e))
@@ -438,6 +658,7 @@ arrives f slots i s h len fits = (
     named = named;
     apart = know_end Apart s.views (Settled [] []) h.apart tt;
     seen = know_end (SawOf h.whole) s.views (Settled [] []) h.seen (nothing_seen h.whole);
+    rows = know_end (RowsOf h.whole) s.views (Settled [] []) h.rows tt;
   },
   refl,
 )
@@ -462,6 +683,7 @@ splits_all f id u s h there = record {
   named = all_named;
   apart = know_split Apart s.views id (Listed []) u h.apart tt (h.apart id u there);
   seen = know_split (SawOf h.whole) s.views id (Listed []) u h.seen (nothing_seen h.whole) (h.seen id u there);
+  rows = know_split (RowsOf h.whole) s.views id (Listed []) u h.rows tt (h.rows id u there);
 }
   where
     k : ℕ
@@ -490,7 +712,7 @@ splits_all f id u s h there = record {
         (at_end (set s.views id (Listed [])) u y i e)
 
 -- ---- the actor that was taken in last gets one
-pub splits_last : (f : Profile) (id : ℕ) (es : List Entry) (p : Part) (ps : List Part) → Splits (Holds f) id (Settled es (p ∷ ps)) (Settled es ps) (Listed (p ∷ []))
+pub splits_last : (f : Profile) (id : ℕ) (es : List (List Entry)) (p : Part) (ps : List Part) → Splits (Holds f) id (Settled es (p ∷ ps)) (Settled es ps) (Listed (p ∷ []))
 splits_last f id es p ps s h there = record {
   whole = h.whole;
   legal = h.legal;
@@ -501,6 +723,7 @@ splits_last f id es p ps s h there = record {
   named = all_named;
   apart = know_split Apart s.views id (Settled es ps) (Listed (p ∷ [])) h.apart (h.apart id (Settled es (p ∷ ps)) there).1 ((λ x none. none), tt);
   seen = know_split (SawOf h.whole) s.views id (Settled es ps) (Listed (p ∷ [])) h.seen (h.seen id (Settled es (p ∷ ps)) there) (nothing_seen h.whole);
+  rows = know_split (RowsOf h.whole) s.views id (Settled es ps) (Listed (p ∷ [])) h.rows tt tt;
 }
   where
     k : ℕ
@@ -538,7 +761,7 @@ splits_last f id es p ps s h there = record {
         (at_end (set s.views id (Settled es ps)) (Listed (p ∷ [])) y i e)
 
 -- ---- a look
-pub looks : (f : Profile) (slots id i : ℕ) (es : List Entry) (ps : List Part) → Allows (Holds f) slots id (Settled es ps, []) i (λ n. n) (λ n me. SeesAll (Settled es ps, []) me)
+pub looks : (f : Profile) (slots id i : ℕ) (es : List (List Entry)) (ps : List Part) → Allows (Holds f) slots id (Settled es ps, []) i (λ n. n) (λ n me. SeesAll (Settled es ps, []) me)
 looks f slots id i es ps s h len there fits = (
   now,
   keeps,
@@ -552,18 +775,19 @@ looks f slots id i es ps s h len there fits = (
     seat_number = h.seat_number;
     named = named;
     apart = know_set Apart s.views id now h.apart (h.apart id (Settled es ps) there);
-    seen = know_set (SawOf h.whole) s.views id now h.seen ([], sym (entries_same h.whole));
+    seen = know_set (SawOf h.whole) s.views id now h.seen (([], sym (entries_same h.whole)), tt);
+    rows = know_set (RowsOf h.whole) s.views id now h.rows tt;
   },
   record {
     entries = entries_for h.whole;
     after_is = refl;
-    earlier = subst (λ (l : Whole). IsEarlier (steps_of es) l) (sym (entries_same h.whole)) (h.seen id (Settled es ps) there);
+    earlier = subst (λ (l : Whole). AreEarlier es l) (sym (entries_same h.whole)) (h.seen id (Settled es ps) there);
     all = λ k v has. ap (λ (l : Whole). part k l) (entries_same h.whole) ∙ (h.one_order k ∙ (h.named id (Settled es ps) k v there has).1);
   },
 )
   where
     now : Roster
-    now = Settled (entries_for h.whole) ps
+    now = Settled (entries_for h.whole ∷ []) ps
 
     named : AreNamed h.own h.seat_number (set s.views id now)
     named j u k v e its = ⊎_elim

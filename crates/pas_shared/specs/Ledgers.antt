@@ -3,8 +3,9 @@ use Rattle.std.specs.Prelude.{◌≡◌, List, []}
 use Rattle.pas_profile.specs.declared.profile.Profile.{Profile}
 use Rattle.pas_steps.specs.Lists.{Whole}
 use Rattle.pas_steps.specs.declared.state.State.{State}
-use Rattle.pas_shared.specs.Ruled.{parts_in, seen_in, IsEarlier}
+use Rattle.pas_shared.specs.Ruled.{parts_in, looks_in, seen_in, IsEarlier}
 use Rattle.pas_shared.specs.Passes.{view_of, EndsWith}
+use Rattle.pas_shared.specs.declared.rule.Entry.{Entry}
 use Rattle.pas_shared.specs.declared.rule.Part.{Part}
 use Rattle.pas_shared.specs.declared.rule.Roster.TheVariants.{Listed}
 use Rattle.pas_shared.specs.declared.region.SharedRegion.{SharedRegion}
@@ -15,6 +16,10 @@ use Rattle.pas_shared.specs.declared.ledger.Rest.{Rest}
 -- the steps that stand in it, the newest first
 abbrev pub so_far : Ledger → Whole
 so_far ledger = seen_in ledger.seat.me.0
+
+-- those that stood in it at each look, and in another one that it took in
+abbrev pub looks_of : Ledger → List (List Entry)
+looks_of ledger = looks_in ledger.seat.me.0
 
 -- the actors that it took in, the last one first, each with its own steps
 abbrev pub actors_in : Ledger → List Part

@@ -5,7 +5,7 @@ ghost use Rattle.pas_profile.specs.Layouts.{index_of, words_of};
 ghost use Rattle.pas_steps.specs.Effects.{target};
 ghost use Rattle.pas_steps.specs.Ranges.{IsRanged};
 ghost use Rattle.pas_steps.specs.Views.{epoch_of};
-ghost use Rattle.pas_shared.specs.Ruled.{alone, changed, IsAdded, IsAskedOf, Makes};
+ghost use Rattle.pas_shared.specs.Ruled.{changed, IsAdded, IsAskedOf, Makes, SitsFor};
 
 use crate::rule::{AddsIfKept, AddsStep, Chosen, TableSeat, TableWords};
 use pas_bits::page_vector::page_mask;
@@ -37,21 +37,22 @@ impl Change {
     }
 }
 
-/// Makes the step on the word at its place, for an actor that knows this epoch, and answers the word's value before.
+/// Makes the step on the word at its place, for this actor, which knows this epoch, and answers the word's value before.
 #[inline(always)]
 pub(crate) fn exchange<C: Chosen>(
     words: &TableWords,
     seat: &mut TableSeat,
+    _actor: u8,
     at: usize,
     epoch: u64,
     step: Step,
 ) -> u64
     requires place { (seat.old.table_id ≡ words.now.table_id) × (words.now.key ≡ C.profile) × (words.now.table_id.words ≡ words_of C.profile.pages C.profile.heaps) }
-    requires step { (seat.old.me ≡ (alone C.actor C.view, [])) × (C.step ≡ step) × IsAskedOf C.profile C.actor C.view step }
+    requires step { (seat.old.me ≡ (C.place, [])) × SitsFor C.place C.actor C.view × (C.step ≡ step) × IsAskedOf C.profile C.actor C.view step }
     requires at { (at ≡ index_of C.profile.pages (target step)) × (epoch ≡ epoch_of C.view) }
     requires ranged { IsRanged step }
     ensures seat { seat.new.table_id ≡ seat.old.table_id }
-    ensures step { IsAdded C.profile C.actor C.view step result seat.new.me }
+    ensures step { IsAdded C.profile C.place C.actor C.view step result seat.new.me }
 {
     match step {
         Step::Look { word: _ } => words.load::<AddsStep<C>>(seat, at),
@@ -108,11 +109,11 @@ fn make_change<C: Chosen>(
     change: Change,
 ) -> u64
     requires place { (seat.old.table_id ≡ words.now.table_id) × (words.now.key ≡ C.profile) × (words.now.table_id.words ≡ words_of C.profile.pages C.profile.heaps) }
-    requires step { (seat.old.me ≡ (alone C.actor C.view, [])) × IsAskedOf C.profile C.actor C.view C.step }
+    requires step { (seat.old.me ≡ (C.place, [])) × SitsFor C.place C.actor C.view × IsAskedOf C.profile C.actor C.view C.step }
     requires at { at ≡ index_of C.profile.pages (target C.step) }
     requires makes { Makes C.view C.step change }
     ensures seat { seat.new.table_id ≡ seat.old.table_id }
-    ensures step { IsAdded C.profile C.actor C.view C.step result seat.new.me }
+    ensures step { IsAdded C.profile C.place C.actor C.view C.step result seat.new.me }
 {
     let found = words.load::<AddsIfKept<C>>(seat, at);
     if change.of(found) == found {

@@ -1,7 +1,7 @@
 //! A ledger of the steps of all actors. Whoever has all passes in hand, so that nobody sits at the region, can settle it: then it has all steps so far, and those that
 //! come later stand behind them.
 ghost use Rattle.std.specs.Prelude.{◌≡◌, []};
-ghost use Rattle.pas_shared.specs.Ruled.{entries_in, parts_in};
+ghost use Rattle.pas_shared.specs.Ruled.{looks_in, parts_in};
 ghost use Rattle.pas_shared.specs.declared.rule.Roster.TheVariants.{Settled};
 
 use crate::pass::{ActorSeat, SharedPass};
@@ -14,7 +14,7 @@ use pas_region::Notes;
 #[derive(Drop)]
 pub struct Ledger {
     pub(crate) seat: TableSeat,
-    ghost settled: { seat.me ≡ (Settled (entries_in seat.me.0) (parts_in seat.me.0), []) },
+    ghost settled: { seat.me ≡ (Settled (looks_in seat.me.0) (parts_in seat.me.0), []) },
 }
 
 /// What is left of a pass while a ledger has its actor.
@@ -28,9 +28,9 @@ pub struct Rest {
 
 impl Ledger {
     ghost use Rattle.std.specs.Prelude.{List, ◌∷◌};
-    ghost use Rattle.pas_shared.specs.Ruled.{HasAllOf, IsEarlier};
+    ghost use Rattle.pas_shared.specs.Ruled.{HasAllOf, IsEarlier, AreEarlier};
     ghost use Rattle.pas_shared.specs.Passes.{IsPassOf};
-    ghost use Rattle.pas_shared.specs.Ledgers.{so_far, actors_in, part_of, IsLedgerOf, IsSameLedger, IsRestOf};
+    ghost use Rattle.pas_shared.specs.Ledgers.{so_far, looks_of, actors_in, part_of, IsLedgerOf, IsSameLedger, IsRestOf};
     ghost use Rattle.pas_shared.specs.declared.rule.Part.{Part};
     ghost use Rattle.pas_shared.specs.declared.pass.SharedPass.{SharedPass as ThePass};
 
@@ -78,6 +78,7 @@ impl Ledger {
         ensures of { IsLedgerOf region.now self.new }
         ensures actors { actors_in self.new ≡ actors_in self.old }
         ensures earlier { IsEarlier (so_far self.old) (so_far self.new) }
+        ensures each { AreEarlier (looks_of self.old) (so_far self.new) }
         ensures all { HasAllOf (actors_in self.old) (so_far self.new) }
     {
         region.table.shared.load::<Looks>(&mut self.seat, 0);

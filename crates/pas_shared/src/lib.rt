@@ -4,6 +4,8 @@
 //! rise again. The words are always those after one legal list of steps whose part of each actor is that actor's own list.
 #![tactic(auto)]
 
+pub mod bench;
+pub mod bench_desk;
 pub mod closing;
 pub mod desk;
 mod exchange;
@@ -11,11 +13,17 @@ pub mod laws;
 pub mod ledger;
 pub mod opening;
 pub mod pass;
+pub mod past;
+pub mod past_laws;
 pub mod region;
 pub mod rule;
 
-pub use closing::{close, close_settled};
+pub use bench::{Bench, Member};
+pub use bench_desk::{BenchDesk, BenchHome};
+pub use closing::{close, close_after, close_bench, close_settled};
 pub use desk::SharedDesk;
 pub use ledger::{Ledger, Rest};
 pub use pass::SharedPass;
+pub use past::Past;
 pub use region::{Opening, SharedRegion};
+pub use rule::Picks;

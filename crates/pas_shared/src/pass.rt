@@ -52,7 +52,14 @@ impl ActorSeat {
         ensures agrees { Agrees region.now.profile (view_in self.old.seat.me.0) step result }
     {
         let at = region.layout.index(target(step));
-        exchange::<Brand>(&region.table.shared, &mut self.seat, at, epoch, step)
+        exchange::<Brand>(
+            &region.table.shared,
+            &mut self.seat,
+            self.actor,
+            at,
+            epoch,
+            step,
+        )
     }
 }
 

@@ -18,8 +18,16 @@ pub struct Entry {
     pub made: Made,
 }
 
-/// The actors that a seat names: all from one on, none of which made a step, or those of a list. A ledger's seat saw the first steps of the list of all, too, the newest
-/// of them first. No value of it is made.
+/// Actors that sit together, and the steps that they made since the list of all was `base`, in the order in which they made them, the newest first. No value of
+/// it is made.
+pub struct Row {
+    pub actors: LinkedList<u64>,
+    pub made: LinkedList<Entry>,
+    pub base: LinkedList<Entry>,
+}
+
+/// The actors that a seat names: all from one on, none of which made a step, those of a list, or those of the rows of a bench. A ledger's seat saw the first steps of the
+/// list of all, too, the newest of them first, at each of some looks. No value of it is made.
 pub enum Roster {
     Unused {
         from: u64,
@@ -28,8 +36,11 @@ pub enum Roster {
         parts: LinkedList<Part>,
     },
     Settled {
-        seen: LinkedList<Entry>,
+        seen: LinkedList<LinkedList<Entry>>,
         parts: LinkedList<Part>,
+    },
+    Benched {
+        rows: LinkedList<Row>,
     },
 }
 
@@ -55,8 +66,11 @@ pub(crate) trait Chosen {
     ghost use Rattle.pas_profile.specs.declared.profile.Profile.{Profile};
     ghost use Rattle.pas_steps.specs.declared.step.Step.{Step};
     ghost use Rattle.pas_steps.specs.Views.{View};
+    ghost use Rattle.pas_shared.specs.declared.rule.Roster.{Roster};
 
     ghost profile: { Profile };
+
+    ghost place: { Roster };
 
     ghost actor: { ℕ };
 
@@ -68,8 +82,11 @@ pub(crate) trait Chosen {
 impl Chosen for Brand {
     ghost use Rattle.std.specs.Prelude.{[]};
     ghost use Rattle.pas_steps.specs.declared.step.Step.TheVariants.{Tick};
+    ghost use Rattle.pas_shared.specs.declared.rule.Roster.TheVariants.{Unused};
 
     ghost profile = { record { pages = 0; threads = 0; age = 0; heaps = 0; shared = 0; classes = 0 } };
+
+    ghost place = { Unused 0 };
 
     ghost actor = { 0 };
 
@@ -86,7 +103,7 @@ pub(crate) struct AddsStep<C> {
 impl<C: Chosen> Play<(), Roster> for AddsStep<C> {
     ghost use Rattle.pas_shared.specs.Ruled.{IsAdded};
 
-    ghost then = { λ _ _ n me. IsAdded C.profile C.actor C.view C.step n me };
+    ghost then = { λ _ _ n me. IsAdded C.profile C.place C.actor C.view C.step n me };
 }
 
 /// A step that is added to the list where it leaves the word that it found as it is. Otherwise nothing is.
@@ -97,7 +114,7 @@ pub(crate) struct AddsIfKept<C> {
 impl<C: Chosen> Play<(), Roster> for AddsIfKept<C> {
     ghost use Rattle.pas_shared.specs.Ruled.{IsAddedIfKept};
 
-    ghost then = { λ _ _ n me. IsAddedIfKept C.profile C.actor C.view C.step n me };
+    ghost then = { λ _ _ n me. IsAddedIfKept C.profile C.place C.actor C.view C.step n me };
 }
 
 /// The first of the actors that made no step gets a seat of its own.
@@ -163,4 +180,48 @@ impl Play<(), Roster> for Looks {
     ghost use Rattle.pas_shared.specs.Ruled.{SeesAll};
 
     ghost then = { λ _ before _ after. SeesAll before after };
+}
+
+/// Which actors of a bench go to another. Each call chooses it.
+pub trait Picks {
+    ghost use Rattle.std.specs.Prelude.{ℕ, Bool};
+
+    ghost picked: { ℕ → Bool };
+}
+
+impl Picks for Brand {
+    ghost use Rattle.std.specs.Prelude.{false};
+
+    ghost picked = { λ _. false };
+}
+
+/// A new seat with one row, in which nobody sits.
+pub(crate) struct Stands;
+
+impl Play<(), Roster> for Stands {
+    ghost use Rattle.pas_shared.specs.Ruled.{IsEmptyBench};
+
+    ghost then = { λ _ _ _ me. IsEmptyBench me };
+}
+
+/// The picked actors of a bench get a bench of their own.
+pub(crate) struct SplitsPicked<C> {
+    marker: PhantomData<C>,
+}
+
+impl<C: Picks> Split<Roster> for SplitsPicked<C> {
+    ghost use Rattle.pas_shared.specs.Ruled.{left_of, picked_of};
+
+    ghost left = { left_of C.picked };
+
+    ghost right = { picked_of C.picked };
+}
+
+/// A look of a bench at all steps so far.
+pub(crate) struct Settles;
+
+impl Play<(), Roster> for Settles {
+    ghost use Rattle.pas_shared.specs.Ruled.{SettlesAll};
+
+    ghost then = { λ _ before _ after. SettlesAll before after };
 }

@@ -38,7 +38,10 @@ const GUARDED: &[u8] =
 /// A guarded request in a region that has no room for a guard.
 const GUARDED_ALONE: &[u8] = b"pas 4 pages 2 threads 1 heaps 1 age 2\nguard 1\na 1 1 0 4096 16\n";
 
-const CASES: [Case; 35] = [
+/// A guarded request in a region that has room for it.
+const GUARDED_FIRST: &[u8] = b"pas 4 pages 8 threads 1 heaps 1 age 2\nguard 1\na 1 1 0 4096 16\n";
+
+const CASES: [Case; 37] = [
     (
         FREED,
         b"1 deed page 1 heap 0 class 32\n1 back page 1\n1 give 0x00001000 turn 0 room 32 heap 0\nclose\n1 freed 0x00001000 turn 0 epoch 0\nreport\npage 1 heap 0 class 32 live 0 free 256 stamp 0 marks backed+offered+hinted\ntotal deeds 1 backed 1 live 0 given 1 ended 1\n",
@@ -233,6 +236,18 @@ const CASES: [Case; 35] = [
         GUARDED_ALONE,
         b"2 deed page 1 heap 0 large\n2 back page 1\n2 give 0x00001000 turn 0 room 4096 heap 0\n2 guarded 0 2 name 1\n",
         Verdict::No(4),
+    ),
+    // A keeper's block on the first page may come after the lines before it, but no page stands below it, so no line may follow.
+    (
+        GUARDED_FIRST,
+        b"2 deed page 1 heap 0 large\n2 deed page 2 heap 0 large\n2 back page 1\n2 give 0x00001000 turn 0 room 4096 heap 0\nclose\n",
+        Verdict::No(5),
+    ),
+    // .. nor one on the last page.
+    (
+        GUARDED_FIRST,
+        b"2 deed page 7 heap 0 large\n2 deed page 8 heap 0 large\n2 back page 8\n2 give 0x00008000 turn 0 room 4096 heap 0\n2 guarded 7 9 name 1\n",
+        Verdict::No(5),
     ),
 ];
 

@@ -2,6 +2,8 @@
 ghost use Rattle.std.specs.Prelude.{◌≡◌, ◌≢◌, ◌+◌, ◌≤◌, ◌⊎◌, ℕ, List, [], Some, IfOk, length};
 ghost use Rattle.pas_io.specs.Inputs.{Takes};
 ghost use Rattle.pas_io.specs.Told.{Tells};
+ghost use Rattle.pas_io.specs.Reached.{StopsAtEnd};
+ghost use Rattle.pas_io.specs.declared.reach.Reach.TheVariants as Reach;
 ghost use Rattle.pas_top.specs.Outputs.{most_bytes};
 ghost use Rattle.pas_top.specs.Judgements.{IsJudgement, judgement_status, judgement_text, verdict_text};
 ghost use Rattle.pas_top.specs.Checked.{EndsCheck};
@@ -73,6 +75,8 @@ pub(crate) fn check_input<S: Source, K: Sink>(alloc: Global, source: &mut S, sin
     ensures ends { EndsCheck (S.rest source.old) (S.rest source.new) (S.faults source.old) (S.faults source.new) (K.held sink.old) (K.held sink.new) (K.faults sink.old) (K.faults sink.new) result }
     ensures taken { (bytes : List ℕ) → S.rest source.old ≡ Some bytes → Takes bytes (S.rest source.new) (most_bytes + 1) }
     ensures ended { (bytes : List ℕ) → S.rest source.old ≡ Some bytes → (result ≡ 0) ⊎ (result ≡ 1) ⊎ (result ≡ 8) → S.rest source.new ≡ Some [] }
+    ensures stops { S.reach source.old ≡ Reach.Within → StopsAtEnd (S.reach source.new) }
+    ensures read_up { S.reach source.old ≡ Reach.Within → (result ≡ 0) ⊎ (result ≡ 1) ⊎ (result ≡ 8) → S.reach source.new ≡ Reach.AtEnd }
     ensures source_sound { result ≢ 3 → S.faults source.new ≡ S.faults source.old }
     ensures unheard { (result ≡ 3) ⊎ (result ≡ 5) → sink.new ≡ sink.old }
 {

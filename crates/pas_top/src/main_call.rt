@@ -2,6 +2,8 @@
 ghost use Rattle.std.specs.Prelude.{◌≡◌, ◌≢◌, ◌+◌, ◌<◌, ◌≤◌, ◌⊎◌, ℕ, List, [], Some, Ok, Err, length};
 ghost use Rattle.pas_io.specs.Inputs.{Takes};
 ghost use Rattle.pas_io.specs.Told.{Rose};
+ghost use Rattle.pas_io.specs.Reached.{StopsAtEnd};
+ghost use Rattle.pas_io.specs.declared.reach.Reach.TheVariants as Reach;
 ghost use Rattle.pas_trace.specs.Plans.{IsPlanOf, parsed};
 ghost use Rattle.pas_trace.specs.declared.plan.Plan.{Plan};
 ghost use Rattle.pas_trace.specs.declared.fault.TraceFault.{TraceFault};
@@ -14,13 +16,13 @@ ghost use Rattle.pas_top.specs.Outputs.{most_bytes, texts_of, IsReplaying, IsChe
 
 use crate::generating::generate;
 use crate::judging::check_input;
-use crate::outcome::{outcome_of, tell_outcome};
+use crate::outcome::{replayed_in_order, replayed_on_threads, tell_outcome};
 use crate::{TOO_LONG, USAGE};
 use pas_io::whole::{Input, Stop, read_all};
 use pas_io::{Sink, Source};
 use pas_profile::limits::MOST_BYTES;
 use pas_telling::tell;
-use pas_words::{Call, Misread, call_of};
+use pas_words::{Call, Manner, Misread, call_of};
 use std::alloc::Global;
 use std::sync::Wait;
 use std::thread::Threads;
@@ -42,7 +44,11 @@ use std::thread::Threads;
 /// - 8: the transcript isn't accepted, and the number of the first line that isn't allowed was written.
 ///
 /// A fault of the source brings 3 and one of the sink 4: with any other status its count is as before. With `order`, `run` and `check` the source was read to
-/// its end where the status is 0, 1 or 8. At most 16,777,217 bytes are taken from it. Nothing is written before the replay or the check has ended. Linear in the input and in the output.
+/// its end where the status is 0, 1 or 8. No read is made after one that met the end, and at most 16,777,217 bytes are taken. Nothing is written before the replay or
+/// the check has ended.
+///
+/// Of its calls `replayed_on_threads` alone may wait, so with other words than `run` each of them returns. Time, of which no clause speaks, is at most in proportion to
+/// operations times pages, beside the bytes that come in and go out.
 pub fn pas_main<R: Threads + Wait + Sync, S: Source, K: Sink>(
     rt: &R,
     alloc: Global,
@@ -67,6 +73,9 @@ pub fn pas_main<R: Threads + Wait + Sync, S: Source, K: Sink>(
     ensures sink_sound { result ≢ 4 → K.faults sink.new ≡ K.faults sink.old }
     ensures ended { ReadsInput (texts_of words.now) → (bytes : List ℕ) → S.rest source.old ≡ Some bytes
         → (result ≡ 0) ⊎ (result ≡ 1) ⊎ (result ≡ 8) → S.rest source.new ≡ Some [] }
+    ensures stops { S.reach source.old ≡ Reach.Within → StopsAtEnd (S.reach source.new) }
+    ensures read_up { ReadsInput (texts_of words.now) → S.reach source.old ≡ Reach.Within
+        → (result ≡ 0) ⊎ (result ≡ 1) ⊎ (result ≡ 8) → S.reach source.new ≡ Reach.AtEnd }
 
     // Each cause brings its status, but for a fault of the source or the sink, and where the program is out of memory.
     ensures too_long { ReadsInput (texts_of words.now) → (bytes : List ℕ) → S.rest source.old ≡ Some bytes → most_bytes < length bytes
@@ -101,7 +110,11 @@ pub fn pas_main<R: Threads + Wait + Sync, S: Source, K: Sink>(
         Err(Stop::Fault) => return 3,
         Err(Stop::Memory) => return 5,
     };
-    match outcome_of(rt, alloc, manner, bytes) {
+    let replayed = match manner {
+        Manner::InOrder => replayed_in_order(alloc, bytes),
+        Manner::OnThreads => replayed_on_threads(rt, alloc, bytes),
+    };
+    match replayed {
         Ok((outcome, spent)) => tell_outcome(rt, alloc, manner, sink, outcome, spent),
         Err(_) => 5,
     }

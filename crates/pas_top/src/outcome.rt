@@ -6,7 +6,6 @@ ghost use Rattle.pas_answers.specs.Replays.{phases_of, Shows};
 ghost use Rattle.pas_answers.specs.Ways.{InOrder, OnThreads};
 ghost use Rattle.pas_io.specs.Told.{Tells};
 ghost use Rattle.pas_telling.specs.Outcomes.{IsWritable, outcome_text, outcome_status};
-ghost use Rattle.pas_top.specs.Manners.{way_of};
 ghost use Rattle.pas_top.specs.Outcomes.{IsOutcome, ShowsBy};
 
 use crate::opening::{kit_of, read_for_threads};
@@ -33,7 +32,10 @@ pub(crate) struct Spent {
 
 /// Reads the bytes, lets them go, and replays the trace that they are in the order of its text. It starts no thread and waits for nobody. What the replay
 /// leaves comes beside its outcome. NoMemory comes before the replay begins, or not at all.
-fn replayed_in_order(alloc: Global, bytes: Vec<u8>) -> Result<(Outcome, Option<Spent>), NoMemory>
+pub(crate) fn replayed_in_order(
+    alloc: Global,
+    bytes: Vec<u8>,
+) -> Result<(Outcome, Option<Spent>), NoMemory>
     requires { length bytes.items ≤ 16777216 }
     ensures { IfOk result (λ told. IsOutcome InOrder bytes.items told.0) }
 {
@@ -54,7 +56,7 @@ fn replayed_in_order(alloc: Global, bytes: Vec<u8>) -> Result<(Outcome, Option<S
 }
 
 /// The same on threads. What the replay needs is made while the bytes are read.
-fn replayed_on_threads<R: Threads + Wait + Sync>(
+pub(crate) fn replayed_on_threads<R: Threads + Wait + Sync>(
     rt: &R,
     alloc: Global,
     bytes: Vec<u8>,
@@ -76,22 +78,6 @@ fn replayed_on_threads<R: Threads + Wait + Sync>(
         _rooms: rooms,
     };
     Ok((Outcome::Replayed(records, state), Some(spent)))
-}
-
-/// Reads the bytes, and replays the trace that they are in this manner.
-pub(crate) fn outcome_of<R: Threads + Wait + Sync>(
-    rt: &R,
-    alloc: Global,
-    manner: Manner,
-    bytes: Vec<u8>,
-) -> Result<(Outcome, Option<Spent>), NoMemory>
-    requires { length bytes.items ≤ 16777216 }
-    ensures { IfOk result (λ told. IsOutcome (way_of manner) bytes.items told.0) }
-{
-    match manner {
-        Manner::InOrder => replayed_in_order(alloc, bytes),
-        Manner::OnThreads => replayed_on_threads(rt, alloc, bytes),
-    }
 }
 
 /// What the bytes come to in the order of their text. What the replay leaves beside it is let go.

@@ -7,7 +7,7 @@ use Rattle.pas_answers.proofs.Reallocations.{can_move, kept, replaced, refused, 
 use Rattle.pas_answers.proofs.answering.resize.Goals as goal
 
 pub remake-requires-clause-can : goal.remake-requires-clause-can
-remake-requires-clause-can g c = can_move (cached c.args.cache.now) c.args.name 0 0 c.args.size c.args.align (g.D.Desk.spare_of c.args.desk.now) (c.requires.can 0 0)
+remake-requires-clause-can g c = can_move (cached c.args.cache.now) c.args.name 0 0 c.args.size c.args.align (g.D.Desk.spare_of c.args.desk.now) c.args.old.heap (c.requires.can 0 0)
 
 pub returns-in-Ok-Kept-clause-performs : goal.returns-in-Ok-Kept-clause-performs
 returns-in-Ok-Kept-clause-performs g c = λ n heap.

@@ -1,5 +1,6 @@
 use Rattle.std.proofs.Common.{rules, ◌-◌, Some, length, ap, ◌∙◌, arith, length-drop}
 use Rattle.std.proofs.lemmas.List.{drop-drop}
+use Rattle.pas_io.proofs.Reaching.{run_on}
 use Rattle.pas_io.proofs.Telling.{filled_more, left_more}
 use Rattle.pas_io.proofs.whole.fill.Goals as goal
 
@@ -20,5 +21,6 @@ loop-taken-preserved g c =
             left = moves.rest ∙ ap Some (drop-drop count taken told);
             front = filled_more told buffer c.read.new.buffer taken (length buffer - taken) count (search rules) before.front (search rules) moves.moved;
           };
+      reach = λ is. run_on _ _ _ count c.in_ok-count.ensures.ends (omega arith) (c.loop-taken.invariant.reach is);
       count = search rules;
     }

@@ -1,11 +1,13 @@
 use Rattle.std.proofs.Common.{◌≡◌, ◌≤◌, ◌-◌, ℕ, List, length}
 use Rattle.pas_io.specs.Inputs.{HasRead}
+use Rattle.pas_io.specs.declared.reach.Reach.TheVariants.{Within}
 use Rattle.pas_io.proofs.whole.fill.Given as goal
 
 abbrev pub invariant-loop-taken : goal.invariant-loop-taken
 invariant-loop-taken g l = record {
   within : l.taken ≤ length l.buffer;
   told : (told : List ℕ) → HasRead told (g.S.Source.rest l.fn.source) l.fn.buffer l.fn.start → HasRead told (g.S.Source.rest l.source) l.buffer l.taken;
+  reach : g.S.Source.reach l.fn.source ≡ Within → g.S.Source.reach l.source ≡ Within;
   count : g.S.Source.faults l.source ≡ g.S.Source.faults l.fn.source;
 }
 

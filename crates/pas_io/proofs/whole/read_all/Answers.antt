@@ -15,6 +15,8 @@ loop-taken-preserved g c =
       short = search rules;
       told = λ told is. c.in-Ok-fill.ensures.reads told (grown told is);
       all = λ less told is. c.in-Ok-fill.ensures.all (search rules) told (grown told is);
+      reach = λ is all. c.in-Ok-fill.ensures.goes (search rules) (c.loop-taken.invariant.reach is full);
+      ends = λ is less. c.in-Ok-fill.ensures.ends (search rules) (c.loop-taken.invariant.reach is full);
       count = search rules;
     })
 

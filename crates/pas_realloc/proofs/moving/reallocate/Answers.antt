@@ -1,5 +1,4 @@
 use Rattle.std.proofs.Common.{sym, ◌∙◌, refl}
-use Rattle.pas_trace.specs.Reasons.{cost_of_size}
 use Rattle.pas_cache.specs.Caches.{cached}
 use Rattle.pas_answers.proofs.Requests.{serves}
 use Rattle.pas_realloc.proofs.Moves.{can_serve, kept, refused, room_to_free, can_free, no_fault, replaced, in_same}
@@ -15,10 +14,10 @@ pub returns-in-Err-clause-moves : goal.returns-in-Err-clause-moves
 returns-in-Err-clause-moves g c = let r = c.in-Err.ensures.allocates in let s = serves (cached c.args.cache.now) (cached c.serve.new.self) c.args.old.heap c.args.size c.args.align r in refused _ _ _ r.found c.args.old c.args.size c.args.align (cached c.args.cache.now) (cached c.serve.new.self) c.in-Err.room (sym c.suits.ensures ∙ c.if-suits.false) r.named s
 
 pub free-requires-clause-room : goal.free-requires-clause-room
-free-requires-clause-room g c = let r = c.in-Ok.ensures.allocates in let s = serves (cached c.args.cache.now) (cached c.serve.new.self) c.args.old.heap c.args.size c.args.align r in room_to_free (cost_of_size c.args.size) (g.D.Desk.spare_of c.args.desk.now) (g.D.Desk.spare_of c.serve.new.desk) _ r.found (cached c.args.cache.now) (cached c.serve.new.self) c.in-Ok.block s c.requires.can (g.met.D.Desk.spares c.args.desk.now) (g.met.D.Desk.spares c.serve.new.desk)
+free-requires-clause-room g c = room_to_free c.args.old.heap c.args.size c.args.align (g.D.Desk.spare_of c.args.desk.now) (g.D.Desk.spare_of c.serve.new.desk) (cached c.args.cache.now) (cached c.serve.new.self) c.in-Ok.block c.in-Ok.ensures.allocates c.requires.can (g.met.D.Desk.spares c.args.desk.now) (g.met.D.Desk.spares c.serve.new.desk)
 
 pub free-requires-clause-can : goal.free-requires-clause-can
-free-requires-clause-can g c = let r = c.in-Ok.ensures.allocates in let s = serves (cached c.args.cache.now) (cached c.serve.new.self) c.args.old.heap c.args.size c.args.align r in can_free (cost_of_size c.args.size) (g.D.Desk.spare_of c.args.desk.now) _ r.found (cached c.args.cache.now) (cached c.serve.new.self) c.in-Ok.block s c.requires.can
+free-requires-clause-can g c = can_free c.args.old.heap c.args.size c.args.align (g.D.Desk.spare_of c.args.desk.now) (cached c.args.cache.now) (cached c.serve.new.self) c.in-Ok.block c.in-Ok.ensures.allocates c.requires.can
 
 pub unreachable-requires : goal.unreachable-requires
 unreachable-requires g c = let s = serves (cached c.args.cache.now) (cached c.serve.new.self) c.args.old.heap c.args.size c.args.align c.in-Ok.ensures.allocates in no_fault (g.D.Desk.standing c.serve.new.desk).seat.profile c.args.old.name c.in-Err-free._fault (in_same s c.args.old.name c.requires.region) c.in-Err-free.ensures.frees.outcome.fault_is

@@ -1,7 +1,7 @@
-use Rattle.std.proofs.Common.{◌≡◌, List, [], ◌∷◌, ◌++◌, ap, sym, ◌∙◌, append_assoc}
-use Rattle.pas_shared.specs.Ruled.{joined, seen_in, view_in}
+use Rattle.std.proofs.Common.{◌≡◌, List, [], ◌∷◌, ◌++◌, ap, sym, subst, ◌∙◌, append_assoc}
+use Rattle.pas_shared.specs.Ruled.{joined, seen_in, view_in, IsNoBench}
 use Rattle.pas_shared.specs.declared.pass.SharedPass.{SharedPass}
-use Rattle.pas_shared.proofs.Ruling.{takes_in, seen_still}
+use Rattle.pas_shared.proofs.Ruling.{takes_in, seen_still, no_bench_still}
 use Rattle.pas_shared.proofs.Pops.{last_is}
 use Rattle.pas_shared.proofs.closing.join_all.Goals as goal
 
@@ -10,15 +10,16 @@ pub loop-pass-preserved : goal.loop-pass-preserved
 loop-pass-preserved c =
     let i = c.loop-pass.invariant in
     let pass = c.in-Some.pass in
-    let of_table = last_is (λ (p : SharedPass). p.place.seat.table_id ≡ c.args.words.now.table_id) c.loop-pass.passes.items c.pop.new.self.items pass c.in-Some.ensures.items i.2 in
+    let of_table = last_is (λ (p : SharedPass). p.place.seat.table_id ≡ c.args.words.now.table_id) c.loop-pass.passes.items c.pop.new.self.items pass c.in-Some.ensures.items i.3 in
     let seat = c.loop-pass.seat.me.0 in (
       c.join.ensures.0,
       ap (λ m. m.1) c.join.ensures.1 ∙ i.1,
+      subst IsNoBench (sym (ap (λ m. m.0) c.join.ensures.1 ∙ ap (λ m. joined seat m.0) pass.place.named)) (no_bench_still seat pass.place.actor (view_in pass.place.seat.me.0) i.2),
       of_table.0,
-      ap (λ m. seen_in m.0) c.join.ensures.1 ∙ ap (λ m. seen_in (joined seat m.0)) pass.place.named ∙ seen_still seat pass.place.actor (view_in pass.place.seat.me.0) ∙ i.3,
+      ap (λ m. seen_in m.0) c.join.ensures.1 ∙ ap (λ m. seen_in (joined seat m.0)) pass.place.named ∙ seen_still seat pass.place.actor (view_in pass.place.seat.me.0) ∙ i.4,
       (
-        pass ∷ i.4.0,
-        sym (append_assoc c.pop.new.self.items (pass ∷ []) i.4.0) ∙ ap (λ (l : List SharedPass). l ++ i.4.0) (sym c.in-Some.ensures.items) ∙ i.4.1,
-        takes_in seat c.join.new.seat.me pass i.4.0 (c.join.ensures.1 ∙ ap (λ t. (joined seat pass.place.seat.me.0, t)) i.1) i.4.2,
+        pass ∷ i.5.0,
+        sym (append_assoc c.pop.new.self.items (pass ∷ []) i.5.0) ∙ ap (λ (l : List SharedPass). l ++ i.5.0) (sym c.in-Some.ensures.items) ∙ i.5.1,
+        takes_in seat c.join.new.seat.me pass i.5.0 i.2 (c.join.ensures.1 ∙ ap (λ t. (joined seat pass.place.seat.me.0, t)) i.1) i.5.2,
       ),
     )

@@ -1,7 +1,7 @@
 use Rattle.std.proofs.Common.{◌≡◌, List, ◌++◌, []}
 use Rattle.std.specs.List.{All}
 use Rattle.pas_shared.specs.declared.pass.SharedPass.{SharedPass}
-use Rattle.pas_shared.specs.Ruled.{seen_in}
+use Rattle.pas_shared.specs.Ruled.{seen_in, IsNoBench}
 use Rattle.pas_shared.specs.Passes.{IsNamed}
 use Rattle.pas_shared.proofs.closing.join_all.Given as goal
 
@@ -10,6 +10,7 @@ abbrev pub invariant-loop-pass : goal.invariant-loop-pass
 invariant-loop-pass l =
     (l.seat.table_id ≡ l.words.table_id)
     × (l.seat.me.1 ≡ [])
+    × IsNoBench l.seat.me.0
     × All (λ (p : SharedPass). p.place.seat.table_id ≡ l.words.table_id) l.passes.items
     × (seen_in l.seat.me.0 ≡ seen_in l.fn.seat.me.0)
     × ((rest : List SharedPass) × (l.passes.items ++ rest ≡ l.fn.passes.items) × All (IsNamed l.seat.me.0) rest)

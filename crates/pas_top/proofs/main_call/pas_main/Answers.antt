@@ -9,7 +9,11 @@ use Rattle.pas_top.proofs.Statuses.{cut_off, not_four, nothing_left, sound, writ
 use Rattle.pas_top.proofs.Checks.{ended_status, ended_written, ended_failed, ended_cut_off, ended_sound, ended_long, ended_mistraced, ended_judged, ended_checked}
 use Rattle.pas_top.proofs.Headline.{can_write, outcome_output, too_long_output, status_not_four}
 use Rattle.pas_top.proofs.OneText.{written_told}
+use Rattle.pas_top.proofs.Reading.{outcome_as}
+use Rattle.pas_top.specs.Outcomes.{IsOutcome}
+use Rattle.pas_top.proofs.main_call.pas_main.Given as given
 use Rattle.pas_top.proofs.main_call.pas_main.Goals as goal
+use Rattle.pas_top.proofs.main_call.pas_main.Goals.{in-InOrder, in-OnThreads}
 
 pub returns-in-Ok-Gen-clause-written : goal.returns-in-Ok-Gen-clause-written
 returns-in-Ok-Gen-clause-written g c = gen_written (texts_of c.args.words.now) _ _ _ _ _ _ _ _ _ c.generate.result
@@ -31,7 +35,21 @@ returns-in-Ok-TooLong-clause-sink_failed g c =
     (too_long_output _ _ _ asked (λ bytes told. let input = subst (IsInput most_bytes bytes) c.in-Ok-TooLong.field-0-is (c.in-Ok-TooLong.ensures.input bytes told) in input)) (λ e. omega (arith, e))
 
 pub tell_outcome-requires : goal.tell_outcome-requires
-tell_outcome-requires g c = let can = can_write (way_of c.in-Ok-Replay.manner) c.in-Ok-Whole.bytes.items c.in-Ok.outcome c.in-Ok.ensures in search (rules, can)
+tell_outcome-requires g c =
+    let is : IsOutcome (way_of c.in-Ok-Replay.manner) c.in-Ok-Whole.bytes.items c.in-Ok.outcome = elim c.match-manner.branch [
+      | in-InOrder w ↦ outcome_as _ _ _ _ _ _ _ w.in-InOrder.is w.replayed-is c.in-Ok.is w.replayed_in_order-replayed.ensures
+      | in-OnThreads w ↦ outcome_as _ _ _ _ _ _ _ w.in-OnThreads.is w.replayed-is c.in-Ok.is w.replayed_on_threads-replayed.ensures
+    ] in
+    let can = can_write (way_of c.in-Ok-Replay.manner) c.in-Ok-Whole.bytes.items c.in-Ok.outcome is in
+    search (rules, can)
+
+-- what the input came to, whichever way it was replayed
+outcome_is : (g : given.Over) (c : goal.After-tell_outcome g) → IsOutcome (way_of c.in-Ok-Replay.manner) c.in-Ok-Whole.bytes.items c.in-Ok.outcome
+outcome_is g c =
+    elim c.match-manner.branch [
+      | in-InOrder w ↦ outcome_as _ _ _ _ _ _ _ w.in-InOrder.is w.replayed-is c.in-Ok.is w.replayed_in_order-replayed.ensures
+      | in-OnThreads w ↦ outcome_as _ _ _ _ _ _ _ w.in-OnThreads.is w.replayed-is c.in-Ok.is w.replayed_on_threads-replayed.ensures
+    ]
 
 pub returns-in-Ok-clause-written : goal.returns-in-Ok-clause-written
 returns-in-Ok-clause-written g c = λ writing.
@@ -39,7 +57,7 @@ returns-in-Ok-clause-written g c = λ writing.
     written _ _ _ _ _ _ (outcome_text c.in-Ok.outcome) (outcome_status c.in-Ok.outcome) c.tell_outcome.result c.tell_outcome.ensures
     (outcome_output (texts_of c.args.words.now) (g.S.Source.rest c.args.source.now) c.in-Ok-Whole.bytes.items c.in-Ok-Replay.manner c.in-Ok.outcome asked
     (λ bytes told. let input = subst (IsInput most_bytes bytes) c.in-Ok-Whole.field-0-is (c.in-Ok-Whole.ensures.input bytes told) in input)
-    c.in-Ok.ensures)
+    (outcome_is g c))
     (not_four c.tell_outcome.result writing)
 
 pub returns-in-Ok-clause-text : goal.returns-in-Ok-clause-text
@@ -51,7 +69,7 @@ returns-in-Ok-clause-sink_failed g c =
     cut_off _ _ _ _ _ _ (outcome_text c.in-Ok.outcome) (outcome_status c.in-Ok.outcome) c.tell_outcome.result c.tell_outcome.ensures
     (outcome_output (texts_of c.args.words.now) (g.S.Source.rest c.args.source.now) c.in-Ok-Whole.bytes.items c.in-Ok-Replay.manner c.in-Ok.outcome asked
     (λ bytes told. let input = subst (IsInput most_bytes bytes) c.in-Ok-Whole.field-0-is (c.in-Ok-Whole.ensures.input bytes told) in input)
-    c.in-Ok.ensures)
+    (outcome_is g c))
     (status_not_four c.in-Ok.outcome)
 
 pub returns-in-Ok-Gen-clause-summed : goal.returns-in-Ok-Gen-clause-summed

@@ -1,8 +1,9 @@
-use Rattle.std.proofs.Common.{◌≡◌, ℕ, [], refl, sym, ap, ◌∙◌, subst}
+use Rattle.std.proofs.Common.{◌≡◌, inl, ℕ, [], ◌∷◌, refl, sym, ap, ◌∙◌, subst}
 use Rattle.pas_profile.specs.Layouts.{words_of}
 use Rattle.pas_profile.specs.declared.profile.Profile.{Profile}
 use Rattle.pas_steps.specs.Agreement.{Agrees}
-use Rattle.pas_shared.specs.Ruled.{alone, actor_in, view_in, IsAskedOf}
+use Rattle.pas_steps.specs.Desks.{made}
+use Rattle.pas_shared.specs.Ruled.{alone, actor_in, view_in, IsAskedOf, with_made}
 use Rattle.pas_shared.proofs.pass.ActorSeat.make.Goals as goal
 
 pub exchange-requires-clause-place : goal.exchange-requires-clause-place
@@ -12,7 +13,8 @@ pub exchange-requires-clause-step : goal.exchange-requires-clause-step
 exchange-requires-clause-step c =
     let stand = c.args.self.now in
     let who : actor_in stand.seat.me.0 ≡ stand.actor = ap (λ m. actor_in m.0) stand.named in (
-      subst (λ (n : ℕ). stand.seat.me ≡ (alone n (view_in stand.seat.me.0), [])) (sym who) stand.named,
+      (λ k. (stand.seat.me.0, (stand.named k).1)),
+      inl (subst (λ (n : ℕ). stand.seat.me.0 ≡ alone n (view_in stand.seat.me.0)) (sym who) (ap (λ m. m.0) stand.named)),
       refl,
       subst (λ (z : Profile × ℕ). IsAskedOf z.0 z.1 (view_in stand.seat.me.0) c.args.step) (λ k. (sym c.args.region.now.keyed.0 k, sym who k)) c.requires.step,
     )
@@ -21,12 +23,14 @@ pub invariant_of-self : goal.invariant_of-self
 invariant_of-self c =
     let stand = c.args.self.now in
     let who : actor_in stand.seat.me.0 ≡ stand.actor = ap (λ m. actor_in m.0) stand.named in
-    let grown = c.exchange.ensures.step.0 in
-    let now = ap (λ m. view_in m.0) grown in
-    record { named = grown ∙ (λ k. (alone (who k) (sym now k), [])) }
+    let m = made c.args.step c.exchange.result in
+    let grown : c.exchange.new.seat.me ≡ (alone stand.actor (m ∷ view_in stand.seat.me.0), []) = c.exchange.ensures.step.0 ∙ (λ k. (with_made (who k) m (stand.named k).0, [])) in
+    record { named = grown ∙ (λ k. (alone stand.actor (sym (ap (λ n. view_in n.0) grown) k), [])) }
 
 pub returns-clause-view : goal.returns-clause-view
-returns-clause-view c = ap (λ m. view_in m.0) c.exchange.ensures.step.0
+returns-clause-view c =
+    let stand = c.args.self.now in
+    ap (λ n. view_in n.0) c.exchange.ensures.step.0 ∙ ap (λ u. view_in (with_made (actor_in stand.seat.me.0) (made c.args.step c.exchange.result) u)) (ap (λ n. n.0) stand.named)
 
 pub returns-clause-agrees : goal.returns-clause-agrees
 returns-clause-agrees c = subst (λ (g : Profile). Agrees g (view_in c.args.self.now.seat.me.0) c.args.step c.exchange.result) c.args.region.now.keyed.0 c.exchange.ensures.step.1

@@ -1,0 +1,69 @@
+use Rattle.std.proofs.Common.{◌≡◌, inr, ℕ, [], ◌∷◌, refl, sym, ap, ◌∙◌, subst}
+use Rattle.pas_profile.specs.Layouts.{words_of, index_of}
+use Rattle.pas_profile.specs.declared.profile.Profile.{Profile}
+use Rattle.pas_steps.specs.Agreement.{Agrees}
+use Rattle.pas_steps.specs.Desks.{made}
+use Rattle.pas_steps.specs.Effects.{target}
+use Rattle.pas_steps.specs.Views.{or_zero}
+use Rattle.pas_region.specs.Noted.{AreNotesOf}
+use Rattle.pas_region.proofs.Noting.{notes_next}
+use Rattle.pas_shared.specs.Ruled.{IsAskedOf, rows_in, row_with}
+use Rattle.pas_shared.specs.Benches.{row_on, first_row, made_by}
+use Rattle.pas_shared.specs.declared.rule.Roster.TheVariants.{Benched}
+use Rattle.pas_shared.proofs.Benching.{benched_is, one_row, row_stepped, made_next, sits_as}
+use Rattle.pas_shared.proofs.bench_desk.BenchPlace.make.Goals as goal
+
+pub exchange-answer-requires-clause-place : goal.exchange-answer-requires-clause-place
+exchange-answer-requires-clause-place c = let keyed = c.args.region.now.keyed in (c.requires.of, refl, keyed.1 ∙ ap (λ (g : Profile). words_of g.pages g.heaps) (sym keyed.0))
+
+pub exchange-answer-requires-clause-step : goal.exchange-answer-requires-clause-step
+exchange-answer-requires-clause-step c =
+    let place = c.args.self.now in
+    let seat = place.bench.seat in
+    let known : place.member.profile ≡ c.args.region.now.table.shared.key = c.requires.profiled ∙ sym c.args.region.now.keyed.0 in (
+      (λ k. (seat.me.0, (place.bench.benched k).1)),
+      inr (row_on place.bench, ap (λ m. m.0) (one_row seat.me _ place.bench.benched place.one), (place.sits.among_them, refl)),
+      refl,
+      subst (λ (f : Profile). IsAskedOf f place.member.actor (made_by place.bench place.member) c.args.step) known (record { valid = place.member.valid; actor = place.member.within; of_region = c.requires.step; allowed = c.requires.allowed }),
+    )
+
+pub exchange-answer-requires-clause-at : goal.exchange-answer-requires-clause-at
+exchange-answer-requires-clause-at c =
+    let region = c.args.region.now in
+    let pages = region.laid.0 ∙ sym (ap (λ (f : Profile). f.pages) region.keyed.0) in
+    (c.index-at.ensures.value ∙ (λ i. index_of (pages i) (c.target.ensures i)), c.epoch-epoch.ensures ∙ ap or_zero c.args.self.now.sits.noted.epoch)
+
+pub invariant_of-self : goal.invariant_of-self
+invariant_of-self c =
+    let place = c.args.self.now in
+    (benched_is _ _ (row_stepped place.bench.seat.me _ place.member.actor (made c.args.step c.exchange-answer.result) _ (one_row place.bench.seat.me _ place.bench.benched place.one) c.exchange-answer.ensures.step.0), tt)
+
+pub invariant_of-self-2 : goal.invariant_of-self-2
+invariant_of-self-2 c =
+    let place = c.args.self.now in
+    let k = place.member.actor in
+    let m = made c.args.step c.exchange-answer.result in
+    let r = row_on place.bench in
+    let rows : rows_in c.exchange-answer.new.seat.me.0 ≡ row_with k m r ∷ [] = ap (λ n. rows_in n.0) (row_stepped place.bench.seat.me _ k m _ (one_row place.bench.seat.me _ place.bench.benched place.one) c.exchange-answer.ensures.step.0) in (
+      (place.member.valid, (place.member.within, tt)),
+      (
+        rows ∙ ap (λ rs. first_row rs ∷ []) (sym rows),
+        (
+          sits_as _ _ _ (ap first_row rows) (record {
+            among_them = place.sits.among_them;
+            noted = subst (λ v. AreNotesOf k v c.note.new.self) (sym (made_next r k m)) (notes_next place.member.notes c.note.new.self k c.args.step c.exchange-answer.result (made_by place.bench place.member) place.sits.noted c.note.ensures);
+          }),
+          tt,
+        ),
+      ),
+    )
+
+pub returns-clause-row : goal.returns-clause-row
+returns-clause-row c =
+    let place = c.args.self.now in
+    ap (λ n. first_row (rows_in n.0)) (row_stepped place.bench.seat.me _ place.member.actor (made c.args.step c.exchange-answer.result) _ (one_row place.bench.seat.me _ place.bench.benched place.one) c.exchange-answer.ensures.step.0)
+
+pub returns-clause-agrees : goal.returns-clause-agrees
+returns-clause-agrees c =
+    let known = c.args.region.now.keyed.0 ∙ sym c.requires.profiled in
+    subst (λ (g : Profile). Agrees g (made_by c.args.self.now.bench c.args.self.now.member) c.args.step c.exchange-answer.result) known c.exchange-answer.ensures.step.1

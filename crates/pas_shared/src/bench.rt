@@ -1,0 +1,143 @@
+//! Benches: actors that sit at one seat, and make their steps one after the other. So the seat knows the order of all of them, and not of each actor's alone.
+//!
+//! A bench is laid out empty, takes passes and other benches in, and looks: then all its actors sit in one row. It gives some of them a bench of their own, which another
+//! thread may have meanwhile.
+ghost use Rattle.std.specs.Prelude.{◌≡◌, ◌≤◌, []};
+ghost use Rattle.pas_profile.specs.Profiles.{IsValid};
+ghost use Rattle.pas_shared.specs.Ruled.{rows_in};
+ghost use Rattle.pas_shared.specs.declared.rule.Roster.TheVariants.{Benched};
+
+use crate::pass::{ActorSeat, SharedPass};
+use crate::region::SharedRegion;
+use crate::rule::{JoinsBoth, Picks, Settles, SplitsPicked, Stands, TableSeat};
+use pas_profile::{Event, Profile};
+use pas_region::Notes;
+
+/// A seat of several actors. It has no bytes.
+#[derive(Drop)]
+pub struct Bench {
+    pub(crate) seat: TableSeat,
+    ghost benched: { seat.me ≡ (Benched (rows_in seat.me.0), []) },
+}
+
+/// An actor of a bench, with what it noted of its own steps. It makes none but at a `BenchDesk`.
+#[derive(Drop)]
+pub struct Member {
+    pub(crate) actor: u8,
+    pub(crate) profile: Profile,
+    pub(crate) notes: Notes,
+    ghost valid: { IsValid profile },
+    ghost within: { actor ≤ profile.threads },
+}
+
+impl Member {
+    ghost use Rattle.pas_region.specs.Noted.{events_noted};
+    ghost use Rattle.pas_shared.specs.Benches.{seat_of_member};
+
+    /// The actor.
+    #[inline]
+    pub fn actor(&self) -> u8
+        ensures { result ≡ (seat_of_member self.now).actor }
+    {
+        self.actor
+    }
+
+    /// The profile of the region.
+    #[inline]
+    pub fn profile(&self) -> &Profile
+        ensures { result.now ≡ (seat_of_member self.now).profile }
+    {
+        &self.profile
+    }
+
+    /// All events made, the oldest first.
+    #[inline]
+    pub fn shown(&self) -> &[Event]
+        ensures { result.now ≡ events_noted self.now.notes }
+    {
+        self.notes.shown()
+    }
+}
+
+impl Bench {
+    ghost use Rattle.std.specs.Prelude.{◌∷◌, ◌++◌};
+    ghost use Rattle.pas_shared.specs.Ruled.{isnt, rows_of, rows_of_only};
+    ghost use Rattle.pas_shared.specs.Passes.{IsPassOf};
+    ghost use Rattle.pas_shared.specs.Ledgers.{part_of};
+    ghost use Rattle.pas_shared.specs.Benches.{rows_on, empty_row, IsBenchOf, IsMemberOf, HasLooked, IsFreshRow};
+
+    /// A bench of the region on which nobody sits. One load.
+    pub fn open(region: &SharedRegion) -> Bench
+        ensures of { IsBenchOf region.now result }
+        ensures rows { rows_on result ≡ empty_row ∷ [] }
+    {
+        Bench {
+            seat: region.table.shared.load_new_seat::<Stands>(0).1,
+        }
+    }
+
+    /// Seats the actor of the pass, in a row of its own. One load.
+    pub fn seat(&mut self, region: &SharedRegion, pass: SharedPass) -> Member
+        requires of { IsBenchOf region.now self.old }
+        requires pass { IsPassOf region.now pass }
+        ensures of { IsBenchOf region.now self.new }
+        ensures member { IsMemberOf pass result }
+        ensures rows { rows_on self.new ≡ rows_of (part_of pass ∷ []) ++ rows_on self.old }
+    {
+        let SharedPass {
+            place,
+            profile,
+            notes,
+        } = pass;
+        let ActorSeat { seat, actor } = place;
+        region
+            .table
+            .shared
+            .join_seat::<JoinsBoth>(&mut self.seat, seat);
+        Member {
+            actor,
+            profile,
+            notes,
+        }
+    }
+
+    /// Takes all rows of another bench in. One load.
+    pub fn take(&mut self, region: &SharedRegion, other: Bench)
+        requires of { IsBenchOf region.now self.old }
+        requires other { IsBenchOf region.now other }
+        ensures of { IsBenchOf region.now self.new }
+        ensures rows { rows_on self.new ≡ rows_on other ++ rows_on self.old }
+    {
+        let Bench { seat } = other;
+        region
+            .table
+            .shared
+            .join_seat::<JoinsBoth>(&mut self.seat, seat);
+    }
+
+    /// Writes down all steps so far, of all actors of the region. All actors of the bench sit in one row then. One load.
+    pub fn look(&mut self, region: &SharedRegion)
+        requires of { IsBenchOf region.now self.old }
+        ensures of { IsBenchOf region.now self.new }
+        ensures looked { HasLooked (rows_on self.old) (rows_on self.new) }
+    {
+        region.table.shared.load::<Settles>(&mut self.seat, 0);
+    }
+
+    /// Gives the picked ones a bench of their own, where nobody made a step since the look. One load.
+    pub fn give<C: Picks>(&mut self, region: &SharedRegion) -> Bench
+        requires of { IsBenchOf region.now self.old }
+        requires fresh { IsFreshRow (rows_on self.old) }
+        ensures of { IsBenchOf region.now self.new }
+        ensures given { IsBenchOf region.now result }
+        ensures left { rows_on self.new ≡ rows_of_only (isnt C.picked) (rows_on self.old) }
+        ensures picked { rows_on result ≡ rows_of_only C.picked (rows_on self.old) }
+    {
+        Bench {
+            seat: region
+                .table
+                .shared
+                .split_seat::<SplitsPicked<C>>(&mut self.seat),
+        }
+    }
+}

@@ -1,0 +1,83 @@
+"""The page of HTML of several policies: their figures, their curves on one scale, and the page map of each."""
+
+from __future__ import annotations
+
+import json
+from array import array
+from bisect import bisect_left
+from html import escape
+from pathlib import Path
+
+import page_section
+from figures import cell
+from run_figures import Run
+from trace_text import PAGE
+
+HERE = Path(__file__).resolve().parent
+COLUMNS = 1000
+ANSWERS = (b"give", b"kept", b"no-space", b"held", b"skipped")
+REFUSALS, WRONG_FREES = ("no_space", "held", "skipped"), ("ended", "no_block", "size_differs", "outside", "unaligned")
+# The columns of the page's table: what stands above each, its name, and what it tells.
+TABLE = [("peak", "backed_peak", "most pages with memory"),
+         ("change", "backed_peak_change", "of the peak, against the first policy"),
+         ("mean", "backed_mean", "pages with memory, over all lines"),
+         ("end", "backed_end", "pages with memory at the end"),
+         ("returned", "returned", "times that a page's memory went back"),
+         ("again", "backed_again", "times that a page got memory that had had some before"),
+         ("asked, peak", "asked_peak", "most bytes that were asked for"),
+         ("fragmentation", "fragmentation", "at the peak, the part of the pages' bytes that nobody asked for"),
+         ("refusals", "refusals", "requests that got nothing"),
+         ("wrong frees", "wrong_frees", "frees without effect"),
+         ("guards due", "guards_due", "requests that were to be guarded"),
+         ("raised", "guards_raised", "requests that were guarded")]
+
+
+class Curves:
+    """The greatest of each part of a run: its pages with memory, and the bytes that were asked for; by how many
+    requests were answered, which is what runs of one log have in common."""
+
+    def __init__(self) -> None:
+        self.requests, self.backed, self.asked, self.lines = array("I"), array("I"), array("Q"), array("I")
+
+    def see(self, run: Run) -> None:
+        """To be called where a part of the lines ends."""
+        self.requests.append(sum(run.counts[word] for word in ANSWERS))
+        self.backed.append(max(run.backed.end_part(), 0))
+        self.asked.append(max(run.blocks.asked.end_part(), 0))
+        self.lines.append(run.line)
+
+    def peak_of(self, row: dict[str, object]) -> list[object]:
+        """The most pages, the line, and the part in which it stands."""
+        line = row["backed_peak_line"]
+        return [row["backed_peak"], line, bisect_left(self.lines, line)]
+
+
+def table_of(names: list[str], rows: list[dict[str, object]]) -> str:
+    heads = "".join(f'<th title="{escape(told)}">{escape(head)}</th>' for head, _, told in TABLE)
+    lines = [f"<tr><th></th><th class='text'>policy</th>{heads}<th></th></tr>"]
+    for at, (name, row) in enumerate(zip(names, rows)):
+        sums = (("refusals", REFUSALS), ("wrong_frees", WRONG_FREES))
+        shown = row | {name: sum(row[key] for key in keys) for name, keys in sums}
+        cells = "".join(f"<td>{escape(cell(shown[key], key))}</td>" for _, key, _ in TABLE)
+        lines.append(f'<tr><td><label><input type="checkbox" checked data-run="{at}"><i></i></label></td>'
+                     f'<td class="text">{escape(name)}</td>{cells}<td><button data-map="{at}">map</button></td></tr>')
+    return "\n".join(lines)
+
+
+def page_of(log: str, names: list[str], rows: list[dict[str, object]], curves: list[Curves],
+            files: list[tuple[Path, Path]]) -> str:
+    """The whole page. All curves end at the most memory that any run had, and so do those of the maps."""
+    scale = max(int(row["backed_peak"]) for row in rows) * PAGE
+    data = {"names": names, "scale": scale, "page": PAGE,
+            "peaks": [each.peak_of(row) for each, row in zip(curves, rows)],
+            "curves": [[list(each.requests), list(each.backed), list(each.asked)] for each in curves]}
+    maps = "\n".join(
+        f'<div class="policy" id="map{at}"{" hidden" if at else ""}>\n'
+        f'{page_section.section_of(*files[at], name=name, scale=scale).markup}</div>' for at, name in enumerate(names))
+    body = (HERE / "policies.html").read_text()
+    told = {"LOG": escape(log), "TABLE": table_of(names, rows), "MAPS": maps,
+            "DATA": json.dumps(data, separators=(",", ":")).replace("<", "\\u003c")}
+    for mark, text in told.items():
+        head, _, tail = body.partition(f"@{mark}@")
+        body = head + text + tail
+    return page_section.page_of(f"Policies of {log}", body)
