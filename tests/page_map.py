@@ -136,14 +136,24 @@ def test_end(case):
 
 
 def test_marks(case):
-    """Each refusal and each wrong free is a mark, where they aren't too many; each mark has the text of its line."""
-    data, seconds = case.data, [line.split(" ", 2)[1] for line in case.lines[:case.end] if line != "close"]
+    """Each refusal and each wrong free of the lines is a mark, where they aren't too many, with the text of its line; and where phases began, ticks came,
+    passes ran and guards went up, that is told."""
+    data, first, last = case.data, case.data["first"], case.data["last"]
+    seconds = [line.split(" ", 2)[1] if line != "close" else "" for line in case.lines[:case.end]]
     said = [sum(second in words for second in seconds) for words in (REFUSALS, WRONG_FREES)]
-    check(data["allMarks"] == said and len(data["marks"]) == min(sum(said), len(data["marks"])), f"{case.name}: marks {data['allMarks']}, and not {said}")
+    inside = sum(second in REFUSALS + WRONG_FREES for second in seconds[first - 1:last])
+    check(data["allMarks"] == said and len(data["marks"]) <= inside, f"{case.name}: marks {data['allMarks']}, and not {said}")
+    check(inside > 2000 or len(data["marks"]) == inside, f"{case.name}: {len(data['marks'])} marks of {inside}")
+
+    def column_of(line):
+        return ((line - first + 1) * data["columns"] - 1) // (last - first + 1)
+
     for line, column, _, _, count, text in data["marks"]:
-        check(text.startswith(case.lines[line - 1]) and column == (line * data["columns"] - 1) // data["lines"] and count >= 1, f"{case.name}: a mark of line {line}: {text}")
-    if sum(said) <= 2000:
-        check(len(data["marks"]) == sum(said), f"{case.name}: {len(data['marks'])} marks")
+        is_right = first <= line <= last and text.startswith(case.lines[line - 1]) and column == column_of(line) and count >= 1
+        check(is_right, f"{case.name}: a mark of line {line}: {text}")
+    for name, pattern in (("phases", "phase "), ("ticks", "0 tick "), ("passes", "0 pass "), ("guards", r"\d+ guarded ")):
+        lines = [line for line in range(first, last + 1) if re.match(pattern, case.lines[line - 1])]
+        check(data["strip"][name] == [len(lines), sorted(set(map(column_of, lines)))], f"{case.name}: {name} {data['strip'][name]}, and not {lines}")
 
 
 def test_ranges(room, case):
@@ -154,6 +164,7 @@ def test_ranges(room, case):
         check([part.data[each] for each in ("first", "last", "columns", "lines")] == [first, last, last - first + 1, end], f"{word}: {part.data['first']}")
         check(part.data["peak"] == case.data["peak"] and part.data["heaps"] == case.data["heaps"], f"{word}: another peak")
         test_columns(part, 1)
+        test_marks(part)
     for word, said in (("9..3", "ends before it begins"), ("3", "no range of lines"), ("..", "no range"), ("0..4", "no range"), ("a..b", "no range")):
         made = tool(case.trace, case.transcript, "-o", room / "x.html", "--lines", word)
         check(made.returncode == 2 and said in made.stderr and not (room / "x.html").exists(), f"--lines {word}: {made.stderr}")

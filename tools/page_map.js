@@ -11,13 +11,13 @@ const COLOURS = {
   large: [[236, 186, 246], [92, 22, 132]],
 };
 const NO_DEED = [255, 255, 255], NO_MEMORY = [196, 196, 196], WENT_BACK = [120, 120, 120], EMPTY = [255, 246, 130];
+const css = colour => `rgb(${colour.join()})`;
 const GUARD = [240, 30, 140], REFUSAL = [208, 0, 0], WRONG = [0, 0, 0];
 const CURVES = [["free on pages with memory", [226, 226, 226]], ["waste: room minus asked", [240, 160, 80]], ["asked for", [60, 120, 180]]];
-const STRIP = [["phases", "#555"], ["ticks", "#287"], ["passes", "#36c"], ["guards", "rgb(240, 30, 140)"]];
+const STRIP = [["phases", "phase", "#555"], ["ticks", "tick", "#287"], ["passes", "pass", "#36c"], ["guards", "guard", css(GUARD)]];
 const [PAGE, HEAP, KIND, DEED, BACKED, BACKS, UNBACKED, UNBACKS, GUARDED, GUARDS, MOST, OUTCOMES, REPORT] = Array(13).keys();
 const [LINE, COLUMN, OF_PAGE, IS_REFUSAL, TIMES, TEXT] = Array(6).keys();
 
-const css = colour => `rgb(${colour.join()})`;
 const pixel = colour => new Uint32Array(Uint8Array.from([...colour, 255]).buffer)[0];
 const within = (value, least, most) => Math.max(least, Math.min(most, value));
 const spelled = number => number.toLocaleString("en");
@@ -255,8 +255,8 @@ class RunMap {
     const context = fresh(this.curves, LEFT + width + RIGHT, this.stripTop + (this.strip.length + this.isPageless) * ROW + 3);
     this.drawCurves(context);
     this.drawAxis(context);
-    this.strip.forEach(([name, colour], at) => this.drawStrip(context, name, colour, this.stripTop + at * ROW));
-    if (this.isPageless) write(context, "refused, of no page", LEFT - 8, this.pagelessY + 4, "right");
+    this.strip.forEach((told, at) => this.drawStrip(context, told, this.stripTop + at * ROW));
+    if (this.isPageless) write(context, "marks of no page", LEFT - 8, this.pagelessY + 4, "right");
     this.drawMarks(context, mark => !mark[OF_PAGE]);
   }
 
@@ -297,9 +297,9 @@ class RunMap {
     write(context, "line", LEFT - 36, bottom + 16, "right");
   }
 
-  drawStrip(context, name, colour, y) {
+  drawStrip(context, [name, one, colour], y) {
     const [number, columns] = this.data.strip[name], half = .5 * this.width / (this.view.to - this.view.from);
-    write(context, `${spelled(number)} ${number === 1 ? name.replace(/(ss)?es$|s$/, "$1") : name}`, LEFT - 8, y + 10, "right");
+    write(context, count(number, one, name), LEFT - 8, y + 10, "right");
     context.fillStyle = colour;
     for (const column of columns)
       if (column >= this.view.from && column < this.view.to) context.fillRect(this.x(column) + half - .5, y + 1, 1, ROW - 4);
