@@ -324,7 +324,7 @@ def test_refusals(room):
             continue
         for text in ("".join(lines[:at] + lines[at + 1:]), "".join(lines[:at] + [line, line] + lines[at + 1:]), "".join(lines[:at])):
             made = called([sys.executable, str(TOOL), *map(str, files_of(room, "spoilt", trace, text))])
-            is_right = made.returncode == 1 and re.match(r"figures: \S+spoilt.0: (line \d+: |the transcript ends)", made.stderr) and not made.stdout
+            is_right = made.returncode == 1 and re.match(r"figures: \S+spoilt.0: line \d+: ", made.stderr) and not made.stdout and "b'" not in made.stderr
             count, refused = count + 1, refused + bool(is_right)
             check(is_right, f"without or with twice {line.strip()}: {made.stderr}")
     texts = {
@@ -343,7 +343,7 @@ def test_refusals(room):
     }
     for (one, other), said in texts.items():
         made = called([sys.executable, str(TOOL), *map(str, files_of(room, "spoilt", one, other))])
-        check(made.returncode == 1 and said in made.stderr and made.stderr.count("\n") == 1, f"not '{said}': {made.stderr}")
+        check(made.returncode == 1 and said in made.stderr and made.stderr.count("\n") == 1 and "b'" not in made.stderr, f"not '{said}': {made.stderr}")
     good = files_of(room, "good", trace, transcript)
     for words, said in (((good[1],), "line 1: no header"), ((good[0],), "a trace without a transcript"), ((room, good[1]), "Is a directory"),
                         ((good[0], *good), "a trace without a transcript"), ((good[0], room / "none"), "none: No such file"),

@@ -133,7 +133,7 @@ class Run:
                 raise self.fault(self.line, "no line of a transcript of this trace", line) from None
 
     def fault(self, number: int, what: str, line: bytes = b"") -> Fault:
-        return Fault(f"{self.path}: line {number}: {what}{line and ': '}{shown(line)}")
+        return Fault(f"{self.path}: line {number}: {what}" + (f": {shown(line)}" if line else ""))
 
     def see_actor(self, words: list[bytes]) -> bool:
         """Whether an actor's line begins so, of another one than the last; or else a line ends a phase, after which any
