@@ -38,7 +38,7 @@ class Second:
             block = (words[2], words[4]) if word in ("give", "freed", "kept") else None
             if word == "give":
                 name, size, align = self.requests[words[0]].pop(0)
-                self.rooms_are_right &= room_of(self.version, max(size, 1), align)[0] == int(words[6])
+                self.rooms_are_right &= room_of(self.version, size, align).bytes == int(words[6])
                 if block not in early:
                     live[block] = size, int(words[6])
             elif word == "freed":

@@ -24,7 +24,7 @@ sys.dont_write_bytecode = True
 sys.path.insert(0, str(Path(__file__).resolve().parent))
 from page_columns import Lines
 from page_section import page_of, section_of
-from trace_requests import Fault
+from trace_lines import Fault
 from whole_file import write_whole
 
 MOST_LINES = 1_000_000_000
