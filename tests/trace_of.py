@@ -5,7 +5,7 @@ Tests tools/trace_of.py with logs that are written by hand (logs_by_hand.py): ea
 fault by the program `pas`, and by a second reading of the format (versions.py), which itself finds the faults of spoilt texts. Random logs of threads
 are replayed in as many pages as it chose, and nothing is refused; parts of them have what lived at their start and end. The room that it takes for a
 request is what the program gives. Traces at the limits of the format are cut, and said to be; on a terminal, and there alone, it tells how far it is. A
-full disk and an interrupt leave no file. Prints what was checked; the status is 1 where something was wrong.""""""
+full disk and an interrupt leave no file. Prints what was checked; the status is 1 where something was wrong."""
 
 import os
 import pathlib

@@ -10,18 +10,21 @@ docs/TOOLS.md explains each column. A text that is no trace, or no transcript of
 
 from __future__ import annotations
 
+import os
+import sys
+
+sys.dont_write_bytecode = True
+sys.path.insert(0, os.path.dirname(os.path.realpath(__file__)))
+import interrupts
+
+interrupts.end_quietly()
 import argparse
 import csv
 import json
-import os
-import sys
 from collections.abc import Iterator
 from pathlib import Path
 from typing import TextIO
 
-sys.dont_write_bytecode = True
-HERE = Path(__file__).resolve().parent
-sys.path.insert(0, str(HERE))
 from run_figures import KINDS, Gauge, Run, read_run
 from trace_lines import Fault, header_of
 from trace_text import PAGE
@@ -160,8 +163,6 @@ def main() -> None:
         sys.exit(1)
     except OSError as fault:
         sys.exit(f"figures: {fault.filename or 'standard output'}: {fault.strerror}")
-    except KeyboardInterrupt:
-        sys.exit(128 + 2)
 
 
 if __name__ == "__main__":
