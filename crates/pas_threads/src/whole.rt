@@ -122,10 +122,7 @@ pub fn on_threads_with_rooms<R: Threads + Wait + Sync, G: Gate + Sync, M: Remake
         out,
     );
     let passes = passes_of(&mut team, passes);
-    (
-        close_settled(region, ledger, passes),
-        Rooms { _team: team },
-    )
+    (close_settled(region, ledger, passes), Rooms { _team: team })
 }
 
 /// Replays the plan. In each phase the operations of each thread that has one are performed in a thread of the system, all at once, and those of the

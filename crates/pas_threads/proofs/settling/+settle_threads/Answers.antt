@@ -22,9 +22,13 @@ settle_threads-requires t c =
     let size = length-set ws at mid in
     let measure = c.decreases in (
       omega (arith, size, measure, there),
-      (c.take_in-rest.ensures.same.table ∙ c.requires.of,
-      (passes_at ws at mid c.requires.threads,
-      λ i d less. subst (λ (o : Option Keeper). IsKeeperOf c.args.region.now o) (sym (kept_at ws at i mid e d there refl (omega (arith, less, size)))) (c.requires.keepers i d (omega (arith, less, size))))),
+      (
+        c.take_in-rest.ensures.same.table ∙ c.requires.of,
+        (
+          passes_at ws at mid c.requires.threads,
+          λ i d less. subst (λ (o : Option Keeper). IsKeeperOf c.args.region.now o) (sym (kept_at ws at i mid e d there refl (omega (arith, less, size)))) (c.requires.keepers i d (omega (arith, less, size))),
+        ),
+      ),
     )
 
 pub give_back-pass-requires-clause-last : goal.give_back-pass-requires-clause-last
