@@ -2,7 +2,8 @@
 """tests/policies.py PROGRAM [--into PICTURE]
 
 Tests tools/policies with the program `pas`, on logs that are written here and on a recorded program. Each choice of values is a run, in order, and its
-figures are those that the tools give one by one; what is left out by 0 or `none` is left out; what trace_of.py says is said once. The page of HTML
+figures are those that the tools give one by one; what is left out by 0 or `none` is left out; what trace_of.py says is said once. Policies that come to
+one run are said to, and what makes no difference; the mean over requests is that of a second reading. The page of HTML
 fetches nothing and has a map for each run; all curves and maps are on one scale, that of the greatest peak, and each curve's greatest value is the
 run's. Several runs take hardly more memory than one. What can't be done is refused, and leaves no page. In a real browser each run has its curve and a
 mark at its peak, a button shows its map alone, a box hides its curve, and the pointer tells the values; without a browser that part is skipped, and
@@ -28,7 +29,8 @@ from logs import RECORD, ROOT, called, called_with, check, end_checks, free, mov
 POLICIES, FIGURES = ROOT / "tools/policies", ROOT / "tools/figures.py"
 SIZE = 1240, 1400
 # What there is beside the figures of tools/figures.py.
-MORE = {"log", "backed_peak_change"}
+MORE = {"log", "backed_peak_change", "backed_peak_overhead", "backed_mean_of_requests"}
+ANSWERS = {"give", "kept", "no-space", "held"}
 
 
 def policies(program, log, *words):
@@ -88,7 +90,9 @@ def test_choices(program, room):
             figures = {key: value for key, value in one.items() if key not in ("trace", "transcript")}
             check(figures == {key: row.get(key) for key in figures}, f"{name}: {row}, and one by one {one}")
             check(set(row) == set(figures) | MORE | {word[2:] for word in words if word.startswith("--")}, f"{name}: {sorted(row)}")
+            asked = row["asked_peak"]
             check(abs(row["backed_peak_change"] - 100 * (row["backed_peak"] - first) / first) < 0.051, f"{name}: {row['backed_peak_change']}")
+            check(abs(row["backed_peak_overhead"] - 100 * (4096 * row["backed_peak"] - asked) / asked) < 0.051, f"{name}: {row['backed_peak_overhead']}")
         text = policies(program, log, *words).stdout.splitlines()
         check([line.split("  ")[0] for line in text[1:len(names) + 1]] == names and "change" in text[0], f"{names}: {text[:3]}")
         read = list(csv.DictReader(io.StringIO(policies(program, log, *words, "--csv").stdout)))
@@ -133,6 +137,47 @@ def test_said(program, room):
     said = [line for line in made.stderr.splitlines() if "hasn't seen asked for" in line]
     check(made.returncode == 0 and len(said) == 1 and said[0].startswith("policies: age 1: "), f"what is cut: {made.stderr}")
     print("what is cut is said once")
+
+
+def mean_of_requests(transcript):
+    """By a reading of our own: the pages with memory after each line that answers a request."""
+    pages, after = set(), []
+    for words in map(str.split, transcript.read_text().split("\nreport\n")[0].splitlines()):
+        if words[1:2] == ["back"]:
+            pages.add(words[3])
+        elif words[1:2] == ["unback"]:
+            pages.discard(words[3])
+        elif words[1:2] and (words[1] in ANSWERS or words[1] == "skipped" and words[-1].isdecimal()):
+            after.append(len(pages))
+    return sum(after) / len(after)
+
+
+def test_same(program, room):
+    """Policies that come to one run are said to, have one map, and the options that make no difference are named. The mean over requests is that of a
+    reading of our own, and passes that give nothing back don't change it, though they have lines."""
+    log, page, kept = write_log(room / "same.log", waves(random.Random(6))), room / "same.html", room / "same"
+    made = policies(program, log, "--heaps", "one,site", "--age", "1,4,9", "--pages", "3000", "-o", page, "--json")
+    rows, (own, maps) = json.loads(made.stdout), read_page(page)
+    said = made.stderr.splitlines()
+    for at, heaps in enumerate(("one", "site")):
+        same = [f"policies: heaps {heaps}, age {age}: the same run as heaps {heaps}, age 1" for age in (4, 9)]
+        check(all(line in said for line in same) and own["maps"][3 * at:3 * at + 3] == [at] * 3, f"heaps {heaps}: {made.stderr} {own['maps']}")
+    check([row["age"] for row in rows] == ["1", "4", "9"] * 2 and len({row["backed_mean"] for row in rows}) == 2, f"ages without passes: {rows}")
+    check([each["name"] for each in maps] == ["heaps one, age 1", "heaps site, age 1"], f"{len(maps)} maps")
+    check(sum("makes no difference" in line for line in said) == 1 and any("--age makes no difference" in line for line in said), made.stderr)
+    words = ["--pages", "3000", "--pass", "0,25", "--keep", kept]
+    made = policies(program, log, *words, "--json")
+    none, some = json.loads(made.stdout)
+    check("passes without ticks give nothing back" in made.stderr and "makes no difference" not in made.stderr, f"passes alone: {made.stderr}")
+    check(none["backed_mean"] != some["backed_mean"] and some["returned"] == 0 < some["passes"], f"passes alone: {none} {some}")
+    check(none["backed_mean_of_requests"] == some["backed_mean_of_requests"], f"passes alone: {none['backed_mean_of_requests']}, {some}")
+    made = policies(program, log, *words, "--tick", "10", "--age", "1,9", "--json")
+    told, read = ([row["backed_mean_of_requests"] for row in json.loads(made.stdout)], [mean_of_requests(kept / f"{at}.transcript") for at in range(4)])
+    check(len(told) == 4 and all(abs(one - other) < 0.051 for one, other in zip(told, read)) and len(set(told)) == 3, f"means: {told}, and {read}")
+    check("age 9" in made.stderr and "makes no difference" not in made.stderr and "without ticks" not in made.stderr, f"with ticks: {made.stderr}")
+    tables = [line.split("  ")[0] for line in policies(program, log, *words, "--all").stdout.splitlines()]
+    check(tables[0] == "Policies" and [line in tables for line in ("Pages", "Bytes", "Requests and frees")] == [True] * 3, f"--all: {tables}")
+    print("policies that come to one run, and means over requests")
 
 
 def test_refusals(program, room):
@@ -260,6 +305,7 @@ def main():
         test_choices(program, room)
         test_options(program, room)
         test_said(program, room)
+        test_same(program, room)
         test_refusals(program, room)
         page, rows = test_page(program, room)
         if browser := find_browser():
