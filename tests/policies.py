@@ -136,6 +136,10 @@ def test_said(program, room):
     made = policies(program, log, "--version", "4", "--age", "1,2,3")
     said = [line for line in made.stderr.splitlines() if "hasn't seen asked for" in line]
     check(made.returncode == 0 and len(said) == 1 and said[0].startswith("policies: age 1: "), f"what is cut: {made.stderr}")
+    check("operation" not in made.stderr and "the blocks fill" not in made.stderr, f"what is said of each trace: {made.stderr}")
+    log = write_log(room / "large.log", [request(1, at << 24, 1 << 20) for at in range(1, 90)])
+    made = policies(program, log, "--heaps", "one,size")
+    check("warning: what lives passes the region" in made.stderr, f"a region that is too small: {made.stderr}")
     print("what is cut is said once")
 
 
@@ -175,6 +179,9 @@ def test_same(program, room):
     told, read = ([row["backed_mean_of_requests"] for row in json.loads(made.stdout)], [mean_of_requests(kept / f"{at}.transcript") for at in range(4)])
     check(len(told) == 4 and all(abs(one - other) < 0.051 for one, other in zip(told, read)) and len(set(told)) == 3, f"means: {told}, and {read}")
     check("age 9" in made.stderr and "makes no difference" not in made.stderr and "without ticks" not in made.stderr, f"with ticks: {made.stderr}")
+    check("the same requests" not in made.stderr, made.stderr)
+    made = policies(program, log, "--pages", "16000", "--pass", "0,1")
+    check("the runs don't have the same requests" in made.stderr, f"a run that is cut: {made.stderr}")
     tables = [line.split("  ")[0] for line in policies(program, log, *words, "--all").stdout.splitlines()]
     check(tables[0] == "Policies" and [line in tables for line in ("Pages", "Bytes", "Requests and frees")] == [True] * 3, f"--all: {tables}")
     print("policies that come to one run, and means over requests")

@@ -238,6 +238,7 @@ def test_statuses(room):
     made = record(log, ["sh", "-c", "exit 0"])
     records = struct.unpack_from(HEAD, log.read_bytes())[1]
     check(0 < records < 1024 and log.stat().st_size == HEAD_ROOM + 1024 * struct.calcsize(RECORD_SHAPE), f"{records} records: {log.stat().st_size} bytes")
+    check(f"record: {log}: {records} records, 1 thread, " in made.stderr, f"a path outside this folder: {made.stderr}")
     status, said = interrupted([sys.executable, str(RECORD), "-o", str(log), "--", "sh", "-c", "echo begun >&2; sleep 20"], "begun")
     check(status == 128 + signal.SIGINT and "Traceback" not in said and "ended by signal 2" in said, f"an interrupt: {status} {said}")
     print("eight statuses, a small log, an interrupt")
