@@ -137,9 +137,18 @@ def test_said(program, room):
     said = [line for line in made.stderr.splitlines() if "hasn't seen asked for" in line]
     check(made.returncode == 0 and len(said) == 1 and said[0].startswith("policies: age 1: "), f"what is cut: {made.stderr}")
     check("operation" not in made.stderr and "the blocks fill" not in made.stderr, f"what is said of each trace: {made.stderr}")
+    records = [request(1, at << 8, 24, site=7 if at % 4 else 8) for at in range(1, 13)]
+    log = write_log(room / "wrapper.log", records)
+    said = "one call site has 9 of 12 requests, "
+    check(policies(program, log, "--heaps", "one,site", "--age", "1,2").stderr.count(said) == 1, "a call site with most of the requests")
+    made = trace_of(log, "--heaps", "site", "--strict")
+    check(made.returncode == 0 and said in made.stderr and said not in trace_of(log).stderr, f"a call site with most of the requests: {made.stderr}")
+    made = trace_of(write_log(room / "half.log", records[2:4]), "--heaps", "site")
+    check(made.returncode == 0 and "one call site" not in made.stderr, f"two call sites with as many requests: {made.stderr}")
     log = write_log(room / "large.log", [request(1, at << 24, 1 << 20) for at in range(1, 90)])
     made = policies(program, log, "--heaps", "one,size")
     check("warning: what lives passes the region" in made.stderr, f"a region that is too small: {made.stderr}")
+    check("requests were refused" in made.stderr and "heaps one; heaps size" in made.stderr, f"a region that is too small: {made.stderr}")
     print("what is cut is said once")
 
 
@@ -179,7 +188,7 @@ def test_same(program, room):
     told, read = ([row["backed_mean_of_requests"] for row in json.loads(made.stdout)], [mean_of_requests(kept / f"{at}.transcript") for at in range(4)])
     check(len(told) == 4 and all(abs(one - other) < 0.051 for one, other in zip(told, read)) and len(set(told)) == 3, f"means: {told}, and {read}")
     check("age 9" in made.stderr and "makes no difference" not in made.stderr and "without ticks" not in made.stderr, f"with ticks: {made.stderr}")
-    check("the same requests" not in made.stderr, made.stderr)
+    check("the same requests" not in made.stderr and "were refused" not in made.stderr, made.stderr)
     made = policies(program, log, "--pages", "16000", "--pass", "0,1")
     check("the runs don't have the same requests" in made.stderr, f"a run that is cut: {made.stderr}")
     tables = [line.split("  ")[0] for line in policies(program, log, *words, "--all").stdout.splitlines()]

@@ -235,9 +235,12 @@ def convert(options: argparse.Namespace) -> int:
                                                   ("operation", "thread", "phase", "heap", "block"))
     said = [f"{operations} of {threads} in {phases} and {used}; {live} left at the end", *about_pages(it, options)]
     said += [f"cut: {count:,} {what}" for what, count in it.conversion.cut.items()]
+    status = CUT if options.strict and len(said) > 2 else 0
+    if chief := heaps.chief():
+        said.append(f"{chief}: if it is a wrapper of malloc, a recording with a greater --up parts them")
     for line in said:
         print(f"trace_of: {line}", file=sys.stderr)
-    return CUT if options.strict and len(said) > 2 else 0
+    return status
 
 
 def main() -> None:
