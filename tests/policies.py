@@ -285,6 +285,22 @@ def test_in_browser(browser_path, page, rows, into):
     print(f"{len(rows)} curves and maps in a real browser")
 
 
+def test_same_in_browser(browser_path, page):
+    """Of six runs that come to two there are two maps, two buttons above them and two colours, and each run's own button shows the right one."""
+    with Browser(browser_path, *SIZE) as browser:
+        browser.open(page, "document.querySelectorAll('#curves .peak').length")
+        for at in range(6):
+            browser.value(f"document.querySelectorAll('[data-map]')[{at}].click()")
+            check(browser.value(MAPS) == [at < 3, at >= 3], f"run {at} of six: {browser.value(MAPS)}")
+        tabs = browser.value("[...document.getElementById('maps').children].map(each => each.textContent)")
+        colours = browser.value("[...document.querySelectorAll('#curves .backed')].map(each => each.getAttribute('stroke'))")
+        check(tabs == ["heaps one, age 1", "heaps site, age 1"], f"buttons: {tabs}")
+        check(colours == [colours[0]] * 3 + [colours[3]] * 3 and colours[0] != colours[3], f"colours: {colours}")
+        said = browser.value("[...document.querySelectorAll('#policies small')].map(each => each.textContent)")
+        check(said == [f"the same run as {tabs[at // 2]}" for at in range(4)], f"what is said of runs that are the same: {said}")
+        check(not browser.faults(), f"{browser.faults()}")
+
+
 def memory_of(program, log, *words):
     """The rows, the greatest memory in kilobytes, and the seconds."""
     code = f"import re, runpy, sys; sys.argv[1:] = {[str(log), '--program', program, '--json', *map(str, words)]!r}\n" \
@@ -327,6 +343,7 @@ def main():
         if browser := find_browser():
             try:
                 test_in_browser(browser, page, rows, options.into)
+                test_same_in_browser(browser, room / "same.html")
             except BrowserFault as fault:
                 check(False, f"the browser: {fault}")
         else:
