@@ -7,8 +7,7 @@ import re
 from collections import defaultdict
 from typing import NamedTuple
 
-from orders import GRAIN, GRAINS, PAGE
-from transcripts import CLASSES, CLASSES_OF, MOST_BITFIT, MOST_LOGGED
+from traces import GRAIN, GRAINS, MOST_LOGGED, PAGE, Block, Logged
 
 ALL_ONES = 2**64 - 1
 
@@ -25,34 +24,6 @@ class Stopped(Exception):
     """The line at hand isn't allowed at its place, or is wanting."""
 
 
-class Block(NamedTuple):
-    """What a name stands for."""
-
-    address: int
-    turn: int
-    room: int
-    heap: int
-
-    def pages(self):
-        return range(self.address // PAGE, (self.address + self.room - 1) // PAGE + 1)
-
-    def grains_on(self, page):
-        """Its grains on a page, as the bits of a number."""
-        first = max(self.address // GRAIN - page * GRAINS, 0)
-        end = min((self.address + self.room) // GRAIN - page * GRAINS, GRAINS)
-        return (1 << end) - (1 << first)
-
-
-class Wanted(NamedTuple):
-    """What a request asks for."""
-
-    name: int
-    heap: int
-    kind: str
-    room: int
-    align: int
-
-
 class Guard(NamedTuple):
     """A block between two pages, and its keeper."""
 
@@ -62,60 +33,11 @@ class Guard(NamedTuple):
     block: Block
 
 
-class Entry(NamedTuple):
-    """A free that is logged; room is None where it names none."""
-
-    address: int
-    turn: int
-    room: int | None
-
-
-class Trace:
-    """A trace without a fault: its region, the operations of each phase, as words, and the names of the guarded requests."""
-
-    def __init__(self, text):
-        first, *lines = text.split("\n")
-        words = first.split()
-        version, self.pages, self.threads, self.heaps, self.age = (int(words[at]) for at in (1, 3, 5, 7, 9))
-        self.classes = CLASSES[:CLASSES_OF[version]]
-        self.shared, self.phases, self.every, self.guarded, asked = set(), [[]], 0, set(), defaultdict(int)
-        for line in lines:
-            word, *rest = line.split() or ["#"]
-            if line.startswith("#") or word == "#":
-                continue
-            if word == "phase":
-                self.phases.append([])
-            elif word == "shared":
-                self.shared.add(int(rest[0]))
-            elif word == "guard":
-                self.every = int(rest[0])
-            else:
-                values = [int(value, 0) for value in rest]
-                self.phases[-1].append((word, *values))
-                if word == "a" and values[3] > MOST_BITFIT and self.every:
-                    asked[values[0]] += 1
-                    self.guarded |= {values[1]} if asked[values[0]] % self.every == 0 else set()
-
-    @property
-    def actors(self):
-        """The last actor: the last thread, and in a guarded trace the last keeper."""
-        return self.threads * (2 if self.every else 1)
-
-    def wanted(self, name, heap, size, align):
-        """The directory and the room of a request: of the smallest class that suits, else of a bit-fit page, else whole pages."""
-        for bytes_ in self.classes:
-            if bytes_ >= size and bytes_ % align == 0:
-                return Wanted(name, heap, "shared" if heap in self.shared else f"class {bytes_}", bytes_, align)
-        if size <= MOST_BITFIT:
-            return Wanted(name, heap, "bitfit", -(-max(size, 1) // GRAIN) * GRAIN, align)
-        return Wanted(name, heap, "large", -(-size // PAGE) * PAGE, align)
-
-
 class Machine:
     """What the events so far have come to."""
 
     def __init__(self, trace):
-        self.pages, self.heaps, self.age = trace.pages, trace.heaps, trace.age
+        self.pages, self.age = trace.pages, trace.age
         self.deeds, self.backed, self.live = {}, set(), {}
         self.gives, self.ends, self.stamps, self.covered = defaultdict(int), defaultdict(int), defaultdict(int), defaultdict(int)
 
@@ -238,11 +160,10 @@ class Judge:
 
     def request(self, thread, wanted):
         """Deeds and backs, and then a block or a refusal. Whether it was a block."""
-        directory = wanted.heap, wanted.kind
-        while self.prepares(thread, directory):
+        while self.prepares(thread, wanted.directory):
             self.lines.at += 1
         self.names[wanted.name] = None
-        if self.lines.peek() == f"{thread} no-space name {wanted.name}\n" or self.is_held(thread, wanted.name, directory):
+        if self.lines.peek() == f"{thread} no-space name {wanted.name}\n" or self.is_held(thread, wanted.name, wanted.directory):
             self.lines.at += 1
             return False
         if not self.gives(thread, wanted):
@@ -255,8 +176,8 @@ class Judge:
         if not given:
             return False
         block = Block(int(given[1], 16), *map(int, given[2:]))
-        is_wanted = (int(given[0]), block.room, block.heap) == (actor, wanted.room, wanted.heap) and block.address % wanted.align == 0
-        if not is_wanted or not self.machine.may_give(block, (wanted.heap, wanted.kind)):
+        is_wanted = (int(given[0]), block.room, block.heap) == (actor, wanted.room, wanted.directory[0]) and block.address % wanted.align == 0
+        if not is_wanted or not self.machine.may_give(block, wanted.directory):
             return False
         self.lines.at += 1
         self.machine.give(block)
@@ -267,7 +188,7 @@ class Judge:
         """The keeper sweeps, and tries the request; the thread is asked where it backed no page and gave no block."""
         keeper, has_backed = self.trace.threads + thread, False
         self.sweep(keeper)
-        while self.prepares(keeper, (wanted.heap, wanted.kind)):
+        while self.prepares(keeper, wanted.directory):
             has_backed = has_backed or self.lines.match(BACK) is not None
             self.lines.at += 1
         if self.gives(keeper, wanted):
@@ -331,8 +252,7 @@ class Judge:
         else:
             if len(self.logs[thread]) == MOST_LOGGED:
                 self.flush(thread)
-            room = self.trace.wanted(0, 0, *asked).room if asked else None
-            self.logs[thread].append(Entry(address, turn, room))
+            self.logs[thread].append(Logged(address, turn, self.trace.room(*asked) if asked else None))
 
     def flush(self, thread):
         """A line for each free of the log, in order: that of its true reason, or its end."""

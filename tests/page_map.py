@@ -177,6 +177,7 @@ def test_refusals(room):
     """What is no trace and no transcript."""
     (room / "t").write_text("pas 1 pages 4 threads 1 heaps 1 age 2\na 1 1 0 24 16\n")
     (room / "no").write_text("something\n")
+    (room / "short").write_text((room / "t").read_text() + "# heap 0: 1 requests\na 1 2 0 24\n")
     (room / "bytes").write_bytes(b"close\nrep\xd0\x00rt\n")
     end = "close\nreport\ntotal deeds 0 backed 0 live 0 given 0 ended 0\n"
     transcripts = {
@@ -192,8 +193,9 @@ def test_refusals(room):
         check(made.returncode == 1 and f"{room / 's'}: {said}" in made.stderr and not (room / "x.html").exists(), f"{text!r}: {made.stderr}")
         check(len(re.findall(r"line \d", made.stderr)) == len(re.findall(r"line \d", said)), f"{text!r}: the line twice: {made.stderr}")
     (room / "s").write_text(end)
-    files = (("no", "s", "no: line 1: no header of a trace"), ("none", "s", "none: No such file"), ("t", "none", "none: No such file"), (".", "s", ": Is a directory"),
-             ("t", ".", ": Is a directory"), ("bytes", "s", "bytes: line 1: no header"), ("t", "bytes", "bytes: line 2: it is no text"))
+    files = (("no", "s", "no: line 1: no header of a trace"), ("short", "s", "short: line 4: no line of a trace: a 1 2 0 24"), ("none", "s", "none: No such file"),
+             ("t", "none", "none: No such file"), (".", "s", ": Is a directory"), ("t", ".", ": Is a directory"), ("bytes", "s", "bytes: line 1: no header"),
+             ("t", "bytes", "bytes: line 2: it is no text"))
     for trace, transcript, said in files:
         made = tool(room / trace, room / transcript, "-o", room / "x.html")
         check(made.returncode == 1 and said in made.stderr and made.stderr.count("\n") == 1 and not (room / "x.html").exists(), f"{trace}, {transcript}: {made.stderr}")

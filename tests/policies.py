@@ -5,18 +5,21 @@ Tests tools/policies with the program `pas`, on logs that are written here and o
 figures are those that the tools give one by one; what is left out by 0 or `none` is left out; what trace_of.py says is said once. Policies that come to
 one run are said to, and what makes no difference; the mean over requests is that of a second reading. The page of HTML
 fetches nothing and has a map for each run; all curves and maps are on one scale, that of the greatest peak, and each curve's greatest value is the
-run's. Several runs take hardly more memory than one. What can't be done is refused, and leaves no page. In a real browser each run has its curve and a
-mark at its peak, a button shows its map alone, a box hides its curve, and the pointer tells the values; without a browser that part is skipped, and
-said to be. With --into its picture is kept. Prints what was checked; the status is 1 where something was wrong."""
+run's. Several runs take hardly more memory than one. What can't be done is refused, and leaves no page; where it or another tool for traces is
+interrupted while it still imports, nothing is said. In a real browser each run has its curve and a mark at its peak, a button shows its map alone, a box
+hides its curve, and the pointer tells the values; without a browser that part is skipped, and said to be. With --into its picture is kept. Prints what
+was checked; the status is 1 where something was wrong."""
 
 import argparse
 import csv
 import io
 import json
+import os
 import pathlib
 import random
 import re
 import shutil
+import signal
 import subprocess
 import sys
 import tempfile
@@ -220,6 +223,17 @@ def test_refusals(program, room):
     print(f"{len(words) + len(cases) + 2} refusals")
 
 
+def test_interrupts(room):
+    """An interrupt while a tool imports argparse, which a module here sends: nothing is said."""
+    (room / "modules").mkdir()
+    (room / "modules/argparse.py").write_text("import os, signal, time\nos.kill(os.getpid(), signal.SIGINT)\ntime.sleep(9)\n")
+    for name in ("trace_of.py", "page_map.py", "figures.py", "policies"):
+        made = called([sys.executable, str(ROOT / "tools" / name)], env=os.environ | {"PYTHONPATH": str(room / "modules")},
+                      preexec_fn=lambda: signal.signal(signal.SIGINT, signal.SIG_DFL))
+        check((made.returncode, made.stdout, made.stderr) == (130, "", ""), f"{name} is interrupted early: {made.returncode}, {made.stdout}{made.stderr}")
+    print("4 tools are interrupted early")
+
+
 def read_page(path):
     """The page's own data, and those of its maps."""
     text = path.read_text()
@@ -339,6 +353,7 @@ def main():
         test_said(program, room)
         test_same(program, room)
         test_refusals(program, room)
+        test_interrupts(room)
         page, rows = test_page(program, room)
         if browser := find_browser():
             try:

@@ -11,7 +11,8 @@ import subprocess
 import sys
 import tempfile
 
-from transcripts import judge, read_trace
+from traces import read_trace
+from transcripts import judge
 
 MOST_SECONDS = 60
 

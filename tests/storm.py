@@ -14,7 +14,8 @@ import sys
 import tempfile
 import time
 
-from transcripts import judge, read_trace
+from traces import read_trace
+from transcripts import judge
 
 THREADS, PAGES, HEAPS = 16, 64, 4
 SIZES = [16, 24, 48, 100, 256, 512, 600, 1500, 2048, 4096, 9000]

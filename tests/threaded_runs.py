@@ -16,7 +16,9 @@ import subprocess
 import sys
 import tempfile
 
-from transcripts import by_phase_and_actor, judge, read_trace
+from run_lines import by_phase_and_actor
+from traces import read_trace
+from transcripts import judge
 
 MOST_SECONDS = 120
 LEAST_REFUSED = 0.95

@@ -3,9 +3,9 @@
 
 Tests tools/trace_of.py with logs that are written by hand (logs_by_hand.py): each becomes just the trace that it should, of versions 1 to 4 without a
 fault by the program `pas`, and by a second reading of the format (versions.py), which itself finds the faults of spoilt texts. Random logs of threads
-are replayed in as many pages as it chose, and nothing is refused; parts of them have what lived at their start and end. Traces at the limits of the
-format are cut, and said to be; on a terminal, and there alone, it tells how far it is. A full disk and an interrupt leave no file. Prints what was
-checked; the status is 1 where something was wrong."""
+are replayed in as many pages as it chose, and nothing is refused; parts of them have what lived at their start and end. The room that it takes for a
+request is what the program gives. Traces at the limits of the format are cut, and said to be; on a terminal, and there alone, it tells how far it is. A
+full disk and an interrupt leave no file. Prints what was checked; the status is 1 where something was wrong."""
 
 import os
 import pathlib
@@ -173,6 +173,19 @@ RANDOM_WAYS = [[], ["--heaps", "size", "--shared", "small", "--tick-ms", "7", "-
                ["--guard", "3", "--tick", "100", "--pass", "1000"], ["--heaps", "size", "--shared", "all"]]
 
 
+def test_rooms(program):
+    """The room of a request, of no bytes too, is that which the program gives."""
+    sizes, aligns = (0, 1, 16, 17, 48, 500, 512, 513, 640, 1000, 1024, 1025, 2033, 2048, 2049, 4096, 4097, 9000), [1 << bits for bits in range(4, 13)]
+    wanted = [(size, align) for size in sizes for align in aligns]
+    for version in range(1, 5):
+        asked = "".join(f"a 1 {name} 0 {size} {align}\n" for name, (size, align) in enumerate(wanted, 1))
+        said = called_with(program, "order", f"pas {version} pages 4096 threads 1 heaps 1 age 2\n{asked}").stdout
+        given = [int(line.split()[6]) for line in said.splitlines() if line.split()[1:2] == ["give"]]
+        rooms = [trace_text.room_of(version, *each).bytes for each in wanted]
+        check(given == rooms, f"version {version}: rooms {[each for each in zip(wanted, given, rooms) if each[1] != each[2]]}")
+    print(f"{len(wanted)} rooms of each version")
+
+
 def test_random(program, room):
     """Nothing is refused in as many pages as it chose; and a part begins with what lived then, and ends with what lived at its end."""
     for seed, options in enumerate(RANDOM_WAYS * 2):
@@ -301,6 +314,7 @@ def main():
         test_second_reading()
         test_by_hand(program, room)
         test_pages(program, room)
+        test_rooms(program)
         test_random(program, room)
         test_limits(program, room)
         test_million(program, room)

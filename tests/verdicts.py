@@ -25,7 +25,8 @@ from collections import Counter
 from concurrent.futures import ProcessPoolExecutor
 from typing import NamedTuple
 
-from judge import Judge, Lines, Trace, lines_of
+from judge import Judge, Lines, lines_of
+from traces import read_trace
 
 MOST_SECONDS = 60
 MOST_BYTES = 16_777_216
@@ -145,7 +146,7 @@ def verdict_on(trace, lines):
 
 def judged(trace, text, edits):
     """The verdict on the transcript, and on it after each edit, by the second reading: a few lines are read again for each."""
-    parts, trace = lines_of(text), Trace(trace)
+    parts, trace = lines_of(text), read_trace(trace)
     if len(parts) <= FEW_LINES:
         return verdict_on(trace, Lines(text)), {edit: verdict_on(trace, Lines("".join((*parts[:edit.at], *edit.lines, *parts[edit.at + edit.count:])))) for edit in edits}
     lines = EditedLines(text, edits)
@@ -199,7 +200,7 @@ def try_edits(program, path, count, seed, part, parts, most_lines):
     """Of every so many edits one is tried. How many there were of each outcome, and what is wrong."""
     trace, text = read_pair(program, path, most_lines)
     lines = lines_of(text)
-    edits = draw_edits(lines, Trace(trace).actors, count, random.Random(f"{seed} {path.name}"))[part::parts]
+    edits = draw_edits(lines, read_trace(trace).actors, count, random.Random(f"{seed} {path.name}"))[part::parts]
     verdict, verdicts = judged(trace, text, edits)
     trace, text, starts = trace.encode(), text.encode(), [0, *itertools.accumulate(map(len, lines))]
     said = told(program, trace, text)

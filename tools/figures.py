@@ -10,21 +10,23 @@ docs/TOOLS.md explains each column. A text that is no trace, or no transcript of
 
 from __future__ import annotations
 
+import os
+import sys
+
+sys.dont_write_bytecode = True
+sys.path.insert(0, os.path.dirname(os.path.realpath(__file__)))
+import interrupts
+
+interrupts.end_quietly()
 import argparse
 import csv
 import json
-import os
-import sys
 from collections.abc import Iterator
 from pathlib import Path
 from typing import TextIO
 
-sys.dont_write_bytecode = True
-HERE = Path(__file__).resolve().parent
-sys.path.insert(0, str(HERE))
 from run_figures import KINDS, Gauge, Run, read_run
-from run_requests import MOST_OF_HEADER
-from trace_requests import HEADER, Fault
+from trace_lines import Fault, header_of
 from trace_text import PAGE
 
 Tables = dict[str, list[tuple[str, str]]]
@@ -84,7 +86,7 @@ def runs_of(files: list[Path]) -> Iterator[tuple[Path, Path]]:
         if path.exists() and not path.is_file() and not path.is_dir():
             raise Fault(f"{path}: it is read more than once, and so has to be a file")
         with path.open("rb") as file:
-            is_trace = HEADER.fullmatch(file.readline(MOST_OF_HEADER))
+            is_trace = bool(header_of(file))
         if is_trace and not is_used:
             raise Fault(f"{trace}: a trace without a transcript behind it")
         if trace is None and not is_trace:
@@ -164,8 +166,6 @@ def main() -> None:
         sys.exit(1)
     except OSError as fault:
         sys.exit(f"figures: {fault.filename or 'standard output'}: {fault.strerror}")
-    except KeyboardInterrupt:
-        sys.exit(128 + 2)
 
 
 if __name__ == "__main__":

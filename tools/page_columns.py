@@ -10,9 +10,10 @@ from itertools import islice
 from pathlib import Path
 from typing import NamedTuple
 
-from page_history import History, Mark, Total
+from page_history import History, Mark
 from progress import Progress
-from trace_requests import Fault, read_trace
+from trace_lines import Fault
+from trace_requests import read_trace
 
 MOST_COLUMNS, LEAST_COLUMNS, MOST_CELLS = 4000, 250, 5_000_000
 MOST_MARKS = 2000

@@ -7,7 +7,8 @@ from collections import Counter
 from collections.abc import Callable
 from typing import NamedTuple
 
-from trace_requests import Fault, Requests, Trace, shown
+from trace_lines import Fault, shown
+from trace_requests import Requests, Trace
 from trace_text import PAGE
 
 REFUSALS = (b"no-space", b"held", b"skipped")

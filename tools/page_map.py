@@ -15,20 +15,24 @@ stand by thread; of that, too, the page tells.
 
 from __future__ import annotations
 
-import argparse
-import re
+import os
 import sys
-from pathlib import Path
 
 sys.dont_write_bytecode = True
-sys.path.insert(0, str(Path(__file__).resolve().parent))
+sys.path.insert(0, os.path.dirname(os.path.realpath(__file__)))
+import interrupts
+
+interrupts.end_quietly()
+import argparse
+import re
+from pathlib import Path
+
 from page_columns import Lines
 from page_section import page_of, section_of
-from trace_requests import Fault
+from trace_lines import Fault
 from whole_file import write_whole
 
 MOST_LINES = 1_000_000_000
-INTERRUPTED = 130
 
 
 def lines_of(text: str) -> Lines:
@@ -57,8 +61,6 @@ def main() -> None:
         sys.exit(f"page_map: {fault}")
     except OSError as fault:
         sys.exit(f"page_map: {options.file}: {fault.strerror}")
-    except KeyboardInterrupt:
-        sys.exit(INTERRUPTED)
     each = f", a column for {section.lines / section.columns:,.1f} of them" if section.lines > section.columns else ""
     made = f"{section.pages:,} pages, {section.lines:,} lines{each}; {len(text.encode()):,} bytes"
     print(f"page_map: {made}", file=sys.stderr)

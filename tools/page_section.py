@@ -1,6 +1,6 @@
 """The page map of a run as a piece of HTML, and the page around such pieces.
 
-`section_of` makes the piece, with what its script draws; `page_of` the page, which has style and script once. Several
+`section_of` makes the piece, with what its script draws; `page_of` the page, which has style and scripts once. Several
 pieces may stand on a page, and one that is hidden is drawn when it is shown."""
 
 from __future__ import annotations
@@ -18,6 +18,8 @@ from page_history import EMPTY, FULL, GUARD, NO_MEMORY, WENT_BACK, History, Page
 from trace_text import PAGE
 
 HERE = Path(__file__).resolve().parent
+# The second stands on the first.
+SCRIPTS = ["page_picture.js", "page_map.js"]
 KINDS = ["class", "shared", "bitfit", "large"]
 PAGE_OF_HTML = """<!DOCTYPE html>
 <html lang="en">
@@ -58,7 +60,7 @@ def section_of(trace: Path, transcript: Path, *, name: str = "", scale: int = 0,
 
 def page_of(title: str, body: str) -> str:
     """A page of HTML that needs nothing else, around sections and what else the body has."""
-    style, script = ((HERE / f"page_map.{kind}").read_text() for kind in ("css", "js"))
+    style, script = (HERE / "page_map.css").read_text(), "\n".join((HERE / name).read_text() for name in SCRIPTS)
     return PAGE_OF_HTML.format(title=escape(title), style=style, script=script, body=body)
 
 

@@ -12,7 +12,7 @@ from pathlib import Path
 
 from progress import Progress
 from run_requests import Requests
-from trace_requests import Fault, shown
+from trace_lines import Fault, shown
 
 # How many words the lines have that are only counted.
 COUNTED = {b"tick": 3, b"pass": 3, b"stopped": 3, b"lowered": 4, b"bare": 4, b"young": 6, b"in-use": 8,
@@ -163,7 +163,7 @@ class Run:
     def give(self, words: list[bytes]) -> None:
         """The line has no name: it answers the next request of its actor."""
         actor, word, address, _, turn, _, room, _, _ = words
-        _, self.last, size = self.requests.next_of(actor)
+        self.last, size = self.requests.next_of(actor)
         room, block = int(room), address + turn
         if room < size:
             raise KeyError(room)
@@ -183,7 +183,7 @@ class Run:
 
     def kept(self, words: list[bytes]) -> None:
         actor, word, address, _, turn, _, name = words
-        _, asked_for, size = self.requests.next_of(actor)
+        asked_for, size = self.requests.next_of(actor)
         if asked_for != int(name):
             raise KeyError(name)
         self.counts[word] += 1
@@ -238,7 +238,7 @@ class Run:
 
     def refuse(self, words: list[bytes]) -> None:
         """A refusal answers the request whose name it has last."""
-        _, name, _ = self.requests.next_of(words[0])
+        name, _ = self.requests.next_of(words[0])
         if name != int(words[-1]):
             raise KeyError(name)
         self.refused.add(name)

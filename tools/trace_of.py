@@ -14,17 +14,21 @@ a comment in the trace says. The status is 0 where the trace was written; with -
 
 from __future__ import annotations
 
-import argparse
 import os
 import sys
+
+sys.dont_write_bytecode = True
+HERE = os.path.dirname(os.path.realpath(__file__))
+sys.path[:0] = [HERE, os.path.join(HERE, "record")]
+import interrupts
+
+interrupts.end_quietly()
+import argparse
 from collections.abc import Callable
 from itertools import islice
 from pathlib import Path
 from typing import NamedTuple
 
-sys.dont_write_bytecode = True
-HERE = Path(__file__).resolve().parent
-sys.path[:0] = [str(HERE), str(HERE / "record")]
 import recorded
 from conversion import Conversion, after
 from needed_pages import SMALL, Need
@@ -34,7 +38,7 @@ from trace_text import (LAST_VERSION, MOST_AGE, MOST_EPOCH, MOST_GUARDED, MOST_O
                         Full, TooLong, Wanted)
 from whole_file import write_whole
 
-INTERRUPTED, CUT = 130, 3
+CUT = 3
 TELL_EACH, CHECK_EACH = 20_000, 5_000
 NANOSECONDS = 1_000_000
 MOST_MILLISECONDS, MOST_RECORDS = 86_400_000, 1 << 40
@@ -249,8 +253,6 @@ def main() -> None:
         sys.exit(convert(options))
     except recorded.LogFault as fault:
         sys.exit(f"trace_of: {fault}")
-    except KeyboardInterrupt:
-        sys.exit(INTERRUPTED)
 
 
 if __name__ == "__main__":

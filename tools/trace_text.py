@@ -50,7 +50,7 @@ def room_of(version: int, size: int, align: int) -> Room:
         if bytes_ >= size and bytes_ % align == 0:
             return Room(bytes_, True, 0, 2)
     if size <= MOST_BITFIT:
-        return Room(-(-size // LEAST_ALIGN) * LEAST_ALIGN, False, 0, 2)
+        return Room(-(-max(size, 1) // LEAST_ALIGN) * LEAST_ALIGN, False, 0, 2)
     pages = -(-size // PAGE)
     return Room(pages * PAGE, False, pages, 1 + pages)
 

@@ -1,7 +1,7 @@
 -- The rule of the shared words when a bench is laid out, looks and gives actors away; and for which lists a desk at a bench stands.
 use Rattle.std.proofs.Common.{suc, arith, List, [], ◌∷◌, ◌++◌, sym, subst, ◌≡◌, ◌≢◌, ◌⊎◌, inl, inr, ⊎_elim, ℕ, length, set, Bool, true, false, true≢false, eqb, eqb-true, refl, ap, ◌∙◌, if◌then◌else◌}
 use Rattle.std.proofs.lemmas.List.{set-get_or, append-nil, length-append}
-use mathlib.Core.Option.{some, some-injective}
+use mathlib.Core.Option.{some}
 use lib.ListN.{get_elem?}
 use Rattle.atomic_table.specs.Table.{Me, keeps, Allows, Splits, Enters}
 use Rattle.atomic_table.proofs.Lists.{at_set}
@@ -19,9 +19,9 @@ use Rattle.pas_shared.specs.declared.rule.Entry.{Entry}
 use Rattle.pas_shared.specs.declared.rule.Row.{Row}
 use Rattle.pas_shared.specs.declared.rule.Roster.{Roster}
 use Rattle.pas_shared.specs.declared.rule.Roster.TheVariants.{Benched}
-use Rattle.pas_shared.specs.Ruled.{Names, AreNamed, Holds, steps_of, among, made_in, SitsIn, HasRow, rows_in, row_with, with_made, only, isnt, row_of_only, left_of, picked_of, all_actors, IsEmptyBench, IsRowOf, AreRowsOf, SettlesAll}
+use Rattle.pas_shared.specs.Ruled.{Names, AreNamed, Holds, steps_of, among, made_in, HasRow, rows_in, row_with, with_made, only, isnt, row_of_only, left_of, picked_of, all_actors, IsEmptyBench, IsRowOf, AreRowsOf, SettlesAll}
 use Rattle.pas_shared.specs.Benches.{empty_row, SitsInRow, StandsOver}
-use Rattle.pas_shared.proofs.Ruling.{Apart, SawOf, RowsOf, nothing_seen, entries_for, entries_same, know_set, know_end, know_split, at_end, row_either}
+use Rattle.pas_shared.proofs.Ruling.{Apart, SawOf, RowsOf, nothing_seen, entries_for, entries_same, know_set, know_end, know_split, at_end}
 
 -- ---- a bench on which nobody sits
 empty_row_of : (l : Whole) → IsRowOf empty_row l

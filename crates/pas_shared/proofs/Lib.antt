@@ -1,5 +1,5 @@
 mod Ruling
-mod Pasts
+pub mod Pasts
 pub mod GivingBack
 pub mod Opened
 pub mod Pops

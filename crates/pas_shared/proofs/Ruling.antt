@@ -4,7 +4,6 @@ use Rattle.pas_profile.specs.Profiles.{IsValid}
 use Rattle.pas_profile.specs.declared.event.Event.{Event}
 use Rattle.pas_profile.specs.declared.profile.Profile.{Profile}
 use Rattle.pas_machine.specs.Machine.{Run}
-use Rattle.pas_profile.specs.declared.word.Word.TheVariants as Word
 use Rattle.pas_steps.specs.Views.{known_deed, View, epoch_of}
 use Rattle.pas_steps.specs.Lists.{Triple, Whole, Legal, part, visible, word_after}
 use Rattle.pas_core.proofs.MachineRuns.{runs, agrees, in_one_place, lists_borne}
@@ -31,9 +30,9 @@ use Rattle.pas_steps.specs.declared.step.Step.{Step}
 use Rattle.pas_steps.specs.declared.step.Made.{Made}
 use Rattle.pas_steps.proofs.Parts.{part_of_own, part_of_others}
 use Rattle.pas_steps.proofs.Targets.{target_of_region}
-use Rattle.pas_core.specs.Orders.{with_step, steps_by}
+use Rattle.pas_core.specs.Orders.{with_step}
 use Rattle.pas_core.specs.WordLists.{AreWordsAfter}
-use Rattle.pas_core.proofs.Choosing.{step_taken, step_passed, steps_by_one, steps_by_nobody, no_steps_by_fewer}
+use Rattle.pas_core.proofs.Choosing.{step_taken, step_passed, steps_by_one}
 use Rattle.pas_core.proofs.Nexts.{legal_next, agrees_next, with_step_own, with_step_others, one_order_next, words_next}
 use Rattle.pas_shared.specs.declared.exchange.Change.{Change}
 use Rattle.pas_shared.specs.declared.rule.Entry.{Entry}
@@ -41,7 +40,7 @@ use Rattle.pas_shared.specs.declared.rule.Part.{Part}
 use Rattle.pas_shared.specs.declared.rule.Roster.{Roster}
 use Rattle.pas_shared.specs.declared.rule.Row.{Row}
 use Rattle.pas_shared.specs.declared.rule.Roster.TheVariants.{Unused, Listed, Settled, Benched}
-use Rattle.pas_shared.specs.Ruled.{HasPart, Names, alone, first_alone, all_but_first, joined, AreNamed, AreAfterOneList, Holds, changed, IsAskedOf, IsAdded, Makes, IsAddedIfKept, parts_in, looks_in, first_look, steps_of, seen_in, SawNothing, IsEarlier, AreEarlier, AreApart, AllKnow, SeesAll, among, made_in, SitsIn, HasRow, entries_by, rows_of, rows_in, IsNoBench, only, isnt, row_of_only, rows_of_only, left_of, picked_of, all_actors, IsEmptyBench, IsRowOf, AreRowsOf, SitsFor, row_with, with_made, SettlesAll}
+use Rattle.pas_shared.specs.Ruled.{HasPart, Names, alone, first_alone, all_but_first, joined, AreNamed, AreAfterOneList, Holds, changed, IsAskedOf, IsAdded, Makes, IsAddedIfKept, parts_in, looks_in, first_look, steps_of, seen_in, SawNothing, IsEarlier, AreEarlier, AreApart, AllKnow, SeesAll, among, made_in, SitsIn, HasRow, entries_by, rows_of, rows_in, IsNoBench, IsRowOf, AreRowsOf, SitsFor, row_with, with_made}
 use Rattle.std.specs.List.{All}
 use Rattle.std.proofs.lemmas.List.Elements.{All-cons, All-weaker}
 use Rattle.pas_shared.specs.declared.pass.SharedPass.{SharedPass}

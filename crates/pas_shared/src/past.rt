@@ -1,5 +1,5 @@
-//! What was done at a region before, as one thread tells it to another. What a thread gives another over a channel, as the name of a block, was made by steps that
-//! stand in its past; whoever takes the past makes its next steps behind all of these.
+//! What was done at a region before, as one thread tells it to another. The steps by which a thread made what it sends, as a block whose
+//! name it sends, stand in its past; whoever takes the past makes its next steps behind all of these.
 ghost use Rattle.std.specs.Prelude.{◌≡◌, []};
 ghost use Rattle.pas_shared.specs.Ledgers.{actors_in};
 
@@ -79,7 +79,7 @@ impl SharedPass {
     ghost use Rattle.pas_shared.specs.Passes.{IsPassOf, seat_of, view_of};
     ghost use Rattle.pas_shared.specs.Pasts.{told, IsPastOf, HasOwn};
 
-    /// All that was done so far: by the actor, by those whose pasts it took since it has this one, and by others. Six loads.
+    /// A past that has all steps which the actor made so far. Six loads.
     pub fn past(&mut self, region: &SharedRegion) -> Past
         requires of { IsPassOf region.now self.old }
         ensures same { self.new ≡ self.old }
@@ -90,8 +90,8 @@ impl SharedPass {
         self.after(region, nothing)
     }
 
-    /// Takes a past: what the actor does from now on stands behind all that stands in the past that this gives, and that begins with the one that was taken. Five
-    /// loads.
+    /// Takes a past, and gives one that goes on from it and has all steps which the actor made so far. What the actor does from now on
+    /// stands behind all of these. Five loads.
     pub fn after(&mut self, region: &SharedRegion, past: Past) -> Past
         requires of { IsPassOf region.now self.old }
         requires past { IsPastOf region.now past }

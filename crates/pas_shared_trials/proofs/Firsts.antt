@@ -7,6 +7,7 @@ use Rattle.pas_profile.specs.declared.directory.Directory.{Directory}
 use Rattle.pas_profile.proofs.Sizes.{count_ge}
 use Rattle.pas_steps.specs.Events.{events_of}
 use Rattle.pas_steps.specs.Views.{View}
+use Rattle.pas_steps.specs.Clear.{HasNothing}
 use Rattle.pas_steps.specs.Desks.{CanCall}
 use Rattle.pas_search.specs.Searches.{MaySearch, SearchRoom}
 use Rattle.pas_segregated.specs.Stops.{class_directory}
@@ -24,12 +25,21 @@ of_profile pass = record { heap = pass.valid.some_heap; kind = omega arith; clas
 may_search : (d : Directory) (v : View) → v ≡ [] → MaySearch d v
 may_search d v is = subst (λ (w : View). MaySearch d w) (sym is) record { rights = λ p of. refl; clear = record { on = λ p. record { stamped = refl; owes = record { checks = λ w lt. refl; hint = refl }; examined = refl } } }
 
+-- they made no event
+pub no_events : (pass : SharedPass) → view_of pass ≡ [] → length (events_noted pass.notes) ≡ 0
+no_events pass none = ap length (pass.noted.shown ∙ ap (λ (v : View). reverse (events_of (seat_of pass).actor v)) none)
+
+pub nothing : HasNothing []
+nothing = record {
+  grains = λ g. refl;
+  rights = λ p. refl;
+  clear = record { on = λ p. record { stamped = refl; owes = record { checks = λ w lt. refl; hint = refl }; examined = refl } };
+}
+
 pub can_search : (desk : SharedDesk) (d : Directory) → view_of desk.pass ≡ [] → (seat_of desk.pass).room ≡ 2 → CanCall (standing_of desk) (SearchRoom (seat_of desk.pass).profile d 1 (room_of_notes desk.pass.notes - length (events_noted desk.pass.notes)))
 can_search desk d none room =
     let view = view_of desk.pass in
-    let k = (seat_of desk.pass).actor in
-    let shown : events_noted desk.pass.notes ≡ reverse (events_of k []) = desk.pass.noted.shown ∙ ap (λ (v : View). reverse (events_of k v)) none in
-    let empty : length (events_noted desk.pass.notes) ≡ 0 = ap length shown in
+    let empty = no_events desk.pass none in
     record { view = view; whole = []; stood = refl; met = record { may = may_search d view none; room = (omega (arith, empty, room), inr (omega (arith, empty, room))) } }
 
 -- the passes of a region that nobody used yet

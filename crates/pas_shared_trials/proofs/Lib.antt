@@ -1,2 +1,3 @@
 pub mod Firsts
+mod HandedOver
 mod Working

@@ -1,18 +1,20 @@
-use Rattle.std.proofs.Common.{rules, ℕ, ◌≡◌, ◌≤◌, ◌∷◌, Some, List, IfOk, IfSome, ◌+◌, ◌-◌, ◌*◌, ◌<◌, length, ◌/◌, ◌%◌, Bool, true, false, nat_eq, nat_lt, [], ◌++◌, slice_index_or, slice_set, bit_and, bit_or, Fits, w8, w32, w64, Bor, MutBor}
-use Rattle.pas_profile.specs.declared.event.Event.{Event as TheEvent}
-use Rattle.pas_profile.specs.declared.profile.Profile.{Profile as TheProfile}
-use Rattle.pas_region.specs.Noted.{events_noted}
-use Rattle.pas_steps.specs.Clear.{HasNothing}
-use Rattle.pas_steps.specs.Views.{View}
-use Rattle.pas_cache.specs.Caches.{cached, AtRest}
-use Rattle.pas_shared.specs.Passes.{profile_of}
-use Rattle.pas_shared_trials.specs.Handing.{IsFirst, IsOfActor, IsGiftOf, HasFreed, IsHandedOver}
+use Rattle.std.proofs.Common.{ap, refl, ◌∙◌}
+use Rattle.pas_shared.specs.Passes.{view_of, seat_of}
+use Rattle.pas_shared.specs.declared.pass.SharedPass.{SharedPass}
+use Rattle.pas_shared.specs.declared.region.SharedRegion.{SharedRegion}
+use Rattle.pas_shared_trials.proofs.HandedOver.{can_ask, gift_of}
 use Rattle.pas_shared_trials.proofs.handing.borrow.Goals as goal
 
--- src/handing.rt:45:9
 pub alloc-answer-requires-clause-can : goal.alloc-answer-requires-clause-can
-alloc-answer-requires-clause-can c = ?
+alloc-answer-requires-clause-can c =
+    let seated = c.desk-desk.ensures.pass in
+    can_ask c.desk-desk.result _ (ap view_of seated ∙ c.requires.pass.fresh.no_steps) (ap (λ (p : SharedPass). (seat_of p).room) seated ∙ c.requires.pass.fresh.room) c.requires.rest
 
--- src/handing.rt:34:1
 pub returns-in-Ok-clause-gift : goal.returns-in-Ok-clause-gift
-returns-in-Ok-clause-gift c = ?
+returns-in-Ok-clause-gift c =
+    let seated = c.desk-desk.ensures.pass in
+    let fresh = c.requires.pass.fresh in
+    gift_of c.args.region.now _ _ _ c.desk-desk.result c.alloc-answer.new.desk _ _ c.in-Ok.block
+    (ap view_of seated ∙ fresh.no_steps) (ap (λ (p : SharedPass). (seat_of p).actor) seated ∙ c.requires.pass.actor) (ap (λ (p : SharedPass). (seat_of p).profile) seated ∙ fresh.of_region.1) c.requires.rest
+    c.in-Ok.ensures.allocates (c.into_pass-pass.ensures.pass ∙ c.past-past.ensures.pass)
+    (c.past-past.ensures.of ∙ ap (λ (r : SharedRegion). r.table.shared.table_id) (c.alloc-answer.ensures.home ∙ c.desk-desk.ensures.region)) c.past-past.ensures.own refl

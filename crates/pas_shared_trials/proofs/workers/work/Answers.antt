@@ -1,19 +1,12 @@
 use Rattle.std.proofs.Common.{◌≡◌, Option, Some, [], refl, sym, subst, ◌∙◌}
 use Rattle.std.specs.Prelude.{IfSome}
 use Rattle.pas_steps.specs.Views.{View}
-use Rattle.pas_steps.specs.Clear.{HasNothing}
 use Rattle.pas_cache.specs.Caches.{cached, AtRest}
 use Rattle.pas_shared.specs.Passes.{view_of, seat_of}
 use Rattle.pas_shared.specs.declared.pass.SharedPass.{SharedPass}
 use Rattle.pas_shared_trials.specs.Races.{IsFreshPass}
+use Rattle.pas_shared_trials.proofs.Firsts.{nothing}
 use Rattle.pas_shared_trials.proofs.workers.work.Goals as goal
-
-nothing : HasNothing []
-nothing = record {
-  grains = λ g. refl;
-  rights = λ p. refl;
-  clear = record { on = λ p. record { stamped = refl; owes = record { checks = λ w lt. refl; hint = refl }; examined = refl } };
-}
 
 pub run-worker-requires : goal.run-worker-requires
 run-worker-requires c =
