@@ -2,7 +2,8 @@
 """tests/policies.py PROGRAM [--into PICTURE]
 
 Tests tools/policies with the program `pas`, on logs that are written here and on a recorded program. Each choice of values is a run, in order, and its
-figures are those that the tools give one by one; what is left out by 0 or `none` is left out; what trace_of.py says is said once. The page of HTML
+figures are those that the tools give one by one; what is left out by 0 or `none` is left out; what trace_of.py says is said once. Policies that come to
+one run are said to, and what makes no difference; the mean over requests is that of a second reading. The page of HTML
 fetches nothing and has a map for each run; all curves and maps are on one scale, that of the greatest peak, and each curve's greatest value is the
 run's. Several runs take hardly more memory than one. What can't be done is refused, and leaves no page; where it or another tool for traces is
 interrupted while it still imports, nothing is said. In a real browser each run has its curve and a mark at its peak, a button shows its map alone, a box
@@ -31,7 +32,8 @@ from logs import RECORD, ROOT, called, called_with, check, end_checks, free, mov
 POLICIES, FIGURES = ROOT / "tools/policies", ROOT / "tools/figures.py"
 SIZE = 1240, 1400
 # What there is beside the figures of tools/figures.py.
-MORE = {"log", "backed_peak_change"}
+MORE = {"log", "backed_peak_change", "backed_peak_overhead", "backed_mean_of_requests"}
+ANSWERS = {"give", "kept", "no-space", "held"}
 
 
 def policies(program, log, *words):
@@ -91,7 +93,9 @@ def test_choices(program, room):
             figures = {key: value for key, value in one.items() if key not in ("trace", "transcript")}
             check(figures == {key: row.get(key) for key in figures}, f"{name}: {row}, and one by one {one}")
             check(set(row) == set(figures) | MORE | {word[2:] for word in words if word.startswith("--")}, f"{name}: {sorted(row)}")
+            asked = row["asked_peak"]
             check(abs(row["backed_peak_change"] - 100 * (row["backed_peak"] - first) / first) < 0.051, f"{name}: {row['backed_peak_change']}")
+            check(abs(row["backed_peak_overhead"] - 100 * (4096 * row["backed_peak"] - asked) / asked) < 0.051, f"{name}: {row['backed_peak_overhead']}")
         text = policies(program, log, *words).stdout.splitlines()
         check([line.split("  ")[0] for line in text[1:len(names) + 1]] == names and "change" in text[0], f"{names}: {text[:3]}")
         read = list(csv.DictReader(io.StringIO(policies(program, log, *words, "--csv").stdout)))
@@ -135,7 +139,64 @@ def test_said(program, room):
     made = policies(program, log, "--version", "4", "--age", "1,2,3")
     said = [line for line in made.stderr.splitlines() if "hasn't seen asked for" in line]
     check(made.returncode == 0 and len(said) == 1 and said[0].startswith("policies: age 1: "), f"what is cut: {made.stderr}")
+    check("operation" not in made.stderr and "the blocks fill" not in made.stderr, f"what is said of each trace: {made.stderr}")
+    records = [request(1, at << 8, 24, site=7 if at % 4 else 8) for at in range(1, 13)]
+    log = write_log(room / "wrapper.log", records)
+    said = "one call site has 9 of 12 requests, "
+    check(policies(program, log, "--heaps", "one,site", "--age", "1,2").stderr.count(said) == 1, "a call site with most of the requests")
+    made = trace_of(log, "--heaps", "site", "--strict")
+    check(made.returncode == 0 and said in made.stderr and said not in trace_of(log).stderr, f"a call site with most of the requests: {made.stderr}")
+    made = trace_of(write_log(room / "half.log", records[2:4]), "--heaps", "site")
+    check(made.returncode == 0 and "one call site" not in made.stderr, f"two call sites with as many requests: {made.stderr}")
+    log = write_log(room / "large.log", [request(1, at << 24, 1 << 20) for at in range(1, 90)])
+    made = policies(program, log, "--heaps", "one,size")
+    check("warning: what lives passes the region" in made.stderr, f"a region that is too small: {made.stderr}")
+    check("requests were refused" in made.stderr and "heaps one; heaps size" in made.stderr, f"a region that is too small: {made.stderr}")
     print("what is cut is said once")
+
+
+def mean_of_requests(transcript):
+    """By a reading of our own: the pages with memory after each line that answers a request."""
+    pages, after = set(), []
+    for words in map(str.split, transcript.read_text().split("\nreport\n")[0].splitlines()):
+        if words[1:2] == ["back"]:
+            pages.add(words[3])
+        elif words[1:2] == ["unback"]:
+            pages.discard(words[3])
+        elif words[1:2] and (words[1] in ANSWERS or words[1] == "skipped" and words[-1].isdecimal()):
+            after.append(len(pages))
+    return sum(after) / len(after)
+
+
+def test_same(program, room):
+    """Policies that come to one run are said to, have one map, and the options that make no difference are named. The mean over requests is that of a
+    reading of our own, and passes that give nothing back don't change it, though they have lines."""
+    log, page, kept = write_log(room / "same.log", waves(random.Random(6))), room / "same.html", room / "same"
+    made = policies(program, log, "--heaps", "one,site", "--age", "1,4,9", "--pages", "3000", "-o", page, "--json")
+    rows, (own, maps) = json.loads(made.stdout), read_page(page)
+    said = made.stderr.splitlines()
+    for at, heaps in enumerate(("one", "site")):
+        same = [f"policies: heaps {heaps}, age {age}: the same run as heaps {heaps}, age 1" for age in (4, 9)]
+        check(all(line in said for line in same) and own["maps"][3 * at:3 * at + 3] == [at] * 3, f"heaps {heaps}: {made.stderr} {own['maps']}")
+    check([row["age"] for row in rows] == ["1", "4", "9"] * 2 and len({row["backed_mean"] for row in rows}) == 2, f"ages without passes: {rows}")
+    check([each["name"] for each in maps] == ["heaps one, age 1", "heaps site, age 1"], f"{len(maps)} maps")
+    check(sum("makes no difference" in line for line in said) == 1 and any("--age makes no difference" in line for line in said), made.stderr)
+    words = ["--pages", "3000", "--pass", "0,25", "--keep", kept]
+    made = policies(program, log, *words, "--json")
+    none, some = json.loads(made.stdout)
+    check("passes without ticks give nothing back" in made.stderr and "makes no difference" not in made.stderr, f"passes alone: {made.stderr}")
+    check(none["backed_mean"] != some["backed_mean"] and some["returned"] == 0 < some["passes"], f"passes alone: {none} {some}")
+    check(none["backed_mean_of_requests"] == some["backed_mean_of_requests"], f"passes alone: {none['backed_mean_of_requests']}, {some}")
+    made = policies(program, log, *words, "--tick", "10", "--age", "1,9", "--json")
+    told, read = ([row["backed_mean_of_requests"] for row in json.loads(made.stdout)], [mean_of_requests(kept / f"{at}.transcript") for at in range(4)])
+    check(len(told) == 4 and all(abs(one - other) < 0.051 for one, other in zip(told, read)) and len(set(told)) == 3, f"means: {told}, and {read}")
+    check("age 9" in made.stderr and "makes no difference" not in made.stderr and "without ticks" not in made.stderr, f"with ticks: {made.stderr}")
+    check("the same requests" not in made.stderr and "were refused" not in made.stderr, made.stderr)
+    made = policies(program, log, "--pages", "16000", "--pass", "0,1")
+    check("the runs don't have the same requests" in made.stderr, f"a run that is cut: {made.stderr}")
+    tables = [line.split("  ")[0] for line in policies(program, log, *words, "--all").stdout.splitlines()]
+    check(tables[0] == "Policies" and [line in tables for line in ("Pages", "Bytes", "Requests and frees")] == [True] * 3, f"--all: {tables}")
+    print("policies that come to one run, and means over requests")
 
 
 def test_refusals(program, room):
@@ -238,6 +299,22 @@ def test_in_browser(browser_path, page, rows, into):
     print(f"{len(rows)} curves and maps in a real browser")
 
 
+def test_same_in_browser(browser_path, page):
+    """Of six runs that come to two there are two maps, two buttons above them and two colours, and each run's own button shows the right one."""
+    with Browser(browser_path, *SIZE) as browser:
+        browser.open(page, "document.querySelectorAll('#curves .peak').length")
+        for at in range(6):
+            browser.value(f"document.querySelectorAll('[data-map]')[{at}].click()")
+            check(browser.value(MAPS) == [at < 3, at >= 3], f"run {at} of six: {browser.value(MAPS)}")
+        tabs = browser.value("[...document.getElementById('maps').children].map(each => each.textContent)")
+        colours = browser.value("[...document.querySelectorAll('#curves .backed')].map(each => each.getAttribute('stroke'))")
+        check(tabs == ["heaps one, age 1", "heaps site, age 1"], f"buttons: {tabs}")
+        check(colours == [colours[0]] * 3 + [colours[3]] * 3 and colours[0] != colours[3], f"colours: {colours}")
+        said = browser.value("[...document.querySelectorAll('#policies small')].map(each => each.textContent)")
+        check(said == [f"the same run as {tabs[at // 2]}" for at in range(4)], f"what is said of runs that are the same: {said}")
+        check(not browser.faults(), f"{browser.faults()}")
+
+
 def memory_of(program, log, *words):
     """The rows, the greatest memory in kilobytes, and the seconds."""
     code = f"import re, runpy, sys; sys.argv[1:] = {[str(log), '--program', program, '--json', *map(str, words)]!r}\n" \
@@ -274,12 +351,14 @@ def main():
         test_choices(program, room)
         test_options(program, room)
         test_said(program, room)
+        test_same(program, room)
         test_refusals(program, room)
         test_interrupts(room)
         page, rows = test_page(program, room)
         if browser := find_browser():
             try:
                 test_in_browser(browser, page, rows, options.into)
+                test_same_in_browser(browser, room / "same.html")
             except BrowserFault as fault:
                 check(False, f"the browser: {fault}")
         else:

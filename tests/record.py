@@ -171,13 +171,14 @@ def test_call_sites(room):
 
 SITES = """#include <stdlib.h>
 void *volatile kept;
+void before(void) { kept = 0; }
 __attribute__((noinline)) static void one(void) { kept = malloc(10); }
 __attribute__((noinline)) static void other(void) { kept = malloc(20); }
 int main(void) { one(); one(); other(); return 0; }
 """
 # How the program is built, whether its file is older than the log, and what stands behind its name and the address: the function, and the line.
 BUILDS = [(["-g", "-no-pie"], True, " {} {}.c:{}"), (["-g", "-pie", "-fPIE"], True, " {} {}.c:{}"), (["-no-pie"], True, " {}"), (["-no-pie", "-s"], True, ""),
-          (["-g", "-no-pie"], False, None)]
+          (["-no-pie", "-s", "-rdynamic"], True, ""), (["-g", "-no-pie"], False, None)]
 
 
 def test_names(room):
@@ -191,7 +192,7 @@ def test_names(room):
         record(log, [str(program)])
         os.utime(program, (0, 0) if is_older else (1 << 32, 1 << 32))
         made = trace_of(log, "--heaps", "site")
-        for heap, (count, function, line) in enumerate(((2, "one", 3), (1, "other", 4))):
+        for heap, (count, function, line) in enumerate(((2, "one", 4), (1, "other", 5))):
             if named is None:
                 check(re.search(f"# heap {heap}: {count} requests, byte 0x[0-9a-f]+ of sites\n", made.stdout), f"a program that was changed: {made.stdout}")
                 continue
@@ -238,6 +239,7 @@ def test_statuses(room):
     made = record(log, ["sh", "-c", "exit 0"])
     records = struct.unpack_from(HEAD, log.read_bytes())[1]
     check(0 < records < 1024 and log.stat().st_size == HEAD_ROOM + 1024 * struct.calcsize(RECORD_SHAPE), f"{records} records: {log.stat().st_size} bytes")
+    check(f"record: {log}: {records} records, 1 thread, " in made.stderr, f"a path outside this folder: {made.stderr}")
     status, said = interrupted([sys.executable, str(RECORD), "-o", str(log), "--", "sh", "-c", "echo begun >&2; sleep 20"], "begun")
     check(status == 128 + signal.SIGINT and "Traceback" not in said and "ended by signal 2" in said, f"an interrupt: {status} {said}")
     print("eight statuses, a small log, an interrupt")
@@ -254,7 +256,7 @@ def test_program(program, room, name, command, environment):
     asked = sum(chr(each[-1]) in "mcaplvw>" and each[0] != 0 for each in records)
     for options in WAYS:
         converted = trace_of(log, *options)
-        check(converted.returncode == 0 and all("share another's number" in line for line in converted.stderr.splitlines()[2:]), f"{name} {options}: {converted.stderr}")
+        check(converted.returncode == 0 and all("share another's number" in line or "one call site has" in line for line in converted.stderr.splitlines()[2:]), f"{name} {options}: {converted.stderr}")
         for word in ("order", "run"):
             run = called_with(program, word, converted.stdout)
             what = f"{name} {' '.join(options)}, {word}"
@@ -280,7 +282,7 @@ def moved_in(records):
 
 def test_version(program, what, converted, live, asked, moved):
     """A trace of a later version: each realloc of a block is a line, and what lives at the end is what the log says."""
-    check(converted.returncode == 0 and all("share another's number" in line for line in converted.stderr.splitlines()[2:]), f"{what}: {converted.stderr}")
+    check(converted.returncode == 0 and all("share another's number" in line or "one call site has" in line for line in converted.stderr.splitlines()[2:]), f"{what}: {converted.stderr}")
     seen = second_reading(what, converted.stdout)
     if seen is None:
         return

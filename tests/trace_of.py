@@ -81,6 +81,18 @@ def frees(count):
     return [free(1, 16 * each) for each in range(1, count + 1)]
 
 
+def growing(steps):
+    """A block of one page more at each step, and behind each a page of small ones; the log of frees is flushed in between."""
+    records, first = [], 16
+    for pages in range(1, steps + 1):
+        records += [request(1, first << 12, 4096 * pages)] + ([free(1, (first - 1) << 12)] if pages > 1 else [])
+        records += [request(1, (first << 20) + 16 * each, 24) for each in range(128)]
+        for each in range(65):
+            records += [request(1, (first << 20) + 4096, 900), free(1, (first << 20) + 4096)]
+        first += 1
+    return records
+
+
 # Logs, options, and the pages that their blocks fill and that the region gets: a page has 128 slots of 32 bytes, 64 frees stay in a thread's log, other
 # threads have pages of their own, and where blocks of several lengths share pages it is half more, or four times as much with guards.
 PAGES = {
@@ -96,6 +108,7 @@ PAGES = {
     "more whole pages": (blocks(43, 4096), [], 43, 128),
     "whole pages with guards": (blocks(6, 4096), ["--guard", "2"], 12, 64),
     "more of them": (blocks(9, 4096), ["--guard", "2"], 17, 128),
+    "a block that grows": (growing(20), [], 76, 256),
     "bit-fit blocks": (blocks(86, 2048), [], 43, 128),
     "a move takes a block before it frees one": (blocks(42, 4096) + moved(1, 16, 8192, 8192), [], 44, 128),
     "a kept block": (blocks(42, 4096) + moved(1, 16, 16, 2048), [], 42, 64),

@@ -104,7 +104,9 @@ def cell(value: object, key: str = "") -> str:
         return " ".join(f"{actor}:{count:,}" for actor, count in value.items()) or "-"
     if value is None or isinstance(value, str):
         return value or "?"
-    return f"{value:+,}%" if key.endswith("_change") else f"{value:,}%" if key == "fragmentation" else f"{value:,}"
+    if key.endswith(("_change", "_overhead")):
+        return f"{value:+,}%"
+    return f"{value:,}%" if key == "fragmentation" else f"{value:,}"
 
 
 def names_of(rows: list[dict[str, object]]) -> list[str]:
@@ -141,10 +143,11 @@ def write(rows: list[dict[str, object]], form: str | None, out: TextIO, names: l
         print("\n".join(tables_of(rows, names or names_of(rows), tables)).rstrip(), file=out)
 
 
-def add_forms(parser: argparse.ArgumentParser) -> None:
+def add_forms(parser: argparse.ArgumentParser) -> argparse._MutuallyExclusiveGroup:
     forms = parser.add_mutually_exclusive_group()
     forms.add_argument("--csv", dest="form", action="store_const", const="csv", help="a line of CSV for each run")
     forms.add_argument("--json", dest="form", action="store_const", const="json", help="a list of objects")
+    return forms
 
 
 def main() -> None:

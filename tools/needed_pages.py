@@ -6,6 +6,7 @@ until its log is flushed; this is followed here as the program does it.
 
 from __future__ import annotations
 
+from bisect import bisect_left
 from collections import Counter, defaultdict
 from collections.abc import Container
 from typing import NamedTuple
@@ -25,19 +26,40 @@ SMALL = 16
 
 class Directory:
     """What lives in a heap's pages of one kind, and the most that did: slots, grains or pages; and the threads that asked,
-    as bits."""
+    as bits. Of whole pages also the holes, and how many pages got a deed."""
 
-    __slots__ = ("live", "most", "threads")
+    __slots__ = ("live", "most", "threads", "holes", "filled")
 
     def __init__(self) -> None:
-        self.live = self.most = self.threads = 0
+        self.live = self.most = self.threads = self.filled = 0
+        self.holes: list[tuple[int, int]] = []
+
+    def place(self, pages: int, next_: int) -> int:
+        """Where whole pages come to stand: in the first hole with room, or behind all pages of the region."""
+        for at, (first, end) in enumerate(self.holes):
+            if first + pages <= end:
+                self.holes[at:at + 1] = [(first + pages, end)] if first + pages < end else []
+                return first
+        self.filled += pages
+        return next_
+
+    def leave(self, first: int, pages: int) -> None:
+        """Whole pages become a hole, one with those beside it."""
+        end, at = first + pages, bisect_left(self.holes, (first, first))
+        if at < len(self.holes) and self.holes[at][0] == end:
+            end = self.holes.pop(at)[1]
+        if at and self.holes[at - 1][1] == first:
+            at -= 1
+            first = self.holes.pop(at)[0]
+        self.holes.insert(at, (first, end))
 
 
 class Held(NamedTuple):
-    """What a block has of its directory."""
+    """What a block has of its directory; and of whole pages the first."""
 
     directory: Directory
     amount: int
+    first: int = 0
 
 
 class Need(NamedTuple):
@@ -63,6 +85,7 @@ class NeededPages:
         self.directories: defaultdict[tuple[int, int], Directory] = defaultdict(Directory)
         self.logs: defaultdict[int, list[Held]] = defaultdict(list)
         self.of_whole_pages: defaultdict[int, int] = defaultdict(int)
+        self.next = 0
 
     def ask(self, thread: int, heap: int, room: Room, is_guarded: bool) -> Held:
         kind, amount = (room.bytes, 1) if room.is_class else (BITFIT, room.bytes // LEAST_ALIGN)
@@ -74,9 +97,15 @@ class NeededPages:
         directory = self.directories[heap, kind]
         directory.live += amount
         if directory.live > directory.most:
+            in_page = PAGE // kind if kind else GRAINS
+            self.next += pages_for(directory.live, in_page) - pages_for(directory.most, in_page) if kind != WHOLE else 0
             directory.most = directory.live
         directory.threads |= 1 << thread
-        return Held(directory, amount)
+        if kind != WHOLE:
+            return Held(directory, amount)
+        first = directory.place(amount, self.next)
+        self.next = max(self.next, first + amount)
+        return Held(directory, amount, first)
 
     def free(self, thread: int, held: Held) -> None:
         log = self.logs[thread]
@@ -85,8 +114,10 @@ class NeededPages:
         log.append(held)
 
     def flush(self, thread: int) -> None:
-        for directory, amount in self.logs[thread]:
+        for directory, amount, first in self.logs[thread]:
             directory.live -= amount
+            if directory.filled:
+                directory.leave(first, amount)
         self.logs[thread].clear()
 
     def small(self, pages: int) -> list[int]:
@@ -100,23 +131,25 @@ class NeededPages:
     def need(self, shared: Container[int]) -> Need:
         """A page of a class is new only where each other page of the class is full or another thread's, so a directory of a
         class has a page more for each other thread. Where blocks of several lengths share pages they leave holes, at first fit
-        about half as many as there are blocks: there it is half more. Guards stand on pages that never had memory, so that
-        their holes aren't filled: with them it is four times as many whole pages."""
+        about half as many as there are blocks: there it is half more. A block of whole pages that grows finds no room in the
+        holes that it left, so those pages are laid out, too. Guards stand on pages that never had memory, so that their holes
+        aren't filled: with them it is four times as many whole pages."""
         least = wanted = 0
-        filled, taken = Counter(), Counter()
+        shared_grains, taken = Counter(), Counter()
         for (heap, kind), directory in self.directories.items():
             most, threads = directory.most, directory.threads.bit_count()
             if kind == WHOLE:
-                least, wanted = least + most, wanted + (4 * most if self.guard else with_holes(most))
+                least += most
+                wanted += max(4 * most if self.guard else with_holes(most), directory.filled)
             elif kind == BITFIT:
                 pages = pages_for(most, GRAINS)
                 least, wanted = least + pages, wanted + with_holes(pages) + threads - 1
             elif heap in shared:
-                filled[heap] += most * kind // LEAST_ALIGN
+                shared_grains[heap] += most * kind // LEAST_ALIGN
                 taken[heap] += (most + threads * (SLOTS_AT_ONCE - 1)) * kind // LEAST_ALIGN
             else:
                 pages = pages_for(most, PAGE // kind)
                 least, wanted = least + pages, wanted + pages + threads - 1
-        least += sum(pages_for(grains, GRAINS) for grains in filled.values())
+        least += sum(pages_for(grains, GRAINS) for grains in shared_grains.values())
         wanted += sum(with_holes(pages_for(grains, GRAINS)) for grains in taken.values())
         return Need(least, max(STEP, STEP * pages_for(wanted, STEP)))

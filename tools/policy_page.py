@@ -15,17 +15,17 @@ from trace_text import PAGE
 
 HERE = Path(__file__).resolve().parent
 COLUMNS = 1000
-ANSWERS = (b"give", b"kept", b"no-space", b"held", b"skipped")
-REFUSALS, WRONG_FREES = ("no_space", "held", "skipped"), ("ended", "no_block", "size_differs", "outside", "unaligned")
+SUMS = {"refusals": ("no_space", "held", "skipped"),
+        "wrong_frees": ("ended", "no_block", "size_differs", "outside", "unaligned")}
 # The columns of the page's table: what stands above each, its name, and what it tells.
 TABLE = [("peak", "backed_peak", "most pages with memory"),
          ("change", "backed_peak_change", "of the peak, against the first policy"),
-         ("mean", "backed_mean", "pages with memory, over all lines"),
+         ("over asked", "backed_peak_overhead", "of the peak's bytes, against the most that were asked for at once"),
+         ("mean", "backed_mean_of_requests", "pages with memory, over the requests that were answered"),
          ("end", "backed_end", "pages with memory at the end"),
          ("returned", "returned", "times that a page's memory went back"),
          ("again", "backed_again", "times that a page got memory that had had some before"),
          ("asked, peak", "asked_peak", "most bytes that were asked for"),
-         ("fragmentation", "fragmentation", "at the peak, the part of the pages' bytes that nobody asked for"),
          ("refusals", "refusals", "requests that got nothing"),
          ("wrong frees", "wrong_frees", "frees without effect"),
          ("guards due", "guards_due", "requests that were to be guarded"),
@@ -41,7 +41,7 @@ class Curves:
 
     def see(self, run: Run) -> None:
         """To be called where a part of the lines ends."""
-        self.requests.append(sum(run.counts[word] for word in ANSWERS))
+        self.requests.append(run.answered())
         self.backed.append(max(run.backed.end_part(), 0))
         self.asked.append(max(run.blocks.asked.end_part(), 0))
         self.lines.append(run.line)
@@ -52,30 +52,38 @@ class Curves:
         return [row["backed_peak"], line, bisect_left(self.lines, line)]
 
 
-def table_of(names: list[str], rows: list[dict[str, object]]) -> str:
+def with_sums(row: dict[str, object]) -> dict[str, object]:
+    """A run's figures, with the sums that the table has."""
+    return row | {name: sum(row[key] for key in keys) for name, keys in SUMS.items()}
+
+
+def table_of(names: list[str], rows: list[dict[str, object]], firsts: list[int]) -> str:
     heads = "".join(f'<th title="{escape(told)}">{escape(head)}</th>' for head, _, told in TABLE)
     lines = [f"<tr><th></th><th class='text'>policy</th>{heads}<th></th></tr>"]
     for at, (name, row) in enumerate(zip(names, rows)):
-        sums = (("refusals", REFUSALS), ("wrong_frees", WRONG_FREES))
-        shown = row | {name: sum(row[key] for key in keys) for name, keys in sums}
+        shown, first = with_sums(row), firsts[at]
+        same = "" if first == at else f"<br><small>the same run as {escape(names[first])}</small>"
         cells = "".join(f"<td>{escape(cell(shown[key], key))}</td>" for _, key, _ in TABLE)
         lines.append(f'<tr><td><label><input type="checkbox" checked data-run="{at}"><i></i></label></td>'
-                     f'<td class="text">{escape(name)}</td>{cells}<td><button data-map="{at}">map</button></td></tr>')
+                     f'<td class="text">{escape(name)}{same}</td>{cells}<td><button data-map="{at}">map</button></td></tr>')
     return "\n".join(lines)
 
 
 def page_of(log: str, names: list[str], rows: list[dict[str, object]], curves: list[Curves],
-            files: list[tuple[Path, Path]]) -> str:
-    """The whole page. All curves end at the most memory that any run had, and so do those of the maps."""
+            files: list[tuple[Path, Path]], firsts: list[int]) -> str:
+    """The whole page. All curves end at the most memory that any run had, and so do those of the maps. Of runs that are
+    the same the first has a map."""
+    shown = sorted(set(firsts))
     scale = max(int(row["backed_peak"]) for row in rows) * PAGE
     data = {"names": names, "scale": scale, "page": PAGE,
+            "maps": [shown.index(first) for first in firsts],
             "peaks": [each.peak_of(row) for each, row in zip(curves, rows)],
             "curves": [[list(each.requests), list(each.backed), list(each.asked)] for each in curves]}
     maps = "\n".join(
         f'<div class="policy" id="map{at}"{" hidden" if at else ""}>\n'
-        f'{page_section.section_of(*files[at], name=name, scale=scale).markup}</div>' for at, name in enumerate(names))
+        f'{page_section.section_of(*files[at], name=names[at], scale=scale).markup}</div>' for at in shown)
     body = (HERE / "policies.html").read_text()
-    told = {"LOG": escape(log), "TABLE": table_of(names, rows), "MAPS": maps,
+    told = {"LOG": escape(log), "TABLE": table_of(names, rows, firsts), "MAPS": maps,
             "DATA": json.dumps(data, separators=(",", ":")).replace("<", "\\u003c")}
     for mark, text in told.items():
         head, _, tail = body.partition(f"@{mark}@")

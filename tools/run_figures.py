@@ -18,6 +18,8 @@ from trace_lines import Fault, shown
 COUNTED = {b"tick": 3, b"pass": 3, b"stopped": 3, b"lowered": 4, b"bare": 4, b"young": 6, b"in-use": 8,
            b"not-offered": 4, b"ended": 5, b"no-block": 5, b"size-differs": 7, b"outside": 5, b"unaligned": 5}
 KINDS = (b"class", b"shared", b"bitfit", b"large")
+# The words of lines that answer a request.
+ANSWERS = (b"give", b"kept", b"no-space", b"held", b"skipped")
 SIZE_BITS, SIZE = 32, (1 << 32) - 1
 AT_ONCE = 1 << 18
 
@@ -104,7 +106,7 @@ class Run:
 
     def __init__(self, trace: Path, path: Path) -> None:
         self.path, self.requests, self.blocks, self.backed = path, Requests(trace, path), Blocks(), Gauge()
-        self.line = self.last = self.again = 0
+        self.line = self.last = self.again = self.moved = 0
         self.phases = 1
         self.at_peak = 0, 0, 0, 0
         self.ended_early: dict[bytes, int] = {}
@@ -211,14 +213,28 @@ class Run:
         page = self.page(word)
         self.again += page in self.was_backed
         self.was_backed.add(page)
-        self.backed.add(1, self.line)
+        self.move_page(1)
         self.see_peak()
+
+    def move_page(self, change: int) -> None:
+        self.backed.add(change, self.line)
+        self.moved += change * self.answered()
+
+    def answered(self) -> int:
+        """How many requests have an answer."""
+        return sum(map(self.counts.__getitem__, ANSWERS))
+
+    def mean_of_requests(self) -> float:
+        """Pages with memory, over the answers: of a pass or a deed one run has more lines than another, and these don't
+        weigh."""
+        answered = self.answered()
+        return self.backed.now - self.moved / answered if answered else 0.0
 
     def unback(self, words: list[bytes]) -> None:
         _, word, _, page, _, _ = words
         self.page(page)
         self.counts[word] += 1
-        self.backed.add(-1, self.line)
+        self.move_page(-1)
 
     def refuse(self, words: list[bytes]) -> None:
         """A refusal answers the request whose name it has last."""

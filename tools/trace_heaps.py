@@ -50,6 +50,13 @@ class Heaps:
         self.requests[heap] += 1
         return heap
 
+    def chief(self) -> str:
+        """Of one call site that has most of the requests, if there is one: how many, and what it is."""
+        most, all_ = max(self.requests[:LAST]), sum(self.requests)
+        if self.by != "site" or 2 * most <= all_:
+            return ""
+        return f"one call site has {most:,} of {all_:,} requests, {self.names[self.requests.index(most)]}"
+
     def comments(self) -> list[str]:
         asked = [(heap, count) for heap, count in enumerate(self.requests) if count and self.names]
         return [f"# heap {heap}: {count:,} requests, {self.names[heap]}" for heap, count in asked]

@@ -226,17 +226,25 @@ def write(made: Made, file: Path | None) -> None:
         sys.exit(f"trace_of: {file or 'standard output'}: {fault.strerror}")
 
 
+def counted(number: int, what: str) -> str:
+    return f"{number:,} {what}" + ("" if number == 1 else "s")
+
+
 def convert(options: argparse.Namespace) -> int:
     """Writes the trace, and answers the status."""
     it = made(read_log(options), options)
     write(it, options.file)
     trace, heaps = it.conversion.trace, it.conversion.heaps
-    said = [f"{trace.operations:,} operations of {trace.counts[0]} threads in {trace.phase:,} phases and {heaps.count} heaps; "
-            f"{trace.live:,} blocks live at the end", *about_pages(it, options)]
+    operations, threads, phases, used, live = map(counted, (trace.operations, trace.counts[0], trace.phase, heaps.count, trace.live),
+                                                  ("operation", "thread", "phase", "heap", "block"))
+    said = [f"{operations} of {threads} in {phases} and {used}; {live} left at the end", *about_pages(it, options)]
     said += [f"cut: {count:,} {what}" for what, count in it.conversion.cut.items()]
+    status = CUT if options.strict and len(said) > 2 else 0
+    if chief := heaps.chief():
+        said.append(f"{chief}: if it is a wrapper of malloc, a recording with a greater --up parts them")
     for line in said:
         print(f"trace_of: {line}", file=sys.stderr)
-    return CUT if options.strict and len(said) > 2 else 0
+    return status
 
 
 def main() -> None:

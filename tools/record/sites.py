@@ -94,15 +94,16 @@ def symbols_of(file: Path) -> list[tuple[int, int, str]]:
 
 def functions(file: Path, addresses: list[int]) -> dict[int, str]:
     """The function and the line of each address of the file, as far as its debug information or its symbols tell them.
-    A site is the address behind its call, so the byte before it is looked up."""
+    A site is the address behind its call, so the byte before it is looked up. Without debug information addr2line names
+    the function before the address, however far that is."""
     said = said_by(["addr2line", "-f", "-C", "-e", str(file)], "".join(f"{each - 1:#x}\n" for each in addresses))
     told, symbols = {}, None
     for address, function, line in zip(addresses, said[::2] or ["??"] * len(addresses), said[1::2] or ["??:0"] * len(addresses)):
-        if function.startswith("??"):
+        is_known = not line.startswith("??") and not line.split()[0].endswith((":?", ":0"))
+        if not is_known:
             symbols = symbols_of(file) if symbols is None else symbols
             at = bisect_right(symbols, (address - 1, 1 << 64, ""))
             function = symbols[at - 1][2] if at and symbols[at - 1][1] >= address else ""
-        is_known = not line.startswith("??") and not line.split()[0].endswith((":?", ":0"))
         told[address] = " ".join(filter(None, [function, Path(line.split(" ")[0]).name if is_known else ""]))
     return told
 
