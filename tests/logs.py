@@ -61,7 +61,9 @@ def second_reading(what, text):
 def on_terminal(words, seen=lambda child, said: None):
     """The status of a tool, and what it says on standard error where that is a terminal. Each part of that is shown to `seen`."""
     ours, theirs = pty.openpty()
-    child = subprocess.Popen(words, stdin=subprocess.DEVNULL, stdout=subprocess.DEVNULL, stderr=theirs, start_new_session=True)
+    # A shell starts what it runs in the background with interrupts ignored, and that goes on to each child.
+    child = subprocess.Popen(words, stdin=subprocess.DEVNULL, stdout=subprocess.DEVNULL, stderr=theirs, start_new_session=True,
+                             preexec_fn=lambda: signal.signal(signal.SIGINT, signal.SIG_DFL))
     os.close(theirs)
     said = b""
     try:
