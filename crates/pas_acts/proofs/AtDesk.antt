@@ -41,8 +41,8 @@ use Rattle.pas_acts.specs.AtDesks.{Here, here, MayOperate, ThreadActs, GoesThrou
 use Rattle.pas_acts.proofs.Alone.{of_seat, rests_after}
 
 -- ---- with less room
-pub sits_for : {f : Profile} {k : ℕ} {Rest : View → Type 0} {σ : Standing} {v : View} {need need' : ℕ} → Sits f k Rest σ v need → need' ≤ need → Sits f k Rest σ v need'
-sits_for s less = let room = s.room in record { actor = s.actor; profile = s.profile; beside = s.beside; stood = s.stood; rest = s.rest; room = omega (arith, room, less) }
+pub sits_for : {f : Profile} {k : ℕ} {Rest : View → Type 0} {σ : Standing} {l : Whole} {need need' : ℕ} → Sits f k Rest σ l need → need' ≤ need → Sits f k Rest σ l need'
+sits_for s less = let room = s.room in record { actor = s.actor; profile = s.profile; stood = s.stood; rest = s.rest; room = omega (arith, room, less) }
 
 pub rests_for : {f : Profile} {k : ℕ} {σ : Standing} {c : Cached} {out : Records} {later later' : Later} {p : Progress} → RestsAt f k σ c out later p → later'.events ≤ later.events → later'.records ≤ later.records → RestsAt f k σ c out later' p
 rests_for at events records = let spare = at.spare in record { sits = sits_for at.sits (omega (arith, events)); cache = at.cache; spare = omega (arith, spare, records) }
@@ -60,12 +60,12 @@ pub may_answer : {f : Profile} {k : ℕ} {what : What} {meant : Option Block} {�
 may_answer {f} {k} {what} {meant} {σ} {c} {out} {later} {p} spare fits may =
     let v = part k p.list in
     let s = may.rests.sits in
-    let is = subst (λ (j : ℕ). spare + length (events_of j v) ≡ σ.seat.room) s.actor (fits v s.beside s.stood) in
+    let is = subst (λ (j : ℕ). spare + length (events_of j v) ≡ σ.seat.room) s.actor (fits v p.list s.stood) in
     let room = s.room in
     let records = may.rests.spare in
     record {
       view = v;
-      whole = s.beside;
+      whole = p.list;
       stood = s.stood;
       met = subst (λ (g : Profile). MayAnswer g c what spare out v) (sym s.profile) record {
         may = record { rest = s.rest; room = omega (arith, is, room) };
@@ -89,7 +89,7 @@ module _ {f : Profile} {k : ℕ} {what : What} {meant came : Option Block} {σ �
   the_answer = answer_of steps did.said did.performs.found (named_by what came ++ p.names) c1
 
   is_answered : IsAnswered f k what (having p.names v c) the_answer
-  is_answered = of_seat may.rests.sits (λ (j : ℕ) (g : Profile). IsAnswered g j what (having p.names v c) the_answer) (did.performs.answered v may.rests.sits.beside may.rests.sits.stood was_at_rest p.names may.means may.known)
+  is_answered = of_seat may.rests.sits (λ (j : ℕ) (g : Profile). IsAnswered g j what (having p.names v c) the_answer) (did.performs.answered v p.list may.rests.sits.stood was_at_rest p.names may.means may.known)
 
   pub answered : IsAnswered f k what (having p.names v (p.caches k)) the_answer
   answered = subst (λ (d : Cached). IsAnswered f k what (having p.names v d) the_answer) (sym may.rests.cache) is_answered
@@ -101,11 +101,11 @@ module _ {f : Profile} {k : ℕ} {what : What} {meant came : Option Block} {σ �
   piece = records_of (events_by k v steps) ++ said_by k did.said
 
   pub pushed_so : records_in out' ≡ records_in out ++ piece
-  pushed_so = of_seat may.rests.sits (λ (j : ℕ) (g : Profile). records_in out' ≡ records_in out ++ (records_of (events_by j v steps) ++ said_by j did.said)) (did.pushed v may.rests.sits.beside may.rests.sits.stood was_at_rest)
+  pushed_so = of_seat may.rests.sits (λ (j : ℕ) (g : Profile). records_in out' ≡ records_in out ++ (records_of (events_by j v steps) ++ said_by j did.said)) (did.pushed v p.list may.rests.sits.stood was_at_rest)
 
   pub few_so : length (events_by k v steps) + length (said_by k did.said) + owed_events f c1 (steps ++ v) ≤ cost_of_what what + owed_events f c v
   few_so = of_seat may.rests.sits (λ (j : ℕ) (g : Profile). length (events_by j v steps) + length (said_by j did.said) + owed_events g c1 (steps ++ v) ≤ cost_of_what what + owed_events g c v)
-      (did.performs.few v was_at_rest (did.performs.calls.adds.agreed v may.rests.sits.beside may.rests.sits.stood was_at_rest))
+      (did.performs.few v was_at_rest (did.performs.calls.adds.agreed v p.list may.rests.sits.stood was_at_rest))
 
   -- so is what came to its records, where it has a cache whose log is the same
   pub paid_so : (c' : Cached) → length c'.log ≡ length c1.log → length piece + owed_events f c' (part k (triples k steps ++ p.list)) ≤ cost_of_what what + owed_events f c v
@@ -256,7 +256,7 @@ has_begun {f} {k} {σ} {σ'} {c} {c'} {out} {later} {p} at did =
     let steps = epoch_look did.epoch in
     let q = after_wake p k did.epoch in
     let calls : Calls σ σ' (AtRest f c) (λ v w. AtRest f c' w) steps = subst (λ (g : Profile). Calls σ σ' (AtRest g c) (λ v w. AtRest g c' w) steps) at.sits.profile did.calls in
-    let agreed : Agreed f v steps = subst (λ (g : Profile). Agreed g v steps) at.sits.profile (calls.adds.agreed v at.sits.beside at.sits.stood at.sits.rest) in
+    let agreed : Agreed f v steps = subst (λ (g : Profile). Agreed g v steps) at.sits.profile (calls.adds.agreed v p.list at.sits.stood at.sits.rest) in
     let moves : Moves k (AtRest f c) (AtRest f c') σ σ' p q = record { steps = steps; list_is = refl; calls = calls } in
     let unknown = unknown_stays f steps v agreed in
     let log = ap (λ (d : Cached). length d.log) did.cache in

@@ -33,12 +33,12 @@ use Rattle.pas_acts.proofs.Alone.{sits_after}
 
 -- ---- before
 pub can_scavenge : {f : Profile} {σ : Standing} {out : Records} {later : Later} {p : Progress} → HasRoomAt f σ out later p → CanCall σ HasNothing
-can_scavenge {p = p} at = record { view = part 0 p.list; whole = at.sits.beside; stood = at.sits.stood; met = at.sits.rest }
+can_scavenge {p = p} at = record { view = part 0 p.list; whole = p.list; stood = at.sits.stood; met = at.sits.rest }
 
 pub pass_room : {f : Profile} {σ : Standing} {out : Records} {p : Progress} (later : Later) (spare : ℕ) → Spares σ spare → HasRoomAt f σ out (for_act f MakesPass later) p → σ.seat.profile.pages ≤ spare
 pass_room {f} {σ} {out} {p} later spare fits at =
     let v = part 0 p.list in
-    let is = subst (λ (k : ℕ). spare + length (events_of k v) ≡ σ.seat.room) at.sits.actor (fits v at.sits.beside at.sits.stood) in
+    let is = subst (λ (k : ℕ). spare + length (events_of k v) ≡ σ.seat.room) at.sits.actor (fits v p.list at.sits.stood) in
     let room = at.sits.room in
     let pages = ap (λ (h : Profile). h.pages) at.sits.profile in
     omega (arith, is, room, pages)
@@ -48,12 +48,11 @@ pass_room {f} {σ} {out} {p} later spare fits at =
 room_again : {f : Profile} {σ σ' : Standing} {out out' : Records} {p q : Progress} (act : Act) (later : Later) → HasRoomAt f σ out (for_act f act later) p → (moves : Moves 0 HasNothing HasNothing σ σ' p q) → (says : Says 0 out out' p q)
     → length (events_by 0 (part 0 p.list) moves.steps) ≤ unbacks_of_act f act → length says.said ≤ cost_of_act f act → HasRoomAt f σ' out' later q
 room_again {f} {σ} {σ'} {out} {out'} {p} {q} act later at moves says few paid =
-    let mine : part 0 q.list ≡ moves.steps ++ part 0 p.list = ap (λ (l : Whole). part 0 l) moves.list_is ∙ part_of_own 0 moves.steps p.list in
     let longer = ap (λ (rs : List Record). length rs) says.pushed ∙ length-append (records_in out) says.said in
     let spare = at.spare in
     let room = says.room in
     record {
-      sits = subst (λ (w : View). Sits f 0 HasNothing σ' w later.events) (sym mine) (sits_after at.sits moves.calls (omega (arith, few)));
+      sits = subst (λ (l : Whole). Sits f 0 HasNothing σ' l later.events) (sym moves.list_is) (sits_after at.sits moves.calls (omega (arith, few)));
       spare = omega (arith, longer, spare, room, paid);
     }
 

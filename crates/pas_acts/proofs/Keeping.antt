@@ -8,7 +8,7 @@ use Rattle.pas_steps.specs.Agreement.{Agreed}
 use Rattle.pas_steps.specs.Calls.{Calls}
 use Rattle.pas_steps.specs.Desks.{Standing, CanCall}
 use Rattle.pas_steps.specs.Events.{events_of, events_by}
-use Rattle.pas_steps.specs.Lists.{part}
+use Rattle.pas_steps.specs.Lists.{Whole, part}
 use Rattle.pas_steps.specs.Unknown.{unknown_pages}
 use Rattle.pas_steps.specs.Views.{View}
 use Rattle.pas_steps.specs.declared.step.Made.{Made}
@@ -35,9 +35,9 @@ use Rattle.pas_answers.specs.Keeping.{owed_by_keeper, cost_of_try, MayTry, Tries
 use Rattle.pas_answers.specs.Reaching.{AnswersOp, AnswersTried, AnswersGuarded, Advances}
 use Rattle.pas_answers.proofs.OwnRecords.{swept_each, try_each}
 use Rattle.pas_answers.proofs.Tries.{swept_count}
-use Rattle.pas_acts.specs.Keepers.{keeper_has, KeeperHas, LaterKept, and_try, KeeperAt, KeeperTries, KeeperLowers}
+use Rattle.pas_acts.specs.Keepers.{keeper_has, KeeperHas, HasStill, LaterKept, and_try, KeeperAt, KeeperTries, KeeperLowers}
 use Rattle.pas_acts.specs.Works.{Sits}
-use Rattle.pas_acts.proofs.Alone.{of_seat, sits_after}
+use Rattle.pas_acts.proofs.Alone.{of_seat, sits_after, sits_still}
 
 -- ---- books of which that of one keeper became another
 pub its_book : (books : Books) (k : ℕ) (guards : List Guard) → with_book books k guards k ≡ guards
@@ -68,27 +68,32 @@ At f k σ book out later p = KeeperAt f k (keeper_has σ book out) later p
 fits_seat : {f : Profile} {k : ℕ} {σ : Standing} {book : GuardBook} {out : Records} {later : LaterKept} {p : Progress} → At f k σ book out later p → FitsBook σ.seat.profile (guards_in book) (part k p.list)
 fits_seat {k = k} {book = book} {p = p} at = subst (λ (g : Profile). FitsBook g (guards_in book) (part k p.list)) (sym at.sits.profile) at.sits.rest
 
--- the keeper is there still, at each progress at which it has the same in hand
-pub keeper_still : {f : Profile} {k : ℕ} {has : KeeperHas} {later : LaterKept} {p q : Progress} → part k q.list ≡ part k p.list → q.books k ≡ p.books k → KeeperAt f k has later p → KeeperAt f k has later q
-keeper_still {f} {k} {has} {later} parts books at = record {
-  sits = subst (λ (w : View). Sits f k (FitsBook f (guards_in has.book)) has.desk w (unknown_pages f w + later.events)) (sym parts) at.sits;
-  book = books ∙ at.book;
-  spare = subst (λ (w : View). length (records_in has.out) + (owed_by_keeper f (guards_in has.book) w + later.records) ≤ room_of has.out) (sym parts) at.spare;
-  places = at.places;
-}
+-- what it owes then
+sits_owing : {f : Profile} {k : ℕ} {Rest : View → Type 0} {σ : Standing} {l : Whole} {v : View} (n : ℕ) → part k l ≡ v → Sits f k Rest σ l (unknown_pages f v + n) → Sits f k Rest σ l (unknown_pages f (part k l) + n)
+sits_owing {f} {k} {Rest} {σ} {l} {v} n mine s = subst (λ (w : View). Sits f k Rest σ l (unknown_pages f w + n)) (sym mine) s
+
+-- the keeper is there still, while another actor makes steps
+pub keeper_still : {f : Profile} {k : ℕ} {has has' : KeeperHas} {later : LaterKept} {p q : Progress} → HasStill has has' p.list q.list → part k q.list ≡ part k p.list → q.books k ≡ p.books k → KeeperAt f k has later p → KeeperAt f k has' later q
+keeper_still {f} {k} {has} {has'} {later} {p} {q} still parts books at =
+    subst (λ (z : GuardBook × Records). KeeperAt f k (keeper_has has'.desk z.0 z.1) later q) (λ i. (sym still.book i, sym still.out i)) record {
+      sits = sits_still (λ (w : View). unknown_pages f w + later.events) still.desk parts at.sits;
+      book = books ∙ at.book;
+      spare = subst (λ (w : View). length (records_in has.out) + (owed_by_keeper f (guards_in has.book) w + later.records) ≤ room_of has.out) (sym parts) at.spare;
+      places = at.places;
+    }
 
 -- ---- a request is tried
 pub may_try : {f : Profile} {k : ℕ} {σ : Standing} {book : GuardBook} {out : Records} {p : Progress} (later : LaterKept) (size spare : ℕ) → Spares σ spare → At f k σ book out (and_try size later) p → CanCall σ (MayTry σ.seat.profile book size spare out)
 may_try {f} {k} {σ} {book} {out} {p} later size spare fits at =
     let v = part k p.list in
     let s = at.sits in
-    let is = subst (λ (j : ℕ). spare + length (events_of j v) ≡ σ.seat.room) s.actor (fits v s.beside s.stood) in
+    let is = subst (λ (j : ℕ). spare + length (events_of j v) ≡ σ.seat.room) s.actor (fits v p.list s.stood) in
     let room = s.room in
     let records = at.spare in
     let places = at.places in
     record {
       view = v;
-      whole = s.beside;
+      whole = p.list;
       stood = s.stood;
       met = subst (λ (g : Profile). MayTry g book size spare out v) (sym s.profile) record {
         fits = s.rest;
@@ -123,8 +128,8 @@ has_tried {f} {k} {σ} {σ'} {book} {book'} {out} {out'} {p} {block} later r at 
     let got = of_seat s (λ (j : ℕ) (g : Profile). (said : List Record)
     × IsTried g j r v (guards_in book) (record { steps = steps; records = said; block = block; guards = guards_in book' })
     × (records_in out' ≡ records_in out ++ said)
-    × (length said + owed_by_keeper g (guards_in book') (steps ++ v) ≤ cost_of_try r.size block + owed_by_keeper g (guards_in book) v)) (did.tried v s.beside s.stood fits) in
-    let few = of_seat s (λ (j : ℕ) (g : Profile). length (events_by j v steps) + unknown_pages g (steps ++ v) ≤ cost_of_size r.size + unknown_pages g v) (did.few v fits (did.calls.adds.agreed v s.beside s.stood fits)) in
+    × (length said + owed_by_keeper g (guards_in book') (steps ++ v) ≤ cost_of_try r.size block + owed_by_keeper g (guards_in book) v)) (did.tried v p.list s.stood fits) in
+    let few = of_seat s (λ (j : ℕ) (g : Profile). length (events_by j v steps) + unknown_pages g (steps ++ v) ≤ cost_of_size r.size + unknown_pages g v) (did.few v fits (did.calls.adds.agreed v p.list s.stood fits)) in
     let calls : Calls σ σ' (FitsBook f (guards_in book)) (λ u w. FitsBook f (guards_in book') w) steps = subst (λ (g : Profile). Calls σ σ' (FitsBook g (guards_in book)) (λ u w. FitsBook g (guards_in book') w) steps) s.profile did.calls in
     let tried : Tried = record { steps = steps; records = got.0; block = block; guards = guards_in book' } in
     let q = after_trying p k tried in
@@ -145,7 +150,7 @@ has_tried {f} {k} {σ} {σ'} {book} {book'} {out} {out'} {p} {block} later r at 
       block_is = refl;
       given = subst (λ (g : Profile). MayStand g block) s.profile given;
       stands = record {
-        sits = subst (λ (w : View). Sits f k (FitsBook f (guards_in book')) σ' w (unknown_pages f w + later.events)) (sym mine) (sits_after s calls (omega (arith, few)));
+        sits = sits_owing later.events mine (sits_after s calls (omega (arith, few)));
         book = its_book p.books k (guards_in book');
         spare = omega (arith, longer, spare, room, owed, paid, cost);
         places = omega (arith, places, size, guards);
@@ -164,7 +169,7 @@ may_lower {f} {k} {σ} {book} {out} {later} {p} at =
     let records = at.spare in
     record {
       view = part k p.list;
-      whole = at.sits.beside;
+      whole = p.list;
       stood = at.sits.stood;
       met = record { fits = fits_seat at; records = omega (arith, records) };
     }
@@ -178,7 +183,7 @@ has_lowered {f} {k} {σ} {σ'} {book} {book'} {out} {out'} {later} {p} at did =
     let steps = did.steps in
     let lowered = of_seat s (λ (j : ℕ) (g : Profile). IsLowered g j v (guards_in book) steps did.said) (did.lowered v fits) in
     let calls : Calls σ σ' (FitsBook f (guards_in book)) (λ u w. FitsBook f (guards_in book') w) steps = subst (λ (g : Profile). Calls σ σ' (FitsBook g (guards_in book)) (λ u w. FitsBook g (guards_in book') w) steps) s.profile did.calls in
-    let agreed : Agreed f v steps = subst (λ (g : Profile). Agreed g v steps) s.profile (did.calls.adds.agreed v s.beside s.stood fits) in
+    let agreed : Agreed f v steps = subst (λ (g : Profile). Agreed g v steps) s.profile (did.calls.adds.agreed v p.list s.stood fits) in
     let silent = ap (λ (es : List Event). length es) (no_events sweeping refl k v steps lowered.sweep.kinds) in
     let unknown = unknown_stays f steps v agreed in
     let q = after_lowering p k steps did.said in
@@ -195,7 +200,7 @@ has_lowered {f} {k} {σ} {σ'} {book} {book'} {out} {out'} {later} {p} at did =
       reached = q;
       reaches = (q, (steps, did.said, subst (λ (gs : List Guard). IsLowered f k v gs steps did.said) (sym at.book) lowered, refl), refl);
       stands = record {
-        sits = subst (λ (w : View). Sits f k (FitsBook f (guards_in book')) σ' w (unknown_pages f w + later.events)) (sym mine) (sits_after s calls (omega (arith, silent, unknown)));
+        sits = sits_owing later.events mine (sits_after s calls (omega (arith, silent, unknown)));
         book = its_book p.books k [] ∙ sym did.none;
         spare = omega (arith, longer, spare, room, left, unknown, none, few);
         places = omega (arith, none, places, size);

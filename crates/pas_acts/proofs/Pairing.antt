@@ -17,10 +17,11 @@ use Rattle.pas_trace.specs.declared.plan.Op.{Op}
 use Rattle.pas_trace.specs.declared.plan.Task.{Task}
 use Rattle.pas_trace.specs.declared.plan.What.{What}
 use Rattle.pas_trace.specs.declared.plan.Work.{Work}
-use Rattle.pas_report.specs.Rooms.{records_in, Records}
+use Rattle.pas_report.specs.Rooms.{records_in, room_of, Records}
 use Rattle.pas_report.specs.declared.record.Record.{Record}
 use Rattle.pas_cache.specs.Caches.{Cached}
-use Rattle.pas_guard.specs.Books.{guards_in}
+use Rattle.pas_guard.specs.Books.{guards_in, size_of_book}
+use Rattle.pas_guard.specs.declared.book.GuardBook.{GuardBook}
 use Rattle.pas_answers.specs.Answers.{Named, Books, Progress, settled, after_settling}
 use Rattle.pas_answers.specs.Calls.{what_of, MayStand, IsKnown, IsMeant, named_by, named_with, owed_events}
 use Rattle.pas_answers.specs.Fit.{IsFitWhat, cost_of_what, own_cost_of, own_cost_of_act, own_costs_of}
@@ -31,11 +32,11 @@ use Rattle.pas_answers.proofs.Kept.{task_of}
 use Rattle.pas_answers.proofs.OwnRecords.{all_by, none_by, records_both}
 use Rattle.pas_answers.proofs.SingleActs.{its_cache}
 use Rattle.pas_acts.specs.AtDesks.{Here, here, and_for, MayOperate, ThreadActs}
-use Rattle.pas_acts.specs.Keepers.{KeeperHas, LaterKept, KeeperAt, KeeperTries, Keeping, NoKeeper, OneKeeper}
+use Rattle.pas_acts.specs.Keepers.{KeeperHas, LaterKept, KeeperAt, KeeperTries, Keeping, NoKeeper, OneKeeper, StandsAt, StandsStill, HasStill, KeptStands}
 use Rattle.pas_acts.specs.Pairs.{head_acts, MayTryTask, TriesTask, for_request, for_guard, for_guards, IsTriedBy, IsUnguarded, KeeperWaits, IsOfTwo, EachOfTwo, KeptPushed, KeptStill, owed_of, PairActs}
 use Rattle.pas_acts.specs.Turns.{RestsAt}
 use Rattle.pas_acts.specs.Works.{Later}
-use Rattle.pas_acts.proofs.Alone.{rests_still}
+use Rattle.pas_acts.proofs.Alone.{rests_still, stands_at}
 use Rattle.pas_acts.proofs.AtDesk.{own_cost, rests_for, settled_rest}
 use Rattle.pas_acts.proofs.Keeping.{keeper_still, guarded_by_keeper, guarded_by_thread}
 
@@ -93,35 +94,51 @@ head_cost op =
 
 -- ---- the keeper, where the thread alone acts
 -- it waits still, where its part and its book are as they were
-waits_still : (f : Profile) (keeper : ℕ) (kept : Keeping) (later : LaterKept) (p q : Progress) → part keeper q.list ≡ part keeper p.list → q.books keeper ≡ p.books keeper → KeeperWaits f keeper [] kept later p → KeeperWaits f keeper [] kept later q
-waits_still f keeper NoKeeper later p q parts books waits = tt
-waits_still f keeper (OneKeeper has) later p q parts books waits = (tt, keeper_still parts books waits.1)
+waits_still : (f : Profile) (keeper : ℕ) (kept kept' : Keeping) (later : LaterKept) (p q : Progress) → KeptStands kept kept' p.list q.list → part keeper q.list ≡ part keeper p.list → q.books keeper ≡ p.books keeper → KeeperWaits f keeper [] kept later p → KeeperWaits f keeper [] kept' later q
+waits_still f keeper NoKeeper NoKeeper later p q stands parts books waits = tt
+waits_still f keeper NoKeeper (OneKeeper new) later p q stands parts books waits = absurd stands
+waits_still f keeper (OneKeeper old) NoKeeper later p q stands parts books waits = absurd stands
+waits_still f keeper (OneKeeper old) (OneKeeper new) later p q stands parts books waits = (tt, keeper_still stands parts books waits.1)
 
-pub nothing_kept : (keeper : ℕ) (kept : Keeping) (said : List Record) → records_by keeper said ≡ [] → KeptPushed keeper said kept kept
-nothing_kept keeper NoKeeper said none = none
-nothing_kept keeper (OneKeeper has) said none = (sym (ap (λ (rs : List Record). records_in has.out ++ rs) none ∙ append-nil (records_in has.out)), refl, refl)
+-- where nobody acts
+pub kept_same : (kept : Keeping) (l : Whole) → KeptStands kept kept l l
+kept_same NoKeeper l = tt
+kept_same (OneKeeper has) l = record { desk = record { seat_is = refl; stands = λ stood same. stood }; book = refl; out = refl }
+
+pub nothing_kept : (keeper : ℕ) (kept kept' : Keeping) (l m : Whole) (said : List Record) → KeptStands kept kept' l m → records_by keeper said ≡ [] → KeptPushed keeper said kept kept'
+nothing_kept keeper NoKeeper NoKeeper l m said stands none = none
+nothing_kept keeper NoKeeper (OneKeeper new) l m said stands none = absurd stands
+nothing_kept keeper (OneKeeper old) NoKeeper l m said stands none = absurd stands
+nothing_kept keeper (OneKeeper old) (OneKeeper new) l m said stands none =
+    (ap records_in stands.out ∙ sym (ap (λ (rs : List Record). records_in old.out ++ rs) none ∙ append-nil (records_in old.out)), ap room_of stands.out, ap size_of_book stands.book)
 
 pub nobody_still : (keeper : ℕ) (kept : Keeping) (p q : Progress) → part keeper q.list ≡ part keeper p.list → KeptStill keeper kept p q
 nobody_still keeper NoKeeper p q parts = parts
 nobody_still keeper (OneKeeper has) p q parts = tt
 
+owes_same : (f : Profile) (kept kept' : Keeping) (l m : Whole) (v : View) → KeptStands kept kept' l m → owed_of f kept' v ≡ owed_of f kept v
+owes_same f NoKeeper NoKeeper l m v stands = refl
+owes_same f NoKeeper (OneKeeper new) l m v stands = absurd stands
+owes_same f (OneKeeper old) NoKeeper l m v stands = absurd stands
+owes_same f (OneKeeper old) (OneKeeper new) l m v stands = ap (λ (b : GuardBook). owed_by_keeper f (guards_in b) v) stands.book
+
 -- an act of the thread alone
-pub alone_acts : {f : Profile} {k : ℕ} {acts : List Act} {came : List Named} {old new : Here} {later : Later} {p : Progress} (keeper : ℕ) (kept : Keeping) (more : LaterKept) → k ≢ keeper → KeeperWaits f keeper [] kept more p
-    → ThreadActs f k acts came [] old new later p → PairActs f k keeper acts came old new kept kept later more p
-alone_acts {f} {k} {acts} {came} {old} {new} {later} {p} keeper kept more apart waits did =
+pub alone_acts : {f : Profile} {k : ℕ} {acts : List Act} {came : List Named} {old new : Here} {later : Later} {p : Progress} (keeper : ℕ) (kept kept' : Keeping) (more : LaterKept) → k ≢ keeper → KeeperWaits f keeper [] kept more p
+    → (did : ThreadActs f k acts came [] old new later p) → KeptStands kept kept' p.list did.reached.list → PairActs f k keeper acts came old new kept kept' later more p
+alone_acts {f} {k} {acts} {came} {old} {new} {later} {p} keeper kept kept' more apart waits did stands =
     let parts : part keeper did.reached.list ≡ part keeper p.list = ap (λ (l : Whole). part keeper l) did.moves.list_is ∙ part_of_others keeper k did.moves.steps p.list apart in
-    let owed = ap (λ (w : View). owed_of f kept w) parts in
+    let owed = owes_same f kept kept' p.list did.reached.list (part keeper did.reached.list) stands ∙ ap (λ (w : View). owed_of f kept w) parts in
     let paid = did.paid in
     record {
       reached = did.reached;
       reaches = did.reaches;
       stands = did.stands;
-      waits = waits_still f keeper kept more p did.reached parts (ap (λ (books : Books). books keeper) did.books) waits;
+      waits = waits_still f keeper kept kept' more p did.reached stands parts (ap (λ (books : Books). books keeper) did.books) waits;
       said = did.own;
       records_are = did.records_are ∙ ap (λ (rs : List Record). p.records ++ rs) (append-nil did.own);
       pushed = did.pushed ∙ ap (λ (rs : List Record). records_in old.out ++ rs) (sym (all_by k did.own did.each));
       room = did.room;
-      kept_pushed = nothing_kept keeper kept did.own (none_by keeper k did.own did.each apart);
+      kept_pushed = nothing_kept keeper kept kept' p.list did.reached.list did.own stands (none_by keeper k did.own did.each apart);
       still = nobody_still keeper kept p did.reached parts;
       each = of_one k keeper did.own did.each;
       names = did.names;
@@ -148,16 +165,16 @@ module _ {f : Profile} {keeper : ℕ} {r : Request} {block : Option Block} {h h'
   no_own : records_by k told ≡ []
   no_own = none_by k keeper told tries.each (λ e. apart (sym e))
 
-  of_guard : {came : List Named} {old new : Here} {later : Later} → PairActs f k keeper (Guards keeper op ∷ (Settles k ∷ [])) came old new (OneKeeper h) (OneKeeper h') later more p → PairActs f k keeper (head_acts op) came old new (OneKeeper h) (OneKeeper h') later more p
-  of_guard {came} {old} {new} {later} acts = subst (λ (o : Option ℕ). PairActs f k keeper (act_kept o op ∷ (Settles k ∷ [])) came old new (OneKeeper h) (OneKeeper h') later more p) (sym kept) acts
+  of_guard : {came : List Named} {old new : Here} {h'' : KeeperHas} {later : Later} → PairActs f k keeper (Guards keeper op ∷ (Settles k ∷ [])) came old new (OneKeeper h) (OneKeeper h'') later more p → PairActs f k keeper (head_acts op) came old new (OneKeeper h) (OneKeeper h'') later more p
+  of_guard {came} {old} {new} {h''} {later} acts = subst (λ (o : Option ℕ). PairActs f k keeper (act_kept o op ∷ (Settles k ∷ [])) came old new (OneKeeper h) (OneKeeper h'') later more p) (sym kept) acts
 
   -- The keeper gave a block. Of the thread only the runs that its cache noted are handed on.
-  pub given_acts : {σ : Standing} {c c' : Cached} {out : Records} {later : Later} (b : Block) → block ≡ Some b → cost_of_what op.what ≡ cost_of_size r.size + 2 → RestsAt f k σ c out (and_for (cost_of_what op.what) later) p → c' ≡ settled c
-      → PairActs f k keeper (head_acts op) (named_by op.what (Some b)) (here σ c out) (here σ c' out) (OneKeeper h) (OneKeeper h') later more p
-  given_acts {σ} {c} {c'} {out} {later} b given cost at done =
+  pub given_acts : {σ σ' : Standing} {c c' : Cached} {out : Records} {later : Later} (b : Block) → block ≡ Some b → cost_of_what op.what ≡ cost_of_size r.size + 2 → StandsStill σ σ' p.list after.list → RestsAt f k σ c out (and_for (cost_of_what op.what) later) p → c' ≡ settled c
+      → PairActs f k keeper (head_acts op) (named_by op.what (Some b)) (here σ c out) (here σ' c' out) (OneKeeper h) (OneKeeper h') later more p
+  given_acts {σ} {σ'} {c} {c'} {out} {later} b given cost stays at done =
       let midway = after_giving after r.name b in
       let q = after_settling midway k in
-      let rests : RestsAt f k σ c out later after = rests_for (rests_still thread_same refl at) (omega arith) (omega arith) in
+      let rests : RestsAt f k σ' c out later after = rests_for (rests_still stays thread_same refl at) (omega arith) (omega arith) in
       let room = rests.sits.room in
       let spare = rests.spare in
       let log = ap (λ (d : Cached). length d.log) done in
@@ -169,11 +186,11 @@ module _ {f : Profile} {keeper : ℕ} {r : Request} {block : Option Block} {h h'
         reached = q;
         reaches = (midway, guarded_by_keeper f keeper op r b p tries.tried asks tries.is (tries.block_is ∙ given), (q, refl, refl));
         stands = record {
-          sits = record { actor = rests.sits.actor; profile = rests.sits.profile; beside = rests.sits.beside; stood = rests.sits.stood; rest = settled_rest (part k q.list) done rests.sits.rest; room = omega (arith, room, log) };
+          sits = record { actor = rests.sits.actor; profile = rests.sits.profile; stood = rests.sits.stood; rest = settled_rest (part k q.list) done rests.sits.rest; room = omega (arith, room, log) };
           cache = its_cache midway.caches k (settled (midway.caches k)) ∙ ap settled at.cache ∙ sym done;
           spare = omega (arith, spare, log);
         };
-        waits = (tt, keeper_still refl refl tries.stands);
+        waits = (tt, record { sits = tries.stands.sits; book = tries.stands.book; spare = tries.stands.spare; places = tries.stands.places });
         said = told;
         records_are = refl;
         pushed = sym (ap (λ (rs : List Record). records_in out ++ rs) no_own ∙ append-nil (records_in out));
@@ -186,12 +203,12 @@ module _ {f : Profile} {keeper : ℕ} {r : Request} {block : Option Block} {h h'
       }
 
   -- It gave none. The thread makes the request from there on.
-  pub left_acts : {old new : Here} {later : Later} (came : Option Block) → block ≡ None → ThreadActs f k (Operates op ∷ (Settles k ∷ [])) (named_by op.what came) [] old new later after
-      → PairActs f k keeper (head_acts op) (named_by op.what came) old new (OneKeeper h) (OneKeeper h') later more p
-  left_acts {old} {new} {later} came none did =
+  pub left_acts : {σ σ' : Standing} {c : Cached} {out : Records} {new : Here} {h'' : KeeperHas} {later : Later} (came : Option Block) → block ≡ None → (did : ThreadActs f k (Operates op ∷ (Settles k ∷ [])) (named_by op.what came) [] (here σ' c out) new later after)
+      → HasStill h' h'' after.list did.reached.list → PairActs f k keeper (head_acts op) (named_by op.what came) (here σ c out) new (OneKeeper h) (OneKeeper h'') later more p
+  left_acts {σ} {σ'} {c} {out} {new} {h''} {later} came none did still =
       let parts : part keeper did.reached.list ≡ part keeper after.list = ap (λ (l : Whole). part keeper l) did.moves.list_is ∙ part_of_others keeper k did.moves.steps after.list apart in
-      let owed = ap (λ (w : View). owed_by_keeper f (guards_in h'.book) w) parts in
-      let mine = ap (λ (w : View). owed_events f old.cache w) thread_same in
+      let owed = ap (λ (b : GuardBook). owed_by_keeper f (guards_in b) (part keeper did.reached.list)) still.book ∙ ap (λ (w : View). owed_by_keeper f (guards_in h'.book) w) parts in
+      let mine = ap (λ (w : View). owed_events f c w) thread_same in
       let both = length-append told did.own in
       let pays = ap (λ (o : Option Block). cost_of_try r.size o) none in
       let paid = tries.paid in
@@ -200,16 +217,17 @@ module _ {f : Profile} {keeper : ℕ} {r : Request} {block : Option Block} {h h'
         reached = did.reached;
         reaches = (did.reaches.0, guarded_by_thread f keeper op r p did.reaches.0 tries.tried asks tries.is (tries.block_is ∙ none) did.reaches.1, did.reaches.2);
         stands = did.stands;
-        waits = (tt, keeper_still parts (ap (λ (books : Books). books keeper) did.books) tries.stands);
+        waits = (tt, keeper_still still parts (ap (λ (books : Books). books keeper) did.books) tries.stands);
         said = told ++ did.own;
         records_are = did.records_are ∙ ap (λ (rs : List Record). after.records ++ rs) (append-nil did.own) ∙ append_assoc p.records told did.own;
-        pushed = did.pushed ∙ ap (λ (rs : List Record). records_in old.out ++ rs) (sym (records_both k told did.own ∙ ap (λ (rs : List Record). rs ++ records_by k did.own) no_own ∙ all_by k did.own did.each));
+        pushed = did.pushed ∙ ap (λ (rs : List Record). records_in out ++ rs) (sym (records_both k told did.own ∙ ap (λ (rs : List Record). rs ++ records_by k did.own) no_own ∙ all_by k did.own did.each));
         room = did.room;
         kept_pushed = (
-          tries.pushed ∙ ap (λ (rs : List Record). records_in h.out ++ rs)
-              (sym (records_both keeper told did.own ∙ ap (λ (rs : List Record). records_by keeper told ++ rs) (none_by keeper k did.own did.each apart) ∙ append-nil (records_by keeper told) ∙ all_by keeper told tries.each)),
-          tries.room,
-          tries.size,
+          ap records_in still.out
+              ∙ (tries.pushed ∙ ap (λ (rs : List Record). records_in h.out ++ rs)
+              (sym (records_both keeper told did.own ∙ ap (λ (rs : List Record). records_by keeper told ++ rs) (none_by keeper k did.own did.each apart) ∙ append-nil (records_by keeper told) ∙ all_by keeper told tries.each))),
+          ap room_of still.out ∙ tries.room,
+          ap size_of_book still.book ∙ tries.size,
         );
         still = tt;
         each = two_both k keeper told did.own (of_other k keeper told tries.each) (of_one k keeper did.own did.each);
@@ -237,13 +255,13 @@ may_try_task f keeper limit asked more p (Task.Guarded k name heap size align) o
 may_try_task f keeper limit asked more p task op rest kept asks fit waits = tt
 
 -- after it, where the keeper gave a block
-pub pair_given : {f : Profile} {keeper : ℕ} {p : Progress} {σ : Standing} {c c' : Cached} {out : Records} {later : Later} (b : Block) (more : LaterKept) (task : Task) (op : Op) (rest : List Act) (kept kept' : Keeping) → op.what ≡ what_of task → (keeper_of task ≡ None → Some b ≡ None)
-    → op.actor ≢ keeper → KeeperWaits f keeper (act_kept (keeper_in op.what) op ∷ rest) kept more p → TriesTask f keeper task (Some b) kept kept' (for_guards rest more) p → RestsAt f op.actor σ c out (and_for (cost_of_what op.what) later) p → c' ≡ settled c
-    → PairActs f op.actor keeper (head_acts op) (named_by op.what (Some b)) (here σ c out) (here σ c' out) kept kept' later (for_guards rest more) p × MayStand f (Some b)
+pub pair_given : {f : Profile} {keeper : ℕ} {p : Progress} {σ σ' : Standing} {c c' : Cached} {out : Records} {later : Later} (b : Block) (more : LaterKept) (task : Task) (op : Op) (rest : List Act) (kept kept' : Keeping) → op.what ≡ what_of task → (keeper_of task ≡ None → Some b ≡ None)
+    → op.actor ≢ keeper → KeeperWaits f keeper (act_kept (keeper_in op.what) op ∷ rest) kept more p → TriesTask f keeper task (Some b) σ σ' kept kept' (for_guards rest more) p → RestsAt f op.actor σ c out (and_for (cost_of_what op.what) later) p → c' ≡ settled c
+    → PairActs f op.actor keeper (head_acts op) (named_by op.what (Some b)) (here σ c out) (here σ' c' out) kept kept' later (for_guards rest more) p × MayStand f (Some b)
 pair_given b more (Task.Guarded k name heap size align) op rest NoKeeper kept' asks guarded apart waits tries at done = absurd tries
 pair_given b more (Task.Guarded k name heap size align) op rest (OneKeeper h) NoKeeper asks guarded apart waits tries at done = absurd tries
 pair_given b more (Task.Guarded k name heap size align) op rest (OneKeeper h) (OneKeeper h') asks guarded apart waits tries at done =
-    (given_acts op apart (ap (λ (w : What). request_in w) asks) (its_keeper more op rest k (kept_by op (Task.Guarded k name heap size align) asks) waits) tries b refl (ap (λ (w : What). cost_of_what w) asks) at done, tries.given)
+    (given_acts op apart (ap (λ (w : What). request_in w) asks) (its_keeper more op rest k (kept_by op (Task.Guarded k name heap size align) asks) waits) tries.0 b refl (ap (λ (w : What). cost_of_what w) asks) tries.1 at done, tries.0.given)
 pair_given b more task op rest kept kept' asks guarded apart waits tries at done = absurd (let bad = guarded refl in cc)
 
 -- .. and where it gave none, or the task is no guarded request: the thread does it
@@ -251,9 +269,9 @@ waits_past : (f : Profile) (keeper : ℕ) (more : LaterKept) (p : Progress) (op 
 waits_past f keeper more p op rest NoKeeper waits = tt
 waits_past f keeper more p op rest (OneKeeper has) waits = (tt, waits.1)
 
-may_still : {f : Profile} {k : ℕ} {what : What} {meant : Option Block} {old : Here} {later : Later} {p : Progress} (q : Progress) → part k q.list ≡ part k p.list → q.caches k ≡ p.caches k → q.names ≡ p.names → MayOperate f k what meant old later p → MayOperate f k what meant old later q
-may_still {what = what} {meant = meant} q parts caches names may = record {
-  rests = rests_still parts caches may.rests;
+may_still : {f : Profile} {k : ℕ} {what : What} {meant : Option Block} {σ σ' : Standing} {c : Cached} {out : Records} {later : Later} {p : Progress} (q : Progress) → StandsStill σ σ' p.list q.list → part k q.list ≡ part k p.list → q.caches k ≡ p.caches k → q.names ≡ p.names → MayOperate f k what meant (here σ c out) later p → MayOperate f k what meant (here σ' c out) later q
+may_still {what = what} {meant = meant} q stays parts caches names may = record {
+  rests = rests_still stays parts caches may.rests;
   limit = may.limit;
   asked = may.asked;
   fit = may.fit;
@@ -262,19 +280,42 @@ may_still {what = what} {meant = meant} q parts caches names may = record {
   stands = may.stands;
 }
 
-pub pair_left : {f : Profile} {keeper : ℕ} {p : Progress} {old new : Here} {later : Later} {meant : Option Block} (came : Option Block) (more : LaterKept) (task : Task) (op : Op) (rest : List Act) (kept kept' : Keeping) → op.what ≡ what_of task → (keeper_of task ≡ None → kept' ≡ kept)
-    → op.actor ≢ keeper → KeeperWaits f keeper (act_kept (keeper_in op.what) op ∷ rest) kept more p → TriesTask f keeper task None kept kept' (for_guards rest more) p → MayOperate f op.actor op.what meant old later p
-    → ((q : Progress) → MayOperate f op.actor op.what meant old later q → ThreadActs f op.actor (Operates op ∷ (Settles op.actor ∷ [])) (named_by op.what came) [] old new later q)
-    → PairActs f op.actor keeper (head_acts op) (named_by op.what came) old new kept kept' later (for_guards rest more) p
-pair_left came more (Task.Guarded k name heap size align) op rest NoKeeper kept' asks same apart waits tries may does = absurd tries
-pair_left came more (Task.Guarded k name heap size align) op rest (OneKeeper h) NoKeeper asks same apart waits tries may does = absurd tries
-pair_left {keeper = keeper} {p = p} came more (Task.Guarded k name heap size align) op rest (OneKeeper h) (OneKeeper h') asks same apart waits tries may does =
-    let q = after_trying p keeper tries.tried in
-    left_acts op apart (ap (λ (w : What). request_in w) asks) (its_keeper more op rest k (kept_by op (Task.Guarded k name heap size align) asks) waits) tries came refl
-    (does q (may_still q (part_of_others op.actor keeper tries.tried.steps p.list (λ e. apart (sym e))) refl refl may))
-pair_left {f} {keeper} {p} {old} {new} {later} {meant} came more task op rest kept kept' asks same apart waits tries may does =
+-- the thread may do the task then, from where the keeper's try led
+pub may_next : {f : Profile} {k keeper : ℕ} {p : Progress} {σ σ' : Standing} {c : Cached} {out : Records} {what : What} {meant : Option Block} {later : Later} (more : LaterKept) (task : Task) (kept kept' : Keeping) → (keeper_of task ≡ None → (σ' ≡ σ) × (kept' ≡ kept)) → k ≢ keeper
+    → TriesTask f keeper task None σ σ' kept kept' more p → MayOperate f k what meant (here σ c out) later p → (q : Progress) × MayOperate f k what meant (here σ' c out) later q
+may_next more (Task.Guarded keeper name heap size align) NoKeeper kept' same apart tries may = absurd tries
+may_next more (Task.Guarded keeper name heap size align) (OneKeeper h) NoKeeper same apart tries may = absurd tries
+may_next {k = j} {keeper = by} {p = p} more (Task.Guarded keeper name heap size align) (OneKeeper h) (OneKeeper h') same apart tries may =
+    (after_trying p by tries.0.tried, may_still _ tries.1 (part_of_others j by tries.0.tried.steps p.list (λ e. apart (sym e))) refl refl may)
+may_next {f} {k = j} {p = p} {c = c} {out = out} {what = what} {meant = meant} {later = later} more task kept kept' same apart tries may = (p, subst (λ (d : Standing). MayOperate f j what meant (here d c out) later p) (sym (same refl).0) may)
+
+-- what stands after the thread's acts, beside its desk
+abbrev Law : Standing → Standing → Keeping → Keeping → Type 0
+Law desk desk' kept kept' = (l m : Whole) → StandsAt desk l → StandsAt desk' m → KeptStands kept kept' l m
+
+pub pair_left : {f : Profile} {keeper : ℕ} {p : Progress} {σ σ' : Standing} {c : Cached} {out : Records} {new : Here} {later : Later} {meant : Option Block} (came : Option Block) (more : LaterKept) (task : Task) (op : Op) (rest : List Act) (kept kept' kept'' : Keeping) → op.what ≡ what_of task
+    → (keeper_of task ≡ None → (σ' ≡ σ) × (kept' ≡ kept)) → op.actor ≢ keeper → KeeperWaits f keeper (act_kept (keeper_in op.what) op ∷ rest) kept more p → TriesTask f keeper task None σ σ' kept kept' (for_guards rest more) p → MayOperate f op.actor op.what meant (here σ c out) later p
+    → ((q : Progress) → MayOperate f op.actor op.what meant (here σ' c out) later q → ThreadActs f op.actor (Operates op ∷ (Settles op.actor ∷ [])) (named_by op.what came) [] (here σ' c out) new later q) → Law σ' new.desk kept' kept''
+    → PairActs f op.actor keeper (head_acts op) (named_by op.what came) (here σ c out) new kept kept'' later (for_guards rest more) p
+pair_left came more (Task.Guarded k name heap size align) op rest NoKeeper kept' kept'' asks same apart waits tries may does law = absurd tries
+pair_left came more (Task.Guarded k name heap size align) op rest (OneKeeper h) NoKeeper kept'' asks same apart waits tries may does law = absurd tries
+pair_left {keeper = keeper} {p = p} {σ' = σ'} {new = new} came more (Task.Guarded k name heap size align) op rest (OneKeeper h) (OneKeeper h') NoKeeper asks same apart waits tries may does law =
+    let q = after_trying p keeper tries.0.tried in
+    let now = may_still q tries.1 (part_of_others op.actor keeper tries.0.tried.steps p.list (λ e. apart (sym e))) refl refl may in
+    absurd (law q.list (does q now).reached.list (stands_at now.rests.sits) (stands_at (does q now).stands.sits))
+pair_left {keeper = keeper} {p = p} {σ' = σ'} {new = new} came more (Task.Guarded k name heap size align) op rest (OneKeeper h) (OneKeeper h') (OneKeeper h'') asks same apart waits tries may does law =
+    let q = after_trying p keeper tries.0.tried in
+    let now = may_still q tries.1 (part_of_others op.actor keeper tries.0.tried.steps p.list (λ e. apart (sym e))) refl refl may in
+    let did = does q now in
+    left_acts op apart (ap (λ (w : What). request_in w) asks) (its_keeper more op rest k (kept_by op (Task.Guarded k name heap size align) asks) waits) tries.0 came refl did
+    (law q.list did.reached.list (stands_at now.rests.sits) (stands_at did.stands.sits))
+pair_left {f} {keeper} {p} {σ} {σ'} {c} {out} {new} {later} {meant} came more task op rest kept kept' kept'' asks same apart waits tries may does law =
     let none = kept_by op task asks in
     let waits_so = waits_past f keeper more p op rest kept (subst (λ (o : Option ℕ). KeeperWaits f keeper (act_kept o op ∷ rest) kept more p) none waits) in
-    let did = alone_acts keeper kept (for_guards rest more) apart waits_so (does p may) in
-    subst (λ (o : Keeping). PairActs f op.actor keeper (head_acts op) (named_by op.what came) old new kept o later (for_guards rest more) p) (sym (same refl))
-    (subst (λ (o : Option ℕ). PairActs f op.actor keeper (act_kept o op ∷ (Settles op.actor ∷ [])) (named_by op.what came) old new kept kept later (for_guards rest more) p) (sym none) did)
+    let now = subst (λ (d : Standing). MayOperate f op.actor op.what meant (here d c out) later p) (sym (same refl).0) may in
+    let did = does p now in
+    let stands = law p.list did.reached.list (stands_at now.rests.sits) (stands_at did.stands.sits) in
+    let acts = alone_acts keeper kept' kept'' (for_guards rest more) apart (subst (λ (o : Keeping). KeeperWaits f keeper [] o (for_guards rest more) p) (sym (same refl).1) waits_so) did stands in
+    subst (λ (o : Keeping). PairActs f op.actor keeper (head_acts op) (named_by op.what came) (here σ c out) new o kept'' later (for_guards rest more) p) (same refl).1
+    (subst (λ (d : Standing). PairActs f op.actor keeper (head_acts op) (named_by op.what came) (here d c out) new kept' kept'' later (for_guards rest more) p) (same refl).0
+    (subst (λ (o : Option ℕ). PairActs f op.actor keeper (act_kept o op ∷ (Settles op.actor ∷ [])) (named_by op.what came) (here σ' c out) new kept' kept'' later (for_guards rest more) p) (sym none) acts))

@@ -33,7 +33,7 @@ use Rattle.pas_acts.specs.Works.{Later, Keeps, keeps, KnowsNames, ThreadAt}
 use Rattle.pas_acts.specs.Turns.{RestsAt}
 use Rattle.pas_acts.specs.AtDesks.{here, and_for, MayOperate}
 use Rattle.pas_acts.proofs.AtDesk.{sits_for}
-use Rattle.pas_acts.proofs.Pairing.{head_cost, nothing_kept, nobody_still, two_both}
+use Rattle.pas_acts.proofs.Pairing.{head_cost, kept_same, nothing_kept, nobody_still, two_both}
 use Rattle.pas_acts.proofs.Places.{names_both, names_count, asked_both, kept_asks, names_named, placed_both, tells_more, stand_more}
 
 -- ---- an operation's acts
@@ -224,7 +224,7 @@ works_none {f} {k} {keeper} {acts} {σ} {has} kept {later} {more} {p} at = recor
   records_are = sym (append-nil p.records);
   pushed = sym (append-nil (records_in has.out));
   room = refl;
-  kept_pushed = nothing_kept keeper kept [] refl;
+  kept_pushed = nothing_kept keeper kept kept p.list p.list [] (kept_same kept p.list) refl;
   still = nobody_still keeper kept p p refl;
   each = tt;
   book = refl;

@@ -80,7 +80,7 @@ told_if false k = []
 -- ---- the scavenger
 -- it has nothing, and there is room for so many events and records
 pub record HasRoomAt (f : Profile) (desk : Standing) (out : Records) (later : Later) (p : Progress) : Type 0 where
-  pub sits : Sits f 0 HasNothing desk (part 0 p.list) later.events
+  pub sits : Sits f 0 HasNothing desk p.list later.events
   pub spare : length (records_in out) + later.records ≤ room_of out
 
 -- room for the act, and for those of `later`

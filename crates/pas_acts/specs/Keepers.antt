@@ -3,7 +3,7 @@ use Rattle.std.specs.Prelude.{ℕ, ◌+◌, ◌≤◌, ◌≡◌, ◌≢◌, Lis
 use Rattle.pas_profile.specs.declared.name.Block.{Block}
 use Rattle.pas_profile.specs.declared.profile.Profile.{Profile}
 use Rattle.pas_steps.specs.Desks.{Standing}
-use Rattle.pas_steps.specs.Lists.{part}
+use Rattle.pas_steps.specs.Lists.{Whole, part}
 use Rattle.pas_steps.specs.Unknown.{unknown_pages}
 use Rattle.pas_trace.specs.Acts.{Lowers}
 use Rattle.pas_trace.specs.Reasons.{cost_of_size}
@@ -43,7 +43,7 @@ and_try size later = record { events = cost_of_size size + later.events; records
 -- The keeper sits at the desk and fits its book, which has the guards that the replay has of it at p. There is room for the events and records that it owes, and for those
 -- of `later` more.
 pub record KeeperAt (f : Profile) (keeper : ℕ) (has : KeeperHas) (later : LaterKept) (p : Progress) : Type 0 where
-  pub sits : Sits f keeper (FitsBook f (guards_in has.book)) has.desk (part keeper p.list) (unknown_pages f (part keeper p.list) + later.events)
+  pub sits : Sits f keeper (FitsBook f (guards_in has.book)) has.desk p.list (unknown_pages f (part keeper p.list) + later.events)
   pub book : p.books keeper ≡ guards_in has.book
   pub spare : length (records_in has.out) + (owed_by_keeper f (guards_in has.book) (part keeper p.list) + later.records) ≤ room_of has.out
   pub places : length (guards_in has.book) + later.guards ≤ size_of_book has.book
@@ -88,12 +88,35 @@ pub data Keeping : Type 1 where
   NoKeeper : Keeping
   OneKeeper : KeeperHas → Keeping
 
--- what it has before a request is tried, and what it did
+-- what it has before a request is tried
 abbrev pub MayTryAt : Profile → ℕ → ℕ → Keeping → LaterKept → Progress → Type 0
 MayTryAt f keeper size NoKeeper later p = ⊥
 MayTryAt f keeper size (OneKeeper has) later p = KeeperAt f keeper has (and_try size later) p
 
-abbrev pub TriesAt : Profile → ℕ → Request → Option Block → Keeping → Keeping → LaterKept → Progress → Type 0
-TriesAt f keeper r block NoKeeper new later p = ⊥
-TriesAt f keeper r block (OneKeeper old) NoKeeper later p = ⊥
-TriesAt f keeper r block (OneKeeper old) (OneKeeper new) later p = KeeperTries f keeper r block old new later p
+-- ---- an actor while another one acts, at a seat that both may share
+-- its desk stands for its part of the list, beside the list
+abbrev pub StandsAt : Standing → Whole → Type 0
+StandsAt desk l = desk.stands (part desk.seat.actor l) l
+
+-- it stands for its part of another list now, which is the same part
+pub record StandsStill (old new : Standing) (l m : Whole) : Type 0 where
+  pub seat_is : new.seat ≡ old.seat
+  pub stands : StandsAt old l → part old.seat.actor m ≡ part old.seat.actor l → StandsAt new m
+
+-- so does the desk of the keeper, which has the same in hand
+pub record HasStill (old new : KeeperHas) (l m : Whole) : Type 0 where
+  pub desk : StandsStill old.desk new.desk l m
+  pub book : new.book ≡ old.book
+  pub out : new.out ≡ old.out
+
+abbrev pub KeptStands : Keeping → Keeping → Whole → Whole → Type 0
+KeptStands NoKeeper NoKeeper l m = Unit {0}
+KeptStands NoKeeper (OneKeeper new) l m = ⊥
+KeptStands (OneKeeper old) NoKeeper l m = ⊥
+KeptStands (OneKeeper old) (OneKeeper new) l m = HasStill old new l m
+
+-- what a keeper did that tried a request, and that its thread, whose desk is this one, stands still
+abbrev pub TriesAt : Profile → ℕ → Request → Option Block → Standing → Standing → Keeping → Keeping → LaterKept → Progress → Type 0
+TriesAt f keeper r block desk desk' NoKeeper new later p = ⊥
+TriesAt f keeper r block desk desk' (OneKeeper old) NoKeeper later p = ⊥
+TriesAt f keeper r block desk desk' (OneKeeper old) (OneKeeper new) later p = (tries : KeeperTries f keeper r block old new later p) × StandsStill desk desk' p.list (after_trying p keeper tries.tried).list

@@ -37,9 +37,9 @@ abbrev pub MayTryTask : Profile → ℕ → Task → Keeping → LaterKept → P
 MayTryTask f k (Task.Guarded keeper name heap size align) kept later p = IsAdmitted f size align heap × (2048 < size) × MayTryAt f k size kept later p
 MayTryTask f k task kept later p = Unit {0}
 
-abbrev pub TriesTask : Profile → ℕ → Task → Option Block → Keeping → Keeping → LaterKept → Progress → Type 0
-TriesTask f k (Task.Guarded keeper name heap size align) block kept kept' later p = TriesAt f k (record { name = name; heap = heap; size = size; align = align }) block kept kept' later p
-TriesTask f k task block kept kept' later p = Unit {0}
+abbrev pub TriesTask : Profile → ℕ → Task → Option Block → Standing → Standing → Keeping → Keeping → LaterKept → Progress → Type 0
+TriesTask f k (Task.Guarded keeper name heap size align) block desk desk' kept kept' later p = TriesAt f k (record { name = name; heap = heap; size = size; align = align }) block desk desk' kept kept' later p
+TriesTask f k task block desk desk' kept kept' later p = Unit {0}
 
 -- ---- what acts ask of a keeper
 -- room for the guarded request that an act is, and for those of several

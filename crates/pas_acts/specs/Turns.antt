@@ -17,7 +17,7 @@ use Rattle.pas_acts.specs.Works.{Later, Sits}
 -- Thread k sits at the desk with this cache and these records, where the replay came as far as p. There is room for the events and the records that it owes,
 -- and for those of `later` more.
 pub record RestsAt (f : Profile) (k : ℕ) (desk : Standing) (c : Cached) (out : Records) (later : Later) (p : Progress) : Type 0 where
-  pub sits : Sits f k (AtRest f c) desk (part k p.list) (owed_events f c (part k p.list) + later.events)
+  pub sits : Sits f k (AtRest f c) desk p.list (owed_events f c (part k p.list) + later.events)
   pub cache : p.caches k ≡ c
   pub spare : length (records_in out) + (owed_events f c (part k p.list) + later.records) ≤ room_of out
 

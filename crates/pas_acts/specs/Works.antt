@@ -28,14 +28,13 @@ pub record Keeps : Type 0 where
 abbrev pub keeps : Cached → Table → Records → Keeps
 keeps c table out = record { cache = c; table = table; out = out }
 
--- Actor k sits at the desk with this view, which is so, and there is room for `need` events more.
-pub record Sits (f : Profile) (k : ℕ) (Rest : View → Type 0) (desk : Standing) (v : View) (need : ℕ) : Type 0 where
+-- Actor k sits at the desk, which stands for its part of this list beside the list; what it has in hand is so, and there is room for `need` events more.
+pub record Sits (f : Profile) (k : ℕ) (Rest : View → Type 0) (desk : Standing) (l : Whole) (need : ℕ) : Type 0 where
   pub actor : desk.seat.actor ≡ k
   pub profile : desk.seat.profile ≡ f
-  pub beside : Whole
-  pub stood : desk.stands v beside
-  pub rest : Rest v
-  pub room : length (events_of k v) + need ≤ desk.seat.room
+  pub stood : desk.stands (part k l) l
+  pub rest : Rest (part k l)
+  pub room : length (events_of k (part k l)) + need ≤ desk.seat.room
 
 -- The table says what the names stand for, and these acts fit to them. The names of the thread's requests, and then those that the acts ask for, have their
 -- places in order, and there is room for them.
@@ -51,7 +50,7 @@ pub record KnowsNames (f : Profile) (acts : List Act) (table : Table) (names : L
 -- The replay, as far as thread k has a hand in it, came as far as p, and these of its acts come next. There is room for the events and the records that
 -- they make in the end, and for those of `later` more.
 pub record ThreadAt (f : Profile) (k : ℕ) (acts : List Act) (desk : Standing) (has : Keeps) (later : Later) (p : Progress) : Type 0 where
-  pub sits : Sits f k (AtRest f has.cache) desk (part k p.list) (owed_events f has.cache (part k p.list) + own_costs_of k acts + later.events)
+  pub sits : Sits f k (AtRest f has.cache) desk p.list (owed_events f has.cache (part k p.list) + own_costs_of k acts + later.events)
   pub cache : p.caches k ≡ has.cache
   pub spare : length (records_in has.out) + (owed_events f has.cache (part k p.list) + own_costs_of k acts + later.records) ≤ room_of has.out
   pub names : KnowsNames f acts has.table p.names

@@ -41,14 +41,14 @@ pub fn lower_all<D: Desk>(desk: &mut D, book: &mut GuardBook, out: &mut Records)
     pas_answers::lower_all(desk, book, out);
 }
 
-/// Who tries the guarded requests of a thread: its keeper, at a desk of its own, which the thread doesn't hold. A thread of a plan that isn't guarded has none, and
-/// asks nobody.
-pub trait Tries {
-    ghost use Rattle.std.specs.Prelude.{◌≡◌, ◌<◌, ℕ};
+/// Who tries the guarded requests of a thread: its keeper, whom the thread lends its desk for it. A thread of a plan that isn't guarded has none, and asks nobody.
+pub trait Tries<D: Desk> {
+    ghost use Rattle.std.specs.Prelude.{◌≡◌, ◌≢◌, ◌<◌, ℕ};
     ghost use Rattle.pas_profile.specs.Profiles.{IsAdmitted};
     ghost use Rattle.pas_profile.specs.declared.profile.Profile.{Profile as TheProfile};
+    ghost use Rattle.pas_steps.specs.Lists.{Whole};
     ghost use Rattle.pas_answers.specs.Answers.{Progress};
-    ghost use Rattle.pas_acts.specs.Keepers.{Keeping, LaterKept, MayTryAt, TriesAt};
+    ghost use Rattle.pas_acts.specs.Keepers.{Keeping, LaterKept, MayTryAt, TriesAt, StandsAt, KeptStands};
 
     /// What tells one region from another of the same profile.
     type Home;
@@ -56,13 +56,24 @@ pub trait Tries {
     /// The region at which the keeper sits down. No request changes it.
     ghost home: { Self → Self.Home };
 
-    /// What the keeper has in hand, where there is one.
-    ghost has: { Self → Keeping };
+    /// What the keeper has in hand, where there is one, while its thread has this desk.
+    ghost has: { D → Self → Keeping };
 
     /// The keeper tries a guarded request of its thread. The block that it gave, if any.
-    fn try_guarded(&mut self, name: u32, heap: u8, size: u32, align: u32) -> Option<Block>
-        requires stands { (f : TheProfile) × (k : ℕ) × (later : LaterKept) × (p : Progress) × IsAdmitted f size align heap × (2048 < size) × MayTryAt f k size (has self.old) later p }
-        ensures tries { (f : TheProfile) (k : ℕ) (later : LaterKept) (p : Progress) → MayTryAt f k size (has self.old) later p
-            → TriesAt f k (record { name = name; heap = heap; size = size; align = align }) result (has self.old) (has self.new) later p }
-        ensures home { home self.new ≡ home self.old };
+    fn try_guarded(
+        &mut self,
+        desk: &mut D,
+        name: u32,
+        heap: u8,
+        size: u32,
+        align: u32,
+    ) -> Option<Block>
+        requires stands { (f : TheProfile) × (k : ℕ) × (later : LaterKept) × (p : Progress) × IsAdmitted f size align heap × (2048 < size) × MayTryAt f k size (has desk.old self.old) later p × StandsAt (D.standing desk.old) p.list × ((D.standing desk.old).seat.actor ≢ k) }
+        ensures tries { (f : TheProfile) (k : ℕ) (later : LaterKept) (p : Progress) → MayTryAt f k size (has desk.old self.old) later p → StandsAt (D.standing desk.old) p.list → (D.standing desk.old).seat.actor ≢ k
+            → TriesAt f k (record { name = name; heap = heap; size = size; align = align }) result (D.standing desk.old) (D.standing desk.new) (has desk.old self.old) (has desk.new self.new) later p }
+        ensures home { home self.new ≡ home self.old }
+        ensures desk { D.home desk.new ≡ D.home desk.old };
+
+    /// While the thread acts, what the keeper has stands still.
+    ghost still: { (keeper : Self) (old new : D) (l m : Whole) → D.home new ≡ D.home old → StandsAt (D.standing old) l → StandsAt (D.standing new) m → KeptStands (has old keeper) (has new keeper) l m };
 }

@@ -1,5 +1,5 @@
 //! The operations of one thread in a phase, at any desk.
-ghost use Rattle.std.specs.Prelude.{◌≡◌, ◌+◌, ◌<◌, ◌≤◌, ◌^◌, ◌++◌, ℕ, List, [], None, length, option_and_then};
+ghost use Rattle.std.specs.Prelude.{◌≡◌, ◌≢◌, ◌+◌, ◌<◌, ◌≤◌, ◌^◌, ◌++◌, ℕ, List, [], None, length, option_and_then};
 ghost use Rattle.pas_profile.specs.declared.profile.Profile.{Profile as TheProfile};
 ghost use Rattle.pas_cache.specs.Caches.{cached};
 ghost use Rattle.pas_trace.specs.Asked.{request_of, freed_of, keeper_of};
@@ -8,7 +8,7 @@ ghost use Rattle.pas_answers.specs.Answers.{Progress};
 ghost use Rattle.pas_answers.specs.Calls.{what_of, named_with};
 ghost use Rattle.pas_acts.specs.NameBooks.{requests_in, room_for, names_of, name_asked, ArePlaced, known_in, table};
 ghost use Rattle.pas_acts.specs.Works.{keeps, Later};
-ghost use Rattle.pas_acts.specs.Keepers.{LaterKept};
+ghost use Rattle.pas_acts.specs.Keepers.{LaterKept, StandsAt};
 ghost use Rattle.pas_acts.specs.Pairs.{head_acts, MayTryTask, TriesTask, PairAt, PairWorks};
 
 use crate::at_desk;
@@ -53,13 +53,14 @@ fn keep(requests: &mut Requests, task: Task, came: Option<Block>)
 
 /// The block that the keeper gave, where the task is a guarded request and it gave one.
 #[inline(always)]
-fn tried<K: Tries>(keeper: &mut K, task: Task) -> Option<Block>
-    requires stands { (f : TheProfile) × (k : ℕ) × (later : LaterKept) × (p : Progress) × MayTryTask f k task (K.has keeper.old) later p }
-    ensures tries { (f : TheProfile) (k : ℕ) (later : LaterKept) (p : Progress) → MayTryTask f k task (K.has keeper.old) later p
-        → TriesTask f k task result (K.has keeper.old) (K.has keeper.new) later p }
+fn tried<D: Desk, K: Tries<D>>(desk: &mut D, keeper: &mut K, task: Task) -> Option<Block>
+    requires stands { (f : TheProfile) × (k : ℕ) × (later : LaterKept) × (p : Progress) × MayTryTask f k task (K.has desk.old keeper.old) later p × StandsAt (D.standing desk.old) p.list × ((D.standing desk.old).seat.actor ≢ k) }
+    ensures tries { (f : TheProfile) (k : ℕ) (later : LaterKept) (p : Progress) → MayTryTask f k task (K.has desk.old keeper.old) later p → StandsAt (D.standing desk.old) p.list → (D.standing desk.old).seat.actor ≢ k
+        → TriesTask f k task result (D.standing desk.old) (D.standing desk.new) (K.has desk.old keeper.old) (K.has desk.new keeper.new) later p }
     ensures none { keeper_of task ≡ None → result ≡ None }
-    ensures same { keeper_of task ≡ None → keeper.new ≡ keeper.old }
-    ensures home { K.home keeper.new ≡ K.home keeper.old }
+    ensures same { keeper_of task ≡ None → (desk.new ≡ desk.old) × (keeper.new ≡ keeper.old) }
+    ensures home { D.home desk.new ≡ D.home desk.old }
+    ensures keeps_home { K.home keeper.new ≡ K.home keeper.old }
 {
     match task {
         Task::Guarded {
@@ -68,7 +69,7 @@ fn tried<K: Tries>(keeper: &mut K, task: Task) -> Option<Block>
             size,
             align,
             ..
-        } => keeper.try_guarded(name, heap, size, align),
+        } => keeper.try_guarded(desk, name, heap, size, align),
         _ => None,
     }
 }
@@ -76,7 +77,7 @@ fn tried<K: Tries>(keeper: &mut K, task: Task) -> Option<Block>
 /// Performs an operation of the desk's thread, of which none is a chore. A guarded request is tried by the thread's keeper first, and where that gave no block the thread
 /// makes it as any other. Its name is looked up and kept in book and requests.
 #[inline(always)]
-fn operate<D: Desk, O: Door, M: Remake, K: Tries>(
+fn operate<D: Desk, O: Door, M: Remake, K: Tries<D>>(
     desk: &mut D,
     door: &mut O,
     book: &NameBook,
@@ -88,15 +89,15 @@ fn operate<D: Desk, O: Door, M: Remake, K: Tries>(
     out: &mut Records,
 )
     requires stands { (f : TheProfile) × (k : ℕ) × (next : List Act) × (later : Later) × (more : LaterKept) × (p : Progress)
-        × PairAt f op.actor k (head_acts op ++ next) (D.standing desk.old) (keeps (cached cache.old) (table book.now requests.old) out.old) (K.has keeper.old) later more p }
+        × PairAt f op.actor k (head_acts op ++ next) (D.standing desk.old) (keeps (cached cache.old) (table book.now requests.old) out.old) (K.has desk.old keeper.old) later more p }
     ensures works { (f : TheProfile) (k : ℕ) (next : List Act) (later : Later) (more : LaterKept) (p : Progress)
-        → PairAt f op.actor k (head_acts op ++ next) (D.standing desk.old) (keeps (cached cache.old) (table book.now requests.old) out.old) (K.has keeper.old) later more p
-        → PairWorks f op.actor k (head_acts op) next (D.standing desk.old) (D.standing desk.new) (keeps (cached cache.old) (table book.now requests.old) out.old) (keeps (cached cache.new) (table book.now requests.new) out.new) (K.has keeper.old) (K.has keeper.new) later more p }
+        → PairAt f op.actor k (head_acts op ++ next) (D.standing desk.old) (keeps (cached cache.old) (table book.now requests.old) out.old) (K.has desk.old keeper.old) later more p
+        → PairWorks f op.actor k (head_acts op) next (D.standing desk.old) (D.standing desk.new) (keeps (cached cache.old) (table book.now requests.old) out.old) (keeps (cached cache.new) (table book.now requests.new) out.new) (K.has desk.old keeper.old) (K.has desk.new keeper.new) later more p }
     ensures home { D.home desk.new ≡ D.home desk.old }
     ensures keeps_home { K.home keeper.new ≡ K.home keeper.old }
 {
     if let Work::Own(task) = op.work() {
-        let came = match tried(keeper, task) {
+        let came = match tried(desk, keeper, task) {
             Some(block) => {
                 cache.settle(door);
                 Some(block)
@@ -112,7 +113,7 @@ fn operate<D: Desk, O: Door, M: Remake, K: Tries>(
 
 /// The same, out of line.
 #[inline(never)]
-fn operate_rare<D: Desk, O: Door, M: Remake, K: Tries>(
+fn operate_rare<D: Desk, O: Door, M: Remake, K: Tries<D>>(
     desk: &mut D,
     door: &mut O,
     book: &NameBook,
@@ -124,10 +125,10 @@ fn operate_rare<D: Desk, O: Door, M: Remake, K: Tries>(
     out: &mut Records,
 )
     requires stands { (f : TheProfile) × (k : ℕ) × (next : List Act) × (later : Later) × (more : LaterKept) × (p : Progress)
-        × PairAt f op.actor k (head_acts op ++ next) (D.standing desk.old) (keeps (cached cache.old) (table book.now requests.old) out.old) (K.has keeper.old) later more p }
+        × PairAt f op.actor k (head_acts op ++ next) (D.standing desk.old) (keeps (cached cache.old) (table book.now requests.old) out.old) (K.has desk.old keeper.old) later more p }
     ensures works { (f : TheProfile) (k : ℕ) (next : List Act) (later : Later) (more : LaterKept) (p : Progress)
-        → PairAt f op.actor k (head_acts op ++ next) (D.standing desk.old) (keeps (cached cache.old) (table book.now requests.old) out.old) (K.has keeper.old) later more p
-        → PairWorks f op.actor k (head_acts op) next (D.standing desk.old) (D.standing desk.new) (keeps (cached cache.old) (table book.now requests.old) out.old) (keeps (cached cache.new) (table book.now requests.new) out.new) (K.has keeper.old) (K.has keeper.new) later more p }
+        → PairAt f op.actor k (head_acts op ++ next) (D.standing desk.old) (keeps (cached cache.old) (table book.now requests.old) out.old) (K.has desk.old keeper.old) later more p
+        → PairWorks f op.actor k (head_acts op) next (D.standing desk.old) (D.standing desk.new) (keeps (cached cache.old) (table book.now requests.old) out.old) (keeps (cached cache.new) (table book.now requests.new) out.new) (K.has desk.old keeper.old) (K.has desk.new keeper.new) later more p }
     ensures home { D.home desk.new ≡ D.home desk.old }
     ensures keeps_home { K.home keeper.new ≡ K.home keeper.old }
 {
@@ -137,7 +138,7 @@ fn operate_rare<D: Desk, O: Door, M: Remake, K: Tries>(
 /// Performs an operation of the desk's thread, of which none is a chore. Requests and frees by name, which are the most by far, have code of their own, which no
 /// longer asks what the operation is.
 #[inline(always)]
-fn operate_by_kind<D: Desk, O: Door, M: Remake, K: Tries>(
+fn operate_by_kind<D: Desk, O: Door, M: Remake, K: Tries<D>>(
     desk: &mut D,
     door: &mut O,
     book: &NameBook,
@@ -149,10 +150,10 @@ fn operate_by_kind<D: Desk, O: Door, M: Remake, K: Tries>(
     out: &mut Records,
 )
     requires stands { (f : TheProfile) × (k : ℕ) × (next : List Act) × (later : Later) × (more : LaterKept) × (p : Progress)
-        × PairAt f op.now.actor k (head_acts op.now ++ next) (D.standing desk.old) (keeps (cached cache.old) (table book.now requests.old) out.old) (K.has keeper.old) later more p }
+        × PairAt f op.now.actor k (head_acts op.now ++ next) (D.standing desk.old) (keeps (cached cache.old) (table book.now requests.old) out.old) (K.has desk.old keeper.old) later more p }
     ensures works { (f : TheProfile) (k : ℕ) (next : List Act) (later : Later) (more : LaterKept) (p : Progress)
-        → PairAt f op.now.actor k (head_acts op.now ++ next) (D.standing desk.old) (keeps (cached cache.old) (table book.now requests.old) out.old) (K.has keeper.old) later more p
-        → PairWorks f op.now.actor k (head_acts op.now) next (D.standing desk.old) (D.standing desk.new) (keeps (cached cache.old) (table book.now requests.old) out.old) (keeps (cached cache.new) (table book.now requests.new) out.new) (K.has keeper.old) (K.has keeper.new) later more p }
+        → PairAt f op.now.actor k (head_acts op.now ++ next) (D.standing desk.old) (keeps (cached cache.old) (table book.now requests.old) out.old) (K.has desk.old keeper.old) later more p
+        → PairWorks f op.now.actor k (head_acts op.now) next (D.standing desk.old) (D.standing desk.new) (keeps (cached cache.old) (table book.now requests.old) out.old) (keeps (cached cache.new) (table book.now requests.new) out.new) (K.has desk.old keeper.old) (K.has desk.new keeper.new) later more p }
     ensures home { D.home desk.new ≡ D.home desk.old }
     ensures keeps_home { K.home keeper.new ≡ K.home keeper.old }
 {
@@ -165,7 +166,7 @@ fn operate_by_kind<D: Desk, O: Door, M: Remake, K: Tries>(
 
 /// Performs the operations of the desk's thread among those of a phase, in order, with the gate called round each. Its keeper, if it has one, tries the guarded requests
 /// among them.
-pub fn work<D: Desk, O: Door, G: Gate, M: Remake, K: Tries>(
+pub fn work<D: Desk, O: Door, G: Gate, M: Remake, K: Tries<D>>(
     desk: &mut D,
     door: &mut O,
     book: &NameBook,
@@ -179,10 +180,10 @@ pub fn work<D: Desk, O: Door, G: Gate, M: Remake, K: Tries>(
 )
     requires few { length ops.now < 2 ^ 32 }
     requires stands { (f : TheProfile) × (k : ℕ) × (later : Later) × (more : LaterKept) × (p : Progress)
-        × PairAt f (D.standing desk.old).seat.actor k (own_acts (D.standing desk.old).seat.actor ops.now) (D.standing desk.old) (keeps (cached cache.old) (table book.now requests.old) out.old) (K.has keeper.old) later more p }
+        × PairAt f (D.standing desk.old).seat.actor k (own_acts (D.standing desk.old).seat.actor ops.now) (D.standing desk.old) (keeps (cached cache.old) (table book.now requests.old) out.old) (K.has desk.old keeper.old) later more p }
     ensures works { (f : TheProfile) (k : ℕ) (later : Later) (more : LaterKept) (p : Progress)
-        → PairAt f (D.standing desk.old).seat.actor k (own_acts (D.standing desk.old).seat.actor ops.now) (D.standing desk.old) (keeps (cached cache.old) (table book.now requests.old) out.old) (K.has keeper.old) later more p
-        → PairWorks f (D.standing desk.old).seat.actor k (own_acts (D.standing desk.old).seat.actor ops.now) [] (D.standing desk.old) (D.standing desk.new) (keeps (cached cache.old) (table book.now requests.old) out.old) (keeps (cached cache.new) (table book.now requests.new) out.new) (K.has keeper.old) (K.has keeper.new) later more p }
+        → PairAt f (D.standing desk.old).seat.actor k (own_acts (D.standing desk.old).seat.actor ops.now) (D.standing desk.old) (keeps (cached cache.old) (table book.now requests.old) out.old) (K.has desk.old keeper.old) later more p
+        → PairWorks f (D.standing desk.old).seat.actor k (own_acts (D.standing desk.old).seat.actor ops.now) [] (D.standing desk.old) (D.standing desk.new) (keeps (cached cache.old) (table book.now requests.old) out.old) (keeps (cached cache.new) (table book.now requests.new) out.new) (K.has desk.old keeper.old) (K.has desk.new keeper.new) later more p }
     ensures home { D.home desk.new ≡ D.home desk.old }
     ensures keeps_home { K.home keeper.new ≡ K.home keeper.old }
 {

@@ -81,7 +81,7 @@ keeper_now {r} {acts} {desk0} {desk} {passes0} {passes} {caches} {books} {places
     let room = place_is r.threads books acts i there some most at.books_have is in
     let tries = ap (λ (m : ℕ). tries_of m acts) place in
     record {
-      sits = subst (λ (gs : List Guard). Sits f k (FitsBook f gs) (standing_of desk) v (unknown_pages f v + (events + kept_costs_of k more))) book (sits_for sits (omega (arith, own)));
+      sits = subst (λ (gs : List Guard). Sits f k (FitsBook f gs) (standing_of desk) p.list (unknown_pages f v + (events + kept_costs_of k more))) book (sits_for sits (omega (arith, own)));
       book = book;
       spare = omega (arith, least, mine, spare, all);
       places = omega (arith, room, tries, tried);
@@ -100,7 +100,7 @@ keeper_closes {r} {more} {p = p} k i there place some most seat is at =
 -- what it came to: where it sits, its book, and its room
 pub record KeeperTurned (r : Replay) (k : ℕ) (acts more : List Act) (there book : GuardBook) (desk desk' : PlainDesk) (p q : Progress) : Type 0 where
   pub moves : Moves k (FitsBook r.profile (guards_in there)) (FitsBook r.profile (guards_in book)) (standing_of desk) (standing_of desk') p q
-  pub sits : Sits r.profile k (FitsBook r.profile (guards_in book)) (standing_of desk') (part k q.list) (unknown_pages r.profile (part k q.list) + kept_costs_of k more)
+  pub sits : Sits r.profile k (FitsBook r.profile (guards_in book)) (standing_of desk') q.list (unknown_pages r.profile (part k q.list) + kept_costs_of k more)
   pub book_is : q.books k ≡ guards_in book
   pub place : length (guards_in book) + tries_of k more ≤ size_of_book book
   pub caches : q.caches ≡ p.caches
@@ -151,7 +151,7 @@ module _ {r : Replay} {acts more : List Act} {desk0 desk desk' : PlainDesk} {pas
   sits_so =
       let kind : false ≡ nat_le k r.threads = sym (lt-leb k r.threads past) in
       subst (λ (b : Bool). SitsAs b r k desk' more q) kind
-      (subst (λ (gs : List Guard). Sits r.profile k (FitsBook r.profile gs) (standing_of desk') (part k q.list) (unknown_pages r.profile (part k q.list) + kept_costs_of k more)) (sym x.book_is) x.sits)
+      (subst (λ (gs : List Guard). Sits r.profile k (FitsBook r.profile gs) (standing_of desk') q.list (unknown_pages r.profile (part k q.list) + kept_costs_of k more)) (sym x.book_is) x.sits)
 
 -- the keeper had its turn, after which `more` acts are left
 keeper_turn : {r : Replay} {acts more : List Act} {desk0 desk desk' : PlainDesk} {passes0 passes : Slots} {caches : List ThreadCache} {books : List GuardBook} {places : ℕ} {indexes indexes' : Indexes} {table table' : Names} {out out' : Records} {p q : Progress} (k i : ℕ) (there book : GuardBook) → k ≡ r.threads + i → 1 ≤ i → i ≤ length books

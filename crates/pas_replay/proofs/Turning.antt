@@ -96,11 +96,10 @@ module _ {r : Replay} {acts : List Act} {desk0 desk : PlainDesk} {passes0 passes
     part_is = ap (λ (m : ℕ). part m p.list) seat.actor_is;
   }
 
-  pub sits_now : Sits r.profile k (rests r.threads r.profile p k) (standing_of desk) (part k p.list) (owes r.threads r.profile p k (part k p.list) + own_events r.threads r.profile k acts)
+  pub sits_now : Sits r.profile k (rests r.threads r.profile p k) (standing_of desk) p.list (owes r.threads r.profile p k (part k p.list) + own_events r.threads r.profile k acts)
   sits_now = record {
     actor = seat.actor_is;
     profile = at.profile_is;
-    beside = p.list;
     stood = stood_now;
     rest = (at.each k le).rest;
     room = subst (λ (x : PlainPass). length (events_of k (part k p.list)) + (owes r.threads r.profile p k (part k p.list) + own_events r.threads r.profile k acts) ≤ room_of_pass x) its_pass (at.each k le).room;
@@ -158,7 +157,7 @@ AsksNoIndex f act = (indexes : Indexes) (p : Progress) → ((q : Progress) (is :
 pub record Turned (r : Replay) (k : ℕ) (acts more : List Act) (indexes indexes' : Indexes) (desk desk' : PlainDesk) (p q : Progress) : Type 0 where
   pub reaches : (s : Progress) → GoesBy r.threads r.profile indexes' more q s → GoesBy r.threads r.profile indexes acts p s
   pub moves : Moves k (rests r.threads r.profile p k) (rests r.threads r.profile q k) (standing_of desk) (standing_of desk') p q
-  pub sits : Sits r.profile k (rests r.threads r.profile q k) (standing_of desk') (part k q.list) (owes r.threads r.profile q k (part k q.list) + own_events r.threads r.profile k more)
+  pub sits : Sits r.profile k (rests r.threads r.profile q k) (standing_of desk') q.list (owes r.threads r.profile q k (part k q.list) + own_events r.threads r.profile k more)
   pub kept : OthersKept k p q
   pub free : (j : ℕ) → j ≢ k → own_events r.threads r.profile j more ≤ own_events r.threads r.profile j acts
 
@@ -235,7 +234,7 @@ kept_by_moves {k} {p = p} moves caches books = record {
 -- ---- an actor behind the scavenger, which is a thread or a keeper
 abbrev pub SitsAs : Bool → Replay → ℕ → PlainDesk → List Act → Progress → Type 0
 SitsAs kind r k desk acts p =
-    Sits r.profile k (rests_as kind r.profile (p.caches k) (p.books k)) (standing_of desk) (part k p.list) (owes_as kind r.profile (p.caches k) (part k p.list) + (if kind then own_costs_of k acts else kept_costs_of k acts))
+    Sits r.profile k (rests_as kind r.profile (p.caches k) (p.books k)) (standing_of desk) p.list (owes_as kind r.profile (p.caches k) (part k p.list) + (if kind then own_costs_of k acts else kept_costs_of k acts))
 
 abbrev pub MovesAs : Bool → Replay → ℕ → PlainDesk → PlainDesk → Progress → Progress → Type 0
 MovesAs kind r k desk desk' p q = Moves k (rests_as kind r.profile (p.caches k) (p.books k)) (rests_as kind r.profile (q.caches k) (q.books k)) (standing_of desk) (standing_of desk') p q
@@ -261,7 +260,7 @@ thread_now {r} {acts} {desk0} {desk} {passes0} {passes} {p = p} {c} (suc i) cost
     let spare = at.spare in
     let sits = subst (λ (kind : Bool). SitsAs kind r k desk acts p) (le-leb k r.threads within) (sits_now k (omega (arith, within)) seat at) in
     record {
-      sits = subst (λ (d : Cached). Sits f k (AtRest f d) (standing_of desk) (part k p.list) (owed_events f d (part k p.list) + (cost + own_costs_of k more))) cache (sits_for sits (omega (arith, own)));
+      sits = subst (λ (d : Cached). Sits f k (AtRest f d) (standing_of desk) p.list (owed_events f d (part k p.list) + (cost + own_costs_of k more))) cache (sits_for sits (omega (arith, own)));
       cache = cache;
       spare = omega (arith, least, mine, owed, spare, costs);
     }
@@ -285,7 +284,7 @@ thread_turn {r} {first} {more} {desk0} {desk} {desk'} {passes0} {passes} {caches
     let moves0 : Moves k (AtRest f (p.caches k)) (AtRest f (q.caches k)) (standing_of desk) (standing_of desk') p q =
     subst (λ (d : Cached). Moves k (AtRest f d) (AtRest f (q.caches k)) (standing_of desk) (standing_of desk') p q) (sym was) (subst (λ (d : Cached). Moves k (AtRest f c) (AtRest f d) (standing_of desk) (standing_of desk') p q) (sym now) did.moves) in
     let moves = subst (λ (b : Bool). MovesAs b r k desk desk' p q) kind moves0 in
-    let sits0 = subst (λ (d : Cached). Sits f k (AtRest f d) (standing_of desk') (part k q.list) (owed_events f d (part k q.list) + own_costs_of k more)) (sym now) did.stands.sits in
+    let sits0 = subst (λ (d : Cached). Sits f k (AtRest f d) (standing_of desk') q.list (owed_events f d (part k q.list) + own_costs_of k more)) (sym now) did.stands.sits in
     let sits = subst (λ (b : Bool). SitsAs b r k desk' more q) kind sits0 in
     let kept : OthersKept k p q = kept_by_moves moves0 did.caches (λ j ne. ap (λ (bs : ℕ → List Guard). bs j) did.books) in
     let change = owed_moves r.threads f p q k kept (r.threads + r.keepers) some all in

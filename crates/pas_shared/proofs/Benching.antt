@@ -1,5 +1,5 @@
 -- The rule of the shared words when a bench is laid out, looks and gives actors away; and for which lists a desk at a bench stands.
-use Rattle.std.proofs.Common.{suc, arith, List, [], ◌∷◌, ◌++◌, sym, subst, ◌≡◌, ◌≢◌, ◌⊎◌, inl, inr, ⊎_elim, ℕ, length, set, Bool, true, false, true≢false, eqb, eqb-true, refl, ap, ◌∙◌, if◌then◌else◌}
+use Rattle.std.proofs.Common.{suc, arith, List, [], ◌∷◌, ◌++◌, sym, subst, ◌≡◌, ◌≢◌, ◌⊎◌, inl, inr, ⊎_elim, ℕ, length, set, Bool, true, false, true≢false, eqb, eqb-true, eq-eqb, ne_eqb, refl, ap, ◌∙◌, if◌then◌else◌}
 use Rattle.std.proofs.lemmas.List.{set-get_or, append-nil, length-append}
 use mathlib.Core.Option.{some}
 use lib.ListN.{get_elem?}
@@ -13,13 +13,13 @@ use Rattle.pas_core.specs.WordLists.{AreWordsAfter}
 use Rattle.pas_steps.specs.Desks.{triple}
 use Rattle.pas_steps.specs.declared.step.Made.{Made}
 use Rattle.pas_steps.proofs.Parts.{part_of_own}
-use Rattle.pas_core.proofs.Choosing.{steps_by_nobody, no_steps_by_fewer, step_taken, as_many_steps, steps_by_both}
+use Rattle.pas_core.proofs.Choosing.{steps_by_nobody, no_steps_by_fewer, step_taken, part_of_chosen, as_many_steps, steps_by_both}
 use Rattle.pas_shared.specs.declared.bench.Member.{Member}
 use Rattle.pas_shared.specs.declared.rule.Entry.{Entry}
 use Rattle.pas_shared.specs.declared.rule.Row.{Row}
 use Rattle.pas_shared.specs.declared.rule.Roster.{Roster}
 use Rattle.pas_shared.specs.declared.rule.Roster.TheVariants.{Benched}
-use Rattle.pas_shared.specs.Ruled.{Names, AreNamed, Holds, steps_of, among, made_in, HasRow, rows_in, row_with, with_made, only, isnt, row_of_only, left_of, picked_of, all_actors, IsEmptyBench, IsRowOf, AreRowsOf, SettlesAll}
+use Rattle.pas_shared.specs.Ruled.{Names, AreNamed, Holds, steps_of, among, made_in, HasRow, rows_in, row_with, with_made, only, only_this, leaver_of, alone, isnt, row_of_only, left_of, picked_of, all_actors, IsEmptyBench, IsRowOf, AreRowsOf, SettlesAll}
 use Rattle.pas_shared.specs.Benches.{empty_row, SitsInRow, StandsOver}
 use Rattle.pas_shared.proofs.Ruling.{Apart, SawOf, RowsOf, nothing_seen, entries_for, entries_same, know_set, know_end, know_split, at_end}
 
@@ -172,6 +172,65 @@ gives f id test r none s h there = record {
         (λ (t : (i ≡ k) × (goes ≡ y)). went i b x t.0 (subst (λ (z : Roster). Names z b x) (sym t.1) named))
         (at_end (set s.views id stays) goes y i e)
 
+-- ---- one gets a seat for itself
+pub leaves : (f : Profile) (id k : ℕ) (r : Row) → r.made ≡ [] → among r.actors k ≡ true → Splits (Holds f) id (Benched (r ∷ [])) (Benched (row_of_only (isnt (only_this k)) r ∷ [])) (alone k (made_in r k))
+leaves f id a r none sits s h there = record {
+  whole = h.whole;
+  legal = h.legal;
+  words_are = h.words_are;
+  own = h.own;
+  one_order = h.one_order;
+  seat_number = seat_number;
+  named = all_named;
+  apart = know_split Apart s.views id stays goes h.apart tt ((λ x none. none), tt);
+  seen = know_split (SawOf h.whole) s.views id stays goes h.seen (nothing_seen h.whole) (nothing_seen h.whole);
+  rows = know_split (RowsOf h.whole) s.views id stays goes h.rows (row_of_fewer (isnt (only_this a)) r h.whole none (h.rows id (Benched (r ∷ [])) there).0, tt) tt;
+}
+  where
+    stays : Roster
+    stays = Benched (row_of_only (isnt (only_this a)) r ∷ [])
+
+    goes : Roster
+    goes = alone a (made_in r a)
+
+    k : ℕ
+    k = length (set s.views id stays)
+
+    seat_number : ℕ → ℕ
+    seat_number b = (if eqb b a then k else h.seat_number b)
+
+    moved : (b : ℕ) → a ≡ b → seat_number b ≡ k
+    moved b e = ap (λ c. if c then k else h.seat_number b) (eq-eqb b a (sym e))
+
+    still : (b i : ℕ) → b ≢ a → h.seat_number b ≡ i → seat_number b ≡ i
+    still b i ne its = ap (λ c. if c then k else h.seat_number b) (ne_eqb b a ne) ∙ its
+
+    own : (b : ℕ) → among r.actors b ≡ true → (h.seat_number b ≡ id) × (h.own b ≡ made_in r b)
+    own b its = h.named id (Benched (r ∷ [])) b (made_in r b) there (inl (its, refl))
+
+    stayed : (i b : ℕ) (x : View) → i ≡ id → HasRow (row_of_only (isnt (only_this a)) r ∷ []) b x → (seat_number b ≡ i) × (h.own b ≡ x)
+    stayed i b x z (inl p) =
+        let its = among_only (isnt (only_this a)) r.actors b p.0 in
+        let old = own b its.0 in
+        (still b i (λ e. true≢false (sym (eq-eqb b a e) ∙ isnt_true (only_this a) b its.1)) (old.0 ∙ sym z), old.1 ∙ p.1)
+    stayed i b x z (inr p) = absurd p
+
+    went : (i b : ℕ) (x : View) → i ≡ k → Names goes b x → (seat_number b ≡ i) × (h.own b ≡ x)
+    went i b x z (inl p) = (moved b p.0 ∙ sym z, subst (λ (c : ℕ). h.own c ≡ x) p.0 ((own a sits).1 ∙ p.1))
+    went i b x z (inr p) = absurd p
+
+    kept : (i : ℕ) (y : Roster) (b : ℕ) (x : View) → Names y b x → ((i ≡ id) × (stays ≡ y)) ⊎ ((i ≢ id) × (get_elem? s.views i ≡ some y)) → (seat_number b ≡ i) × (h.own b ≡ x)
+    kept i y b x named (inl t) = stayed i b x t.0 (subst (λ (z : Roster). Names z b x) (sym t.1) named)
+    kept i y b x named (inr t) =
+        let old = h.named i y b x t.1 named in
+        (still b i (λ e. t.0 (sym old.0 ∙ (ap h.seat_number e ∙ (own a sits).0))) old.0, old.1)
+
+    all_named : AreNamed h.own seat_number (set s.views id stays ++ goes ∷ [])
+    all_named i y b x e named = ⊎_elim
+        (λ was. kept i y b x named (at_set s.views id i stays y was))
+        (λ (t : (i ≡ k) × (goes ≡ y)). went i b x t.0 (subst (λ (z : Roster). Names z b x) (sym t.1) named))
+        (at_end (set s.views id stays) goes y i e)
+
 -- ---- a look
 among_both : (ms ns : List ℕ) (k : ℕ) → among (ms ++ ns) k ≡ true → (among ms k ≡ true) ⊎ (among ns k ≡ true)
 among_both [] ns k h = inr h
@@ -289,3 +348,22 @@ cut (t ∷ a) b (s ∷ c) d e many = λ i. (first (e i) t ∷ cut a b c d (λ j.
 pub row_since : (r : Row) (since l : Whole) → StandsOver r (since ++ l) → ((k : ℕ) → among r.actors k ≡ true → part k l ≡ part k (steps_of r.base)) → steps_by (among r.actors) since ≡ steps_of r.made
 row_since r since l h same =
     cut _ _ _ _ (sym (steps_by_both (among r.actors) since l) ∙ h.order) (as_many_steps (among r.actors) l h.before (λ k its. same k its ∙ sym (h.parts k its)))
+
+pub leaves_as : (f : Profile) (id k : ℕ) (me : Me (Unit {0}) Roster) (r : Row) → me ≡ (Benched (rows_in me.0), []) → rows_in me.0 ≡ r ∷ [] → r.made ≡ [] → among r.actors k ≡ true → Splits (Holds f) id me.0 (left_of (only_this k) me.0) (leaver_of k me.0)
+leaves_as f id k me r benched is none sits =
+    subst (λ (m : Me (Unit {0}) Roster). Splits (Holds f) id m.0 (left_of (only_this k) m.0) (leaver_of k m.0)) (sym (benched ∙ ap (λ (rs : List Row). (Benched rs, [])) is)) (leaves f id k r none sits)
+
+-- ---- each actor's part of a list for which a desk of the row stands
+part_both : (k : ℕ) (l m : Whole) → part k (l ++ m) ≡ part k l ++ part k m
+part_both k [] m = refl
+part_both k (t ∷ l) m = at (part_both k l m) (eqb t.actor k) refl
+  where
+    at : part k (l ++ m) ≡ part k l ++ part k m → (b : Bool) → eqb t.actor k ≡ b → part k (t ∷ (l ++ m)) ≡ part k (t ∷ l) ++ part k m
+    at again true e = ap (λ (b : Bool). if b then t.made ∷ part k (l ++ m) else part k (l ++ m)) e ∙ (ap (λ (v : View). t.made ∷ v) again ∙ sym (ap (λ (b : Bool). (if b then t.made ∷ part k l else part k l) ++ part k m) e))
+    at again false e = ap (λ (b : Bool). if b then t.made ∷ part k (l ++ m) else part k (l ++ m)) e ∙ (again ∙ sym (ap (λ (b : Bool). (if b then t.made ∷ part k l else part k l) ++ part k m) e))
+
+pub row_tells : (r : Row) (l : Whole) (k : ℕ) → StandsOver r l → among r.actors k ≡ true → part k l ≡ made_in r k
+row_tells r l k h its =
+    let A = among r.actors in
+    sym (part_of_chosen A k l its) ∙ (ap (part k) h.order ∙ (part_both k (steps_of r.made) (steps_by A h.before)
+    ∙ (ap (λ (v : View). part k (steps_of r.made) ++ v) (part_of_chosen A k h.before its ∙ h.parts k its) ∙ sym (part_both k (steps_of r.made) (steps_of r.base)))))

@@ -191,6 +191,17 @@ left_of test u = Benched (rows_of_only (isnt test) (rows_in u))
 abbrev pub picked_of : (ℕ → Bool) → Roster → Roster
 picked_of test u = Benched (rows_of_only test (rows_in u))
 
+-- one actor alone, and a seat for it, with what it made
+abbrev pub only_this : ℕ → ℕ → Bool
+only_this k n = n == k
+
+abbrev pub made_at : List Row → ℕ → View
+made_at [] k = []
+made_at (r ∷ rs) k = made_in r k
+
+abbrev pub leaver_of : ℕ → Roster → Roster
+leaver_of k u = alone k (made_at (rows_in u) k)
+
 -- the actors of all rows
 abbrev pub all_actors : List Row → List ℕ
 all_actors [] = []

@@ -7,11 +7,13 @@ ghost use Rattle.pas_profile.specs.Profiles.{IsValid};
 ghost use Rattle.pas_shared.specs.Ruled.{rows_in};
 ghost use Rattle.pas_shared.specs.declared.rule.Roster.TheVariants.{Benched};
 
+use crate::leaving::leave;
 use crate::pass::{ActorSeat, SharedPass};
 use crate::region::SharedRegion;
-use crate::rule::{JoinsBoth, Picks, Settles, SplitsPicked, Stands, TableSeat};
+use crate::rule::{JoinsBoth, Leaves, Picks, Settles, SplitsPicked, Stands, TableSeat};
 use pas_profile::{Event, Profile};
 use pas_region::Notes;
+use std::marker::Brand;
 
 /// A seat of several actors. It has no bytes.
 #[derive(Drop)]
@@ -60,11 +62,11 @@ impl Member {
 }
 
 impl Bench {
-    ghost use Rattle.std.specs.Prelude.{◌∷◌, ◌++◌};
-    ghost use Rattle.pas_shared.specs.Ruled.{isnt, rows_of, rows_of_only};
-    ghost use Rattle.pas_shared.specs.Passes.{IsPassOf};
+    ghost use Rattle.std.specs.Prelude.{◌∷◌, ◌++◌, true};
+    ghost use Rattle.pas_shared.specs.Ruled.{alone, among, only_this, isnt, made_in, rows_of, rows_of_only};
+    ghost use Rattle.pas_shared.specs.Passes.{IsPassOf, seat_of, view_of};
     ghost use Rattle.pas_shared.specs.Ledgers.{part_of};
-    ghost use Rattle.pas_shared.specs.Benches.{rows_on, empty_row, IsBenchOf, IsMemberOf, HasLooked, IsFreshRow};
+    ghost use Rattle.pas_shared.specs.Benches.{rows_on, empty_row, IsBenchOf, IsMemberOf, HasLooked, IsFreshRow, first_row, SitsInRow, seat_of_member};
 
     /// A bench of the region on which nobody sits. One load.
     pub fn open(region: &SharedRegion) -> Bench
@@ -139,5 +141,43 @@ impl Bench {
                 .shared
                 .split_seat::<SplitsPicked<C>>(&mut self.seat),
         }
+    }
+
+    /// Lets the member leave a bench on which nobody made a step since the look: it has a pass again. One load.
+    pub fn leave(&mut self, region: &SharedRegion, member: Member) -> SharedPass
+        requires of { IsBenchOf region.now self.old }
+        requires fresh { IsFreshRow (rows_on self.old) }
+        requires profile { member.profile ≡ region.now.profile }
+        requires sits { SitsInRow (first_row (rows_on self.old)) member }
+        ensures of { IsBenchOf region.now self.new }
+        ensures left { rows_on self.new ≡ rows_of_only (isnt (only_this member.actor)) (rows_on self.old) }
+        ensures pass { IsPassOf region.now result }
+        ensures seat { seat_of result ≡ seat_of_member member }
+        ensures view { view_of result ≡ made_in (first_row (rows_on self.old)) member.actor }
+    {
+        let Member {
+            actor,
+            profile,
+            notes,
+        } = member;
+        let seat = self.part(region, actor);
+        SharedPass {
+            place: ActorSeat { seat, actor },
+            profile,
+            notes,
+        }
+    }
+
+    /// A seat for this actor alone.
+    fn part(&mut self, region: &SharedRegion, _actor: u8) -> TableSeat
+        requires of { IsBenchOf region.now self.old }
+        requires fresh { IsFreshRow (rows_on self.old) }
+        requires sits { among (first_row (rows_on self.old)).actors _actor ≡ true }
+        ensures of { IsBenchOf region.now self.new }
+        ensures left { rows_on self.new ≡ rows_of_only (isnt (only_this _actor)) (rows_on self.old) }
+        ensures table { result.table_id ≡ region.now.table.shared.table_id }
+        ensures alone { result.me ≡ (alone _actor (made_in (first_row (rows_on self.old)) _actor), []) }
+    {
+        leave::<Brand>(region, &mut self.seat, _actor)
     }
 }

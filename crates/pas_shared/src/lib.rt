@@ -10,6 +10,7 @@ pub mod closing;
 pub mod desk;
 mod exchange;
 pub mod laws;
+mod leaving;
 pub mod ledger;
 pub mod opening;
 pub mod pass;

@@ -217,6 +217,30 @@ impl<C: Picks> Split<Roster> for SplitsPicked<C> {
     ghost right = { picked_of C.picked };
 }
 
+/// Which actor of a bench gets a seat for itself. Each call chooses it.
+pub(crate) trait Leaves {
+    ghost use Rattle.std.specs.Prelude.{ℕ};
+
+    ghost leaver: { ℕ };
+}
+
+impl Leaves for Brand {
+    ghost leaver = { 0 };
+}
+
+/// The actor leaves the bench.
+pub(crate) struct SplitsLeaver<C> {
+    marker: PhantomData<C>,
+}
+
+impl<C: Leaves> Split<Roster> for SplitsLeaver<C> {
+    ghost use Rattle.pas_shared.specs.Ruled.{left_of, isnt, only_this, leaver_of};
+
+    ghost left = { left_of (only_this C.leaver) };
+
+    ghost right = { leaver_of C.leaver };
+}
+
 /// A look of a bench at all steps so far.
 pub(crate) struct Settles;
 

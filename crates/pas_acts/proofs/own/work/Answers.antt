@@ -9,7 +9,7 @@ abbrev past : Op
 past = record { line = 0; actor = 0; what = Alloc 0 0 0 0 }
 
 pub loop-op-init : goal.loop-op-init
-loop-op-init g c = record { far = λ f keeper later more p at. begins c.args.ops.now (g.K.Tries.has c.args.keeper.now) at; number = omega arith; home = refl; keeps_home = refl }
+loop-op-init g c = record { far = λ f keeper later more p at. begins c.args.ops.now (g.K.Tries.has c.args.desk.now c.args.keeper.now) at; number = omega arith; home = refl; keeps_home = refl }
 
 pub overflow_add-number : goal.overflow_add-number
 overflow_add-number g c =
